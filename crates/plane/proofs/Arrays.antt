@@ -1,0 +1,182 @@
+-- Laws of arrays, sums and products over the dimensions (`specs/Arrays.antt`), and of a loop that fills an array. Assumes nothing.
+use Prim.Native.Nat.{ℕ, zero, suc, _+_, _-_, _*_, _≤_, _<_}
+use native.Mathlib.Nat.{suc-mul, not-suc-le-zero, le-of-suc-le-suc, eq-or-lt-of-le}
+use native.Mathlib.Numerals.{add-one}
+use native.Mathlib.Decide.{ℕ-discrete, decLe, decLt}
+use native.Mathlib.Omega.{arith}
+use mathlib.Core.Path.{_≡_, refl, sym, ap, ap₂, subst, _∙_}
+use mathlib.Core.Logic.{⊎-elim}
+use mathlib.Core.Bool.{Bool, true, false, cond, _||_}
+use mathlib.Core.List.{List, [], _∷_}
+use borrow.Author.Tests.{lt-ltb, le-ltb}
+use lib.Dec.{ltb}
+use lib.ListN.{getD, set, length, length-set, List·getD-eq-default}
+use lib.Seq.{ext-getD, getD-set-same, getD-set-other}
+use Rattle.plane.specs.Arrays.{at, below, table, firsts, zeros, sum, product, some, howMany}
+use Rattle.plane.proofs.Bools.{either-clear, either-first, either-second, neither}
+
+-- ---- four entries
+
+pub table-at : {A : Type 0} (f : ℕ → A) (z : A) (d : ℕ) → d < 4 → getD (table f) d z ≡ f d
+table-at f z zero h = refl
+table-at f z (suc zero) h = refl
+table-at f z (suc (suc zero)) h = refl
+table-at f z (suc (suc (suc zero))) h = refl
+table-at f z (suc (suc (suc (suc d)))) h = absurd (not-suc-le-zero (le-of-suc-le-suc (le-of-suc-le-suc (le-of-suc-le-suc (le-of-suc-le-suc h)))))
+
+pub zeros-at : (d : ℕ) → at zeros d ≡ 0
+zeros-at zero = refl
+zeros-at (suc zero) = refl
+zeros-at (suc (suc zero)) = refl
+zeros-at (suc (suc (suc zero))) = refl
+zeros-at (suc (suc (suc (suc d)))) = refl
+
+-- a list of four is the table of its entries
+pub is-table : (l : List ℕ) (f : ℕ → ℕ) → length l ≡ 4 → ((d : ℕ) → d < 4 → at l d ≡ f d) → l ≡ table f
+is-table l f e h = ext-getD 0 l (table f) e (λ d q. let r : d < 4 = omega arith in h d r ∙ sym (table-at f 0 d r))
+
+pub below-lt : (n d v : ℕ) → d < n → below n d v ≡ v
+below-lt n d v h = simp (lt-ltb d n h)
+
+pub below-past : (n d v : ℕ) → n ≤ d → below n d v ≡ 0
+below-past n d v h = simp (le-ltb d n h)
+
+pub firsts-at : (n : ℕ) (f : ℕ → ℕ) (d : ℕ) → n ≤ 4 → d < n → at (firsts n f) d ≡ f d
+unfolding firsts
+firsts-at n f d m h = table-at (λ d. below n d (f d)) 0 d (omega arith) ∙ below-lt n d (f d) h
+
+pub below-same : (n d : ℕ) {v w : ℕ} → (d < n → v ≡ w) → below n d v ≡ below n d w
+below-same n d {v} {w} h = elim (decLt d n) [
+  | yes q ↦ ap (below n d) (h q)
+  | no q ↦ below-past n d v (omega arith) ∙ sym (below-past n d w (omega arith))
+]
+
+-- the same entries below n: the same array
+pub firsts-same : (n : ℕ) (f g : ℕ → ℕ) → ((k : ℕ) → k < n → f k ≡ g k) → firsts n f ≡ firsts n g
+unfolding firsts
+firsts-same n f g h = λ i. one 0 i ∷ one 1 i ∷ one 2 i ∷ one 3 i ∷ []
+  where
+    one : (d : ℕ) → below n d (f d) ≡ below n d (g d)
+    one d = below-same n d (h d)
+
+-- ---- a loop that fills an array up to n: where it stands at d, the entries below d are there and the rest is 0
+
+pub record Filled (n : ℕ) (f : ℕ → ℕ) (out : List ℕ) (d : ℕ) : Type 0 where
+  pub within : d ≤ n
+  pub long : length out ≡ 4
+  pub entries : (j : ℕ) → at out j ≡ below d j (f j)
+
+module _ {n : ℕ} {f : ℕ → ℕ} where
+  pub filled-start : Filled n f zeros 0
+  filled-start =
+      record { within = omega arith; long = refl; entries = λ j. zeros-at j ∙ sym (below-past 0 j (f j) (omega arith)) }
+
+  module _ {out : List ℕ} {d : ℕ} where
+    pub filled-more : {v : ℕ} → n ≤ 4 → Filled n f out d → d < n → v ≡ f d → Filled n f (set out d v) (d + 1)
+    filled-more {v} m w h e = let l = w .long in record {
+      within = omega arith;
+      long = length-set out d v ∙ l;
+      entries = λ j. elim (ℕ-discrete j d) [
+        | yes q ↦ subst (λ (k : ℕ). at (set out d v) k ≡ below (d + 1) k (f k)) (sym q)
+            (getD-set-same out d v 0 (omega arith) ∙ e ∙ sym (below-lt (d + 1) d (f d) (omega arith)))
+        | no q ↦ getD-set-other out d j v 0 q ∙ w .entries j ∙ elim (decLt j d) [
+          | yes r ↦ below-lt d j (f j) r ∙ sym (below-lt (d + 1) j (f j) (omega arith))
+          | no r ↦ below-past d j (f j) (omega arith) ∙ sym (below-past (d + 1) j (f j) (omega arith))
+        ]
+      ];
+    }
+
+    pub filled-end : Filled n f out d → n ≤ d → out ≡ firsts n f
+    unfolding firsts
+    filled-end w h =
+        let l = w .within in
+        let q : d ≡ n = omega arith in
+        is-table out (λ k. below n k (f k)) (w .long) (λ j r. w .entries j ∙ ap (λ (m : ℕ). below m j (f j)) q)
+
+pub filled-same : {n : ℕ} {f g : ℕ → ℕ} {out : List ℕ} {d : ℕ} → ((k : ℕ) → k < d → f k ≡ g k) → Filled n f out d → Filled n g out d
+filled-same {d = d} h w =
+    record { within = w .within; long = w .long; entries = λ j. w .entries j ∙ below-same d j (h j) }
+
+-- ---- sums, products, counts
+
+pub sum-same : (n : ℕ) (f g : ℕ → ℕ) → ((k : ℕ) → k < n → f k ≡ g k) → sum n f ≡ sum n g
+unfolding sum
+sum-same zero f g h = refl
+sum-same (suc n) f g h = ap₂ (λ (x y : ℕ). x + y) (sum-same n f g (λ k q. h k (omega arith))) (h n (omega arith))
+
+-- a loop that adds terms up to n, each at most m
+pub record Summed (n : ℕ) (f : ℕ → ℕ) (m total d : ℕ) : Type 0 where
+  pub within : d ≤ n
+  pub is : total ≡ sum d f
+  pub most : total ≤ d * m
+
+module _ {n : ℕ} {f : ℕ → ℕ} {m : ℕ} where
+  pub summed-start : Summed n f m 0 0
+  unfolding sum
+  summed-start = record { within = omega arith; is = refl; most = omega arith }
+
+  module _ {total d : ℕ} (s : Summed n f m total d) where
+    pub summed-more : {v : ℕ} → d < n → v ≡ f d → v ≤ m → Summed n f m (total + v) (d + 1)
+    unfolding sum
+    summed-more {v} h e l = record {
+      within = omega arith;
+      is = ap₂ (λ (x y : ℕ). x + y) (s .is) e ∙ sym (ap (λ (k : ℕ). sum k f) (add-one d));
+      most = let x = s .most in let y : (d + 1) * m ≡ d * m + m = simp (add-one, suc-mul) in omega arith;
+    }
+
+    pub summed-end : n ≤ d → (total ≡ sum n f) × (total ≤ n * m)
+    summed-end h =
+        let l = s .within in
+        let q : d ≡ n = omega arith in
+        (s .is ∙ ap (λ (k : ℕ). sum k f) q, subst (λ (k : ℕ). total ≤ k * m) q (s .most))
+
+pub product-same : (n : ℕ) (f g : ℕ → ℕ) → ((k : ℕ) → k < n → f k ≡ g k) → product n f ≡ product n g
+unfolding product
+product-same zero f g h = refl
+product-same (suc n) f g h = ap₂ (λ (x y : ℕ). x * y) (product-same n f g (λ k q. h k (omega arith))) (h n (omega arith))
+
+pub howMany-same : (n : ℕ) (p q : ℕ → Bool) → ((k : ℕ) → k < n → p k ≡ q k) → howMany n p ≡ howMany n q
+unfolding howMany
+howMany-same zero p q h = refl
+howMany-same (suc n) p q h =
+    ap₂ (λ (x : ℕ) (b : Bool). x + cond b 1 0) (howMany-same n p q (λ k r. h k (omega arith))) (h n (omega arith))
+
+pub some-same : (n : ℕ) (f g : ℕ → Bool) → ((k : ℕ) → k < n → f k ≡ g k) → some n f ≡ some n g
+unfolding some
+some-same zero f g h = refl
+some-same (suc n) f g h = ap₂ (λ (x y : Bool). x || y) (some-same n f g (λ k q. h k (omega arith))) (h n (omega arith))
+
+pub some-clear : (n : ℕ) (p : ℕ → Bool) → some n p ≡ false → (k : ℕ) → k < n → p k ≡ false
+unfolding some
+some-clear zero p e k h = absurd (not-suc-le-zero h)
+some-clear (suc n) p e k h =
+    ⊎-elim
+    (λ q. subst (λ (m : ℕ). p m ≡ false) (sym q) (either-clear (some n p) (p n) e .1))
+    (λ q. some-clear n p (either-clear (some n p) (p n) e .0) k q)
+    (eq-or-lt-of-le (le-of-suc-le-suc h))
+
+pub some-none : (n : ℕ) (p : ℕ → Bool) → ((k : ℕ) → k < n → p k ≡ false) → some n p ≡ false
+unfolding some
+some-none zero p h = refl
+some-none (suc n) p h = neither _ _ (some-none n p (λ k q. h k (omega arith))) (h n (omega arith))
+
+-- a loop that looks for one
+pub some-start : (p : ℕ → Bool) → some 0 p ≡ false
+unfolding some
+some-start p = refl
+
+pub some-more : (n : ℕ) (p : ℕ → Bool) → some n p ≡ false → p n ≡ false → some (n + 1) p ≡ false
+unfolding some
+some-more n p e b = ap (λ (k : ℕ). some k p) (add-one n) ∙ simp (e, b)
+
+pub some-found : (n k : ℕ) (p : ℕ → Bool) → k < n → p k ≡ true → some n p ≡ true
+unfolding some
+some-found zero k p h b = absurd (not-suc-le-zero h)
+some-found (suc n) k p h b =
+    ⊎-elim
+    (λ q. either-second (some n p) (p n) (subst (λ (m : ℕ). p m ≡ true) q b))
+    (λ q. either-first (some n p) (p n) (some-found n k p q b))
+    (eq-or-lt-of-le (le-of-suc-le-suc h))
+
+pub some-end : (n j : ℕ) (p : ℕ → Bool) → some j p ≡ false → j ≤ n → n ≤ j → false ≡ some n p
+some-end n j p e h l = let q : j ≡ n = omega arith in sym (subst (λ (k : ℕ). some k p ≡ false) q e)

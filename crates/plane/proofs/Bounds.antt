@@ -1,0 +1,99 @@
+-- All sums and products of what is accepted fit 64 bits: inner products, spans, needs, and the elements of a destination.
+-- Assumes nothing.
+use Prim.Native.Nat.{ℕ, zero, suc, _+_, _-_, _*_, _^_, _≤_, _<_}
+use native.Mathlib.Nat.{mul-le-mul, suc-mul, pow-suc, not-suc-le-zero, le-of-suc-le-suc}
+use native.Mathlib.Omega.{arith}
+use mathlib.Core.Path.{_≡_, refl, sym, ap, subst, _∙_}
+use mathlib.Core.Bool.{Bool, true, false, _||_, true≢false}
+use mathlib.Core.Logic.{⊎-elim}
+use borrow.Author.Tests.{eqb-true}
+use lib.Dec.{eqb}
+use Rattle.plane.specs.declared.Tensor.{Tensor}
+use Rattle.plane.specs.declared.Config.{Config}
+use Rattle.plane.specs.Arrays.{at, sum, product, or0}
+use Rattle.plane.specs.Planes.{elementSize, shapeAt, strideAt, inner, resolved, srcStrides, span}
+use Rattle.plane.specs.Moves.{dstExtents, dstStrides, need}
+use Rattle.plane.proofs.Bools.{either-cases}
+use Rattle.plane.proofs.Arrays.{firsts-at}
+use Rattle.plane.proofs.Resolving.{inner-out}
+use Rattle.plane.proofs.Good.{GoodStrides, GoodSource, GoodConfig, GoodPlace}
+use Rattle.plane.proofs.Rules.{dst-extent}
+
+pub sum-most : (n : ℕ) (f : ℕ → ℕ) (m : ℕ) → ((d : ℕ) → d < n → f d ≤ m) → sum n f ≤ n * m
+unfolding sum
+sum-most zero f m h = omega arith
+sum-most (suc n) f m h =
+    let w = sum-most n f m (λ d q. h d (omega arith)) in
+    let v = h n (omega arith) in
+    rw (suc-mul n m) (omega arith)
+
+product-most : (n : ℕ) (f : ℕ → ℕ) → ((d : ℕ) → d < n → f d ≤ 65535) → product n f ≤ 65535 ^ n
+unfolding product
+product-most zero f h = omega arith
+product-most (suc n) f h = rw (pow-suc 65535 n) (mul-le-mul (product-most n f (λ d q. h d (omega arith))) (h n (omega arith)))
+
+-- four factors of at most 65,535
+pub product-fits : (n : ℕ) (f : ℕ → ℕ) → n ≤ 4 → ((d : ℕ) → d < n → f d ≤ 65535) → product n f < 2 ^ 64
+product-fits n f l h = let w = product-most n f h in let v = powers n l in omega arith
+  where
+    powers : (n : ℕ) → n ≤ 4 → 65535 ^ n < 2 ^ 64
+    powers zero l = omega arith
+    powers (suc zero) l = omega arith
+    powers (suc (suc zero)) l = omega arith
+    powers (suc (suc (suc zero))) l = omega arith
+    powers (suc (suc (suc (suc zero)))) l = omega arith
+    powers (suc (suc (suc (suc (suc n))))) l = absurd (not-suc-le-zero (le-of-suc-le-suc (le-of-suc-le-suc (le-of-suc-le-suc (le-of-suc-le-suc l)))))
+
+-- an element size that is taken is 1 to 4
+pub element-small : (z : ℕ) → (elementSize z ≡ 0 → ⊥) → (1 ≤ z) × (z ≤ 4)
+element-small z h = by-test (eqb z 1 || eqb z 2 || eqb z 4) refl
+  where
+    by-test : (b : Bool) → (eqb z 1 || eqb z 2 || eqb z 4) ≡ b → (1 ≤ z) × (z ≤ 4)
+    by-test false e = absurd (h (simp e))
+    by-test true e =
+        ⊎-elim
+        (λ r. ⊎-elim (λ q. let p = eqb-true z 1 q in omega arith) (λ q. let p = eqb-true z 2 q in omega arith) (either-cases _ _ r))
+        (λ q. let p = eqb-true z 4 q in omega arith)
+        (either-cases _ _ e)
+
+-- 1 and n terms, each at most m, times an element size
+box-fits : (n : ℕ) (f : ℕ → ℕ) (z : ℕ) → n ≤ 4 → z ≤ 4 → ((d : ℕ) → d < n → f d ≤ 131070 * 2147483647) → (1 + sum n f) * z < 2 ^ 64
+box-fits n f z l s h =
+    let w = sum-most n f (131070 * 2147483647) h in
+    let u : 1 + sum n f ≤ 1 + 4 * (131070 * 2147483647) = omega arith in
+    let v = mul-le-mul u s in
+    omega arith
+
+-- the inner products of good strides
+pub inner-fits : (n : ℕ) (shape stride : ℕ → ℕ) → GoodStrides n shape stride → ((d : ℕ) → d < n → shape d ≤ 65535) → (k : ℕ) → k ≤ n → inner n shape stride k < 2 ^ 64
+unfolding inner resolved
+inner-fits n shape stride g h zero l = omega arith
+inner-fits n shape stride g h (suc k) l =
+    let q : n - suc k < n = omega arith in
+    let e : n - suc (n - suc k) ≡ k = omega arith in
+    let r = subst (λ (j : ℕ). or0 (stride (n - suc k)) (inner n shape stride j) ≤ 2147483647) e (g .most (n - suc k) q) in
+    omega (arith, mul-le-mul r (h (n - suc k) q))
+
+pub span-fits : (t : Tensor) → GoodSource t → span t < 2 ^ 64
+unfolding span
+span-fits t g =
+    box-fits (t .rank) _ (t .size) (g .rank .1) (element-small (t .size) (g .element) .1)
+    (λ d h.
+    let e = firsts-at (t .rank) (resolved (t .rank) (shapeAt t) (strideAt t)) d (g .rank .1) h in
+    let s : shapeAt t d - 1 ≤ 131070 = omega (arith, g .shape d h .1) in
+    let m : at (srcStrides t) d ≤ 2147483647 = rw e (g .strides .most d h) in
+    mul-le-mul s m)
+
+pub need-fits : (t : Tensor) (c : Config) → GoodSource t → GoodConfig t c → GoodPlace t c → need t c < 2 ^ 64
+unfolding need
+need-fits t c g k p =
+    box-fits (t .rank) _ (t .size) (g .rank .1) (element-small (t .size) (g .element) .1)
+    (λ i h.
+    let e = firsts-at (t .rank) (resolved (t .rank) (at (dstExtents t c)) (at (c .«dst_stride»))) i (g .rank .1) h in
+    let s : at (c .«dst_offset») i + at (dstExtents t c) i - 1 ≤ 131070 = omega (arith, p .offset i h .1, dst-extent k i (g .rank .1) h .1) in
+    let m : at (dstStrides t c) i ≤ 2147483647 = rw e (p .strides .most i h) in
+    mul-le-mul s m)
+
+-- how many elements a destination has
+pub extents-fit : (t : Tensor) (c : Config) → GoodSource t → GoodConfig t c → product (t .rank) (at (dstExtents t c)) < 2 ^ 64
+extents-fit t c g k = product-fits (t .rank) (at (dstExtents t c)) (g .rank .1) (λ i h. dst-extent k i (g .rank .1) h .1)

@@ -1,0 +1,92 @@
+-- Each public call asks nothing of its caller, and no two differing outcomes satisfy its contract. `Pre` and `Post` are the
+-- contract of the call as the checker reads it off the source. Assumes nothing.
+use mathlib.Core.Path.{_≡_, sym, _∙_}
+use Rattle.plane.proofs.verdict.room.Reads as room
+use Rattle.plane.proofs.verdict.judge.Reads as judge
+use Rattle.plane.proofs.helpers.element_size.Reads as element-size
+use Rattle.plane.proofs.helpers.element_count.Reads as element-count
+use Rattle.plane.proofs.sub.sub_tensor.Reads as sub-tensor
+use Rattle.plane.proofs.Config.with_offset.Reads as with-offset
+use Rattle.plane.proofs.Config.with_size.Reads as with-size
+use Rattle.plane.proofs.Config.with_step.Reads as with-step
+use Rattle.plane.proofs.Config.with_dst_offset.Reads as with-dst-offset
+use Rattle.plane.proofs.Config.with_dst_stride.Reads as with-dst-stride
+use Rattle.plane.proofs.Config.with_perm.Reads as with-perm
+use Rattle.plane.proofs.Config.with_pre.Reads as with-pre
+use Rattle.plane.proofs.Config.with_post.Reads as with-post
+use Rattle.plane.proofs.ready_made.copy.Reads as copy
+use Rattle.plane.proofs.ready_made.slice.Reads as slice
+use Rattle.plane.proofs.ready_made.concatenate.Reads as concatenate
+use Rattle.plane.proofs.ready_made.subsample.Reads as subsample
+use Rattle.plane.proofs.ready_made.permute.Reads as permute
+use Rattle.plane.proofs.ready_made.pad_chw.Reads as pad-chw
+use Rattle.plane.proofs.ready_made.pad_hwc.Reads as pad-hwc
+use Rattle.plane.proofs.ready_made.all.Reads as all
+
+-- for all lifetimes κ and arguments a: what is asked holds, and two results that the contract allows are one
+pub record Decided {K : Type 0} {A R E : K → Type 0} (pre : (κ : K) → A κ → Type 0) (post : (κ : K) → A κ → R κ → E κ → Type 0) : Type 0 where
+  pub free : (κ : K) (a : A κ) → pre κ a
+  pub one : (κ : K) (a : A κ) (x y : R κ) (s t : E κ) → post κ a x s → post κ a y t → x ≡ y
+
+pub room-decided : Decided room.Pre room.Post
+room-decided = record { free = λ κ a. tt; one = λ κ a x y s t p q. p ∙ sym q }
+
+pub judge-decided : Decided judge.Pre judge.Post
+judge-decided = record { free = λ κ a. tt; one = λ κ a x y s t p q. p ∙ sym q }
+
+pub element-size-decided : Decided element-size.Pre element-size.Post
+element-size-decided = record { free = λ κ a. tt; one = λ κ a x y s t p q. p ∙ sym q }
+
+pub element-count-decided : Decided element-count.Pre element-count.Post
+element-count-decided = record { free = λ κ a. tt; one = λ κ a x y s t p q. p ∙ sym q }
+
+pub sub-tensor-decided : Decided sub-tensor.Pre sub-tensor.Post
+sub-tensor-decided = record { free = λ κ a. tt; one = λ κ a x y s t p q. p ∙ sym q }
+
+pub with-offset-decided : Decided with-offset.Pre with-offset.Post
+with-offset-decided = record { free = λ κ a. tt; one = λ κ a x y s t p q. p ∙ sym q }
+
+pub with-size-decided : Decided with-size.Pre with-size.Post
+with-size-decided = record { free = λ κ a. tt; one = λ κ a x y s t p q. p ∙ sym q }
+
+pub with-step-decided : Decided with-step.Pre with-step.Post
+with-step-decided = record { free = λ κ a. tt; one = λ κ a x y s t p q. p ∙ sym q }
+
+pub with-dst-offset-decided : Decided with-dst-offset.Pre with-dst-offset.Post
+with-dst-offset-decided = record { free = λ κ a. tt; one = λ κ a x y s t p q. p ∙ sym q }
+
+pub with-dst-stride-decided : Decided with-dst-stride.Pre with-dst-stride.Post
+with-dst-stride-decided = record { free = λ κ a. tt; one = λ κ a x y s t p q. p ∙ sym q }
+
+pub with-perm-decided : Decided with-perm.Pre with-perm.Post
+with-perm-decided = record { free = λ κ a. tt; one = λ κ a x y s t p q. p ∙ sym q }
+
+pub with-pre-decided : Decided with-pre.Pre with-pre.Post
+with-pre-decided = record { free = λ κ a. tt; one = λ κ a x y s t p q. p ∙ sym q }
+
+pub with-post-decided : Decided with-post.Pre with-post.Post
+with-post-decided = record { free = λ κ a. tt; one = λ κ a x y s t p q. p ∙ sym q }
+
+pub copy-decided : Decided copy.Pre copy.Post
+copy-decided = record { free = λ κ a. tt; one = λ κ a x y s t p q. p ∙ sym q }
+
+pub slice-decided : Decided slice.Pre slice.Post
+slice-decided = record { free = λ κ a. tt; one = λ κ a x y s t p q. p ∙ sym q }
+
+pub concatenate-decided : Decided concatenate.Pre concatenate.Post
+concatenate-decided = record { free = λ κ a. tt; one = λ κ a x y s t p q. p ∙ sym q }
+
+pub subsample-decided : Decided subsample.Pre subsample.Post
+subsample-decided = record { free = λ κ a. tt; one = λ κ a x y s t p q. p ∙ sym q }
+
+pub permute-decided : Decided permute.Pre permute.Post
+permute-decided = record { free = λ κ a. tt; one = λ κ a x y s t p q. p ∙ sym q }
+
+pub pad-chw-decided : Decided pad-chw.Pre pad-chw.Post
+pad-chw-decided = record { free = λ κ a. tt; one = λ κ a x y s t p q. p ∙ sym q }
+
+pub pad-hwc-decided : Decided pad-hwc.Pre pad-hwc.Post
+pad-hwc-decided = record { free = λ κ a. tt; one = λ κ a x y s t p q. p ∙ sym q }
+
+pub all-decided : Decided all.Pre all.Post
+all-decided = record { free = λ κ a. tt; one = λ κ a x y s t p q. p ∙ sym q }

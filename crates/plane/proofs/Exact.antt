@@ -1,0 +1,217 @@
+-- Each refusal in its exact case and order. The lists below are the paper's numbers in the paper's order; the theorems at the
+-- end say that an answer has number 0 exactly if every rule of its list is kept; that it has a number at a dimension exactly if
+-- that rule is broken there, at none of its dimensions met before, and every earlier rule is kept; and that a refused answer
+-- is zeros besides. Assumes nothing.
+use Prim.Native.Nat.{ℕ, _^_}
+use native.Mathlib.Decide.{ℕ-discrete}
+use native.Mathlib.Omega.{arith}
+use mathlib.Core.Path.{_≡_, refl, sym, ap, _∙_}
+use mathlib.Core.Bool.{_||_}
+use mathlib.Core.List.{List, [], _∷_, _++_}
+use lib.Dec.{ltb, leb, eqb}
+use Rattle.plane.specs.declared.Tensor.{Tensor}
+use Rattle.plane.specs.declared.Config.{Config}
+use Rattle.plane.specs.declared.SubConfig.{SubConfig}
+use Rattle.plane.specs.declared.Fault.{Fault}
+use Rattle.plane.specs.declared.Answer.{Answer}
+use Rattle.plane.specs.declared.Count.{Count}
+use Rattle.plane.specs.declared.SubTensor.{SubTensor}
+use Rattle.plane.specs.Arrays.{at, howMany}
+use Rattle.plane.specs.Faults.{fault}
+use Rattle.plane.specs.Planes.{badRank, badElement, badShape, shapeAt, strideAt, strideBad, span, sourceFault}
+use Rattle.plane.specs.Moves.{extent, dstExtents, dstStrides, need, permBad, badOffset, badSize, badStep, badExtent, badDstOffset, configFault, placeFault, moveFault, roomFault, refused, answerOf, judgeOf, roomOf}
+use Rattle.plane.specs.Helpers.{elements, countFault, noCount, countAnswer, countOf, isUnit, excess, badSubSize, rankFault, subFault, subOf, subByte, noSub, subAnswer, subTensorOf}
+use Rattle.plane.proofs.Faults.{or-path, unless-fault, unless-none}
+use Rattle.plane.proofs.Rules.{answer-refused, answer-status}
+use Rattle.plane.proofs.Chains.{Rule, whole, upward, outside, Positive, chain, Exact, exact, or-last, whole-is, join, one-chain}
+
+-- ---- the rules of each call, in the paper's order
+
+abbrev pub sourceRules : Tensor → List Rule
+sourceRules t =
+    whole 1 (badRank (t .rank)) ∷
+    whole 2 (badElement (t .size)) ∷
+    upward 3 (t .rank) (λ d. badShape (shapeAt t d)) ∷
+    outside 4 (t .rank) (strideBad (t .rank) (shapeAt t) (strideAt t)) ∷
+    []
+
+abbrev pub configRules : Tensor → Config → List Rule
+configRules t c =
+    upward 6 (t .rank) (permBad (t .rank) (at (c .perm))) ∷
+    upward 7 (t .rank) (λ d. badOffset (shapeAt t d) (at (c .offset) d)) ∷
+    upward 8 (t .rank) (λ d. badSize (shapeAt t d) (at (c .offset) d) (at (c .size) d)) ∷
+    upward 9 (t .rank) (λ d. badStep (at (c .step) d)) ∷
+    upward 10 (t .rank) (λ d. badExtent (extent t c d)) ∷
+    []
+
+abbrev pub placeRules : Tensor → Config → List Rule
+placeRules t c =
+    outside 11 (t .rank) (strideBad (t .rank) (at (dstExtents t c)) (at (c .«dst_stride»))) ∷
+    upward 12 (t .rank) (λ i. badDstOffset (at (dstStrides t c) i) (at (c .«dst_offset») i)) ∷
+    []
+
+abbrev pub moveRules : Tensor → Config → ℕ → ℕ → List Rule
+moveRules t c srcLen dstLen =
+    sourceRules t ++
+    (whole 5 (ltb srcLen (span t)) ∷ configRules t c ++ placeRules t c ++ (whole 13 (ltb dstLen (need t c)) ∷ []))
+
+abbrev pub roomRules : Tensor → Config → List Rule
+roomRules t c = sourceRules t ++ configRules t c ++ placeRules t c
+
+abbrev pub countRules : Tensor → ℕ → List Rule
+countRules t start =
+    whole 1 (badRank (t .rank)) ∷
+    upward 3 (t .rank) (λ d. badShape (shapeAt t d)) ∷
+    whole 16 (leb (t .rank) start) ∷
+    whole 29 (leb (2 ^ 64) (elements t start)) ∷
+    []
+
+abbrev pub subRules : Tensor → SubConfig → ℕ → List Rule
+subRules t s srcLen =
+    sourceRules t ++
+    (whole 5 (ltb srcLen (span t)) ∷
+    upward 7 (t .rank) (λ d. badOffset (shapeAt t d) (at (s .offset) d)) ∷
+    upward 8 (t .rank) (λ d. badSubSize (shapeAt t d) (at (s .offset) d) (at (s .size) d)) ∷
+    whole 14 (eqb (s .rank) 0 || ltb (t .rank) (s .rank)) ∷
+    whole 15 (ltb (howMany (t .rank) (isUnit (at (s .size)))) (excess t s)) ∷
+    [])
+
+-- ---- the calls are held to their lists
+
+source-chain : (t : Tensor) → sourceFault t ≡ chain (sourceRules t)
+unfolding sourceFault chain
+source-chain t =
+    or-path (whole-is 1 _) (or-path (whole-is 2 _) (or-path refl (sym (or-last (outside 4 (t .rank) (strideBad (t .rank) (shapeAt t) (strideAt t))) (omega arith)))))
+
+config-chain : (t : Tensor) (c : Config) → configFault t c ≡ chain (configRules t c)
+unfolding configFault chain
+config-chain t c =
+    or-path refl (or-path refl (or-path refl (or-path refl (sym (or-last (upward 10 (t .rank) (λ d. badExtent (extent t c d))) (omega arith))))))
+
+place-chain : (t : Tensor) (c : Config) → placeFault t c ≡ chain (placeRules t c)
+unfolding placeFault chain
+place-chain t c =
+    or-path refl (sym (or-last (upward 12 (t .rank) (λ i. badDstOffset (at (dstStrides t c) i) (at (c .«dst_offset») i))) (omega arith)))
+
+move-chain : (t : Tensor) (c : Config) (srcLen dstLen : ℕ) → moveFault t c srcLen dstLen ≡ chain (moveRules t c srcLen dstLen)
+unfolding moveFault
+move-chain t c srcLen dstLen =
+    let room = whole 13 (ltb dstLen (need t c)) ∷ [] in
+    let long = whole 5 (ltb srcLen (span t)) ∷ [] in
+    join (sourceRules t) (long ++ configRules t c ++ placeRules t c ++ room) (source-chain t)
+    (join long (configRules t c ++ placeRules t c ++ room) (one-chain 5 _ (omega arith))
+    (join (configRules t c) (placeRules t c ++ room) (config-chain t c) (join (placeRules t c) room (place-chain t c) (one-chain 13 _ (omega arith)))))
+
+room-chain : (t : Tensor) (c : Config) → roomFault t c ≡ chain (roomRules t c)
+unfolding roomFault
+room-chain t c =
+    join (sourceRules t) (configRules t c ++ placeRules t c) (source-chain t) (join (configRules t c) (placeRules t c) (config-chain t c) (place-chain t c))
+
+count-chain : (t : Tensor) (start : ℕ) → countFault t start ≡ chain (countRules t start)
+unfolding countFault chain
+count-chain t start = or-path (whole-is 1 _) (or-path refl (or-path (whole-is 16 _) (one-chain 29 _ (omega arith))))
+
+sub-chain : (t : Tensor) (s : SubConfig) (srcLen : ℕ) → subFault t s srcLen ≡ chain (subRules t s srcLen)
+unfolding subFault rankFault chain
+sub-chain t s srcLen =
+    join (sourceRules t)
+    (whole 5 (ltb srcLen (span t)) ∷
+    upward 7 (t .rank) (λ d. badOffset (shapeAt t d) (at (s .offset) d)) ∷
+    upward 8 (t .rank) (λ d. badSubSize (shapeAt t d) (at (s .offset) d) (at (s .size) d)) ∷
+    whole 14 (eqb (s .rank) 0 || ltb (t .rank) (s .rank)) ∷
+    whole 15 (ltb (howMany (t .rank) (isUnit (at (s .size)))) (excess t s)) ∷
+    [])
+    (source-chain t) (or-path (whole-is 5 _) (or-path refl (or-path refl (or-path (whole-is 14 _) (one-chain 15 _ (omega arith))))))
+
+-- every number is above 0
+
+positive-move : (t : Tensor) (c : Config) (srcLen dstLen : ℕ) → Positive (moveRules t c srcLen dstLen)
+positive-move t c srcLen dstLen = omega arith
+
+positive-room : (t : Tensor) (c : Config) → Positive (roomRules t c)
+positive-room t c = omega arith
+
+positive-count : (t : Tensor) (start : ℕ) → Positive (countRules t start)
+positive-count t start = omega arith
+
+positive-sub : (t : Tensor) (s : SubConfig) (srcLen : ℕ) → Positive (subRules t s srcLen)
+positive-sub t s srcLen = omega arith
+
+-- an answer's number and dimension are its fault's
+
+zeros-besides : (t : Tensor) (c : Config) (f : Fault) → (answerOf f t c .status ≡ 0 → ⊥) → answerOf f t c ≡ refused (fault (answerOf f t c .status) (answerOf f t c .dim))
+zeros-besides t c f h =
+    let e = answer-refused f t c (λ z. h (answer-status f t c ∙ z)) in
+    e ∙ ap (λ (x : Answer). refused (fault (x .status) (x .dim))) (sym e)
+
+count-status : (f : Fault) (x : ℕ) → countAnswer f x .status ≡ f .status
+unfolding countAnswer
+count-status f x = elim (ℕ-discrete (f .status) 0) [
+  | yes z ↦ ap (λ (c : Count). c .status) (unless-none f (noCount f) (record { status = 0; dim = 0; count = x }) z) ∙ sym z
+  | no z ↦ ap (λ (c : Count). c .status) (unless-fault f (noCount f) (record { status = 0; dim = 0; count = x }) z)
+]
+
+count-dim : (f : Fault) (x : ℕ) → (f .status ≡ 0 → ⊥) → countAnswer f x .dim ≡ f .dim
+unfolding countAnswer
+count-dim f x z = ap (λ (c : Count). c .dim) (unless-fault f (noCount f) (record { status = 0; dim = 0; count = x }) z)
+
+sub-status : (f : Fault) (t : Tensor) (x : ℕ) → subAnswer f t x .status ≡ f .status
+unfolding subAnswer
+sub-status f t x = elim (ℕ-discrete (f .status) 0) [
+  | yes z ↦ ap (λ (s : SubTensor). s .status) (unless-none f (noSub f) (record { status = 0; dim = 0; tensor = t; byte = x }) z) ∙ sym z
+  | no z ↦ ap (λ (s : SubTensor). s .status) (unless-fault f (noSub f) (record { status = 0; dim = 0; tensor = t; byte = x }) z)
+]
+
+sub-dim : (f : Fault) (t : Tensor) (x : ℕ) → (f .status ≡ 0 → ⊥) → subAnswer f t x .dim ≡ f .dim
+unfolding subAnswer
+sub-dim f t x z = ap (λ (s : SubTensor). s .dim) (unless-fault f (noSub f) (record { status = 0; dim = 0; tensor = t; byte = x }) z)
+
+-- ---- the theorems: what each call that refuses answers is exact, and besides number and dimension it is zeros
+
+module _ (t : Tensor) (c : Config) where
+  pub judge-exact : (srcLen dstLen : ℕ) → Exact (moveRules t c srcLen dstLen) (judgeOf t c srcLen dstLen .status) (judgeOf t c srcLen dstLen .dim)
+  unfolding judgeOf
+  judge-exact srcLen dstLen =
+      exact (moveRules t c srcLen dstLen) (positive-move t c srcLen dstLen) (moveFault t c srcLen dstLen) (move-chain t c srcLen dstLen)
+      (answer-status _ t c) (λ h. ap (λ (a : Answer). a .dim) (answer-refused (moveFault t c srcLen dstLen) t c h))
+
+  pub judge-zeros : (srcLen dstLen : ℕ) → (judgeOf t c srcLen dstLen .status ≡ 0 → ⊥) → judgeOf t c srcLen dstLen ≡ refused (fault (judgeOf t c srcLen dstLen .status) (judgeOf t c srcLen dstLen .dim))
+  unfolding judgeOf
+  judge-zeros srcLen dstLen h = zeros-besides t c (moveFault t c srcLen dstLen) h
+
+  pub room-exact : Exact (roomRules t c) (roomOf t c .answer .status) (roomOf t c .answer .dim)
+  unfolding roomOf
+  room-exact =
+      exact (roomRules t c) (positive-room t c) (roomFault t c) (room-chain t c)
+      (answer-status _ t c) (λ h. ap (λ (a : Answer). a .dim) (answer-refused (roomFault t c) t c h))
+
+  pub room-zeros : (roomOf t c .answer .status ≡ 0 → ⊥) → roomOf t c ≡ record { answer = refused (fault (roomOf t c .answer .status) (roomOf t c .answer .dim)); span = 0 }
+  unfolding roomOf
+  room-zeros h =
+      let a = zeros-besides t c (roomFault t c) h in
+      let s = unless-fault (roomFault t c) 0 (span t) (λ z. h (answer-status _ t c ∙ z)) in
+      λ i. record { answer = a i; span = s i }
+
+module _ (t : Tensor) (start : ℕ) where
+  pub count-exact : Exact (countRules t start) (countOf t start .status) (countOf t start .dim)
+  unfolding countOf
+  count-exact = exact (countRules t start) (positive-count t start) (countFault t start) (count-chain t start) (count-status _ _) (count-dim _ _)
+
+  pub count-zeros : (countOf t start .status ≡ 0 → ⊥) → countOf t start ≡ noCount (fault (countOf t start .status) (countOf t start .dim))
+  unfolding countOf countAnswer
+  count-zeros h =
+      let f = countFault t start in
+      let e = unless-fault f (noCount f) (record { status = 0; dim = 0; count = elements t start }) (λ z. h (count-status f (elements t start) ∙ z)) in
+      e ∙ ap (λ (x : Count). noCount (fault (x .status) (x .dim))) (sym e)
+
+module _ (t : Tensor) (s : SubConfig) (srcLen : ℕ) where
+  pub sub-exact : Exact (subRules t s srcLen) (subTensorOf t s srcLen .status) (subTensorOf t s srcLen .dim)
+  unfolding subTensorOf
+  sub-exact = exact (subRules t s srcLen) (positive-sub t s srcLen) (subFault t s srcLen) (sub-chain t s srcLen) (sub-status _ _ _) (sub-dim _ _ _)
+
+  pub sub-zeros : (subTensorOf t s srcLen .status ≡ 0 → ⊥) → subTensorOf t s srcLen ≡ noSub (fault (subTensorOf t s srcLen .status) (subTensorOf t s srcLen .dim))
+  unfolding subTensorOf subAnswer
+  sub-zeros h =
+      let f = subFault t s srcLen in
+      let e = unless-fault f (noSub f) (record { status = 0; dim = 0; tensor = subOf t s; byte = subByte t s }) (λ z. h (sub-status f (subOf t s) (subByte t s) ∙ z)) in
+      e ∙ ap (λ (x : SubTensor). noSub (fault (x .status) (x .dim))) (sym e)

@@ -1,0 +1,184 @@
+-- What acceptance tells: the paper's conditions as plain inequalities, a record for each stretch of the numbers of refusal, and
+-- that a stretch gives no number exactly if its conditions hold. Assumes nothing.
+use Prim.Native.Nat.{ℕ, zero, suc, _+_, _-_, _*_, _/_, _≤_, _<_}
+use native.Mathlib.Omega.{arith}
+use mathlib.Core.Path.{_≡_, refl, sym, ap, subst, _∙_}
+use mathlib.Core.Bool.{Bool, true, false, _||_}
+use borrow.Author.Tests.{eqb-false, ne-eqb, leb-false, lt-leb, ltb-false, le-ltb}
+use lib.Dec.{leb, ltb, eqb}
+use Rattle.plane.specs.declared.Tensor.{Tensor}
+use Rattle.plane.specs.declared.Config.{Config}
+use Rattle.plane.specs.declared.Fault.{Fault}
+use Rattle.plane.specs.Arrays.{at, some}
+use Rattle.plane.specs.Faults.{when, _orElse_, lowest, outward}
+use Rattle.plane.specs.Planes.{badRank, elementSize, badElement, badShape, badStride, shapeAt, strideAt, inner, resolved, strideBad, span, sourceFault}
+use Rattle.plane.specs.Moves.{extent, dstExtents, dstStrides, need, permBad, badOffset, badSize, badStep, badExtent, badDstOffset, configFault, placeFault, moveFault, roomFault}
+use Rattle.plane.proofs.Bools.{either-clear, neither, in-range}
+use Rattle.plane.proofs.Arrays.{some-clear, some-none}
+use Rattle.plane.proofs.Faults.{or-clear, or-zero, when-clear, when-zero, lowest-clear, lowest-zero, outward-clear, outward-zero}
+
+-- every stride is at least its inner product and within the limit
+pub record GoodStrides (n : ℕ) (shape stride : ℕ → ℕ) : Type 0 where
+  pub least : (d : ℕ) → d < n → inner n shape stride (n - suc d) ≤ resolved n shape stride d
+  pub most : (d : ℕ) → d < n → resolved n shape stride d ≤ 2147483647
+
+-- 1 to 4
+pub record GoodSource (t : Tensor) : Type 0 where
+  pub rank : (1 ≤ t .rank) × (t .rank ≤ 4)
+  pub element : elementSize (t .size) ≡ 0 → ⊥
+  pub shape : (d : ℕ) → d < t .rank → (1 ≤ shapeAt t d) × (shapeAt t d ≤ 65535)
+  pub strides : GoodStrides (t .rank) (shapeAt t) (strideAt t)
+
+-- 6 to 10
+pub record GoodConfig (t : Tensor) (c : Config) : Type 0 where
+  pub perm : (i : ℕ) → i < t .rank → at (c .perm) i < t .rank
+  pub apart : (i j : ℕ) → i < t .rank → j < i → at (c .perm) j ≡ at (c .perm) i → ⊥
+  pub offset : (d : ℕ) → d < t .rank → at (c .offset) d < shapeAt t d
+  pub size : (d : ℕ) → d < t .rank → at (c .size) d + at (c .offset) d ≤ shapeAt t d
+  pub step : (d : ℕ) → d < t .rank → (1 ≤ at (c .step) d) × (at (c .step) d ≤ 65535)
+  pub extent : (d : ℕ) → d < t .rank → extent t c d ≤ 65535
+
+-- 11 and 12
+pub record GoodPlace (t : Tensor) (c : Config) : Type 0 where
+  pub strides : GoodStrides (t .rank) (at (dstExtents t c)) (at (c .«dst_stride»))
+  pub offset : (i : ℕ) → i < t .rank → (at (c .«dst_offset») i < at (dstStrides t c) i) × (at (c .«dst_offset») i ≤ 65535)
+
+-- 1 to 13
+pub record GoodMove (t : Tensor) (c : Config) (srcLen dstLen : ℕ) : Type 0 where
+  pub source : GoodSource t
+  pub long : span t ≤ srcLen
+  pub config : GoodConfig t c
+  pub place : GoodPlace t c
+  pub room : need t c ≤ dstLen
+
+pub positive : (x : ℕ) → (x ≡ 0 → ⊥) → 1 ≤ x
+positive zero h = absurd (h refl)
+positive (suc x) h = omega arith
+
+-- ---- strides
+
+module _ (num n : ℕ) (shape stride : ℕ → ℕ) (p : 0 < num) where
+  strides-good : outward num n (strideBad n shape stride) .status ≡ 0 → GoodStrides n shape stride
+  unfolding strideBad
+  strides-good z = record { least = λ d h. within d h .0; most = λ d h. within d h .1 }
+    where
+      within : (d : ℕ) → d < n → (inner n shape stride (n - suc d) ≤ resolved n shape stride d) × (resolved n shape stride d ≤ 2147483647)
+      within d h = in-range _ _ 2147483647 (outward-clear num n (strideBad n shape stride) d p z h)
+
+  strides-clear : GoodStrides n shape stride → outward num n (strideBad n shape stride) .status ≡ 0
+  unfolding strideBad
+  strides-clear g = outward-zero num n (strideBad n shape stride) (λ d h. neither _ _ (le-ltb _ _ (g .least d h)) (le-ltb _ _ (g .most d h)))
+
+-- ---- 1 to 4
+
+module _ (t : Tensor) where
+  pub source-good : sourceFault t .status ≡ 0 → GoodSource t
+  unfolding sourceFault
+  source-good z =
+      let z1 = or-clear _ _ z in
+      let z2 = or-clear _ _ (z1 .1) in
+      let z3 = or-clear _ _ (z2 .1) in
+      record {
+        rank = in-range (t .rank) 1 4 (when-clear 1 0 (badRank (t .rank)) (omega arith) (z1 .0));
+        element = eqb-false _ _ (when-clear 2 0 (badElement (t .size)) (omega arith) (z2 .0));
+        shape = λ d h. in-range (shapeAt t d) 1 65535 (lowest-clear 3 (t .rank) (λ d. badShape (shapeAt t d)) d (omega arith) (z3 .0) h);
+        strides = strides-good 4 (t .rank) (shapeAt t) (strideAt t) (omega arith) (z3 .1);
+      }
+
+  pub source-clear : GoodSource t → sourceFault t .status ≡ 0
+  unfolding sourceFault
+  source-clear g =
+      or-zero _ _ (when-zero 1 0 _ (neither _ _ (le-ltb _ _ (g .rank .0)) (le-ltb _ _ (g .rank .1))))
+      (or-zero _ _ (when-zero 2 0 _ (ne-eqb _ _ (g .element)))
+      (or-zero _ _ (lowest-zero 3 _ _ (λ d h. neither _ _ (le-ltb _ _ (g .shape d h .0)) (le-ltb _ _ (g .shape d h .1))))
+      (strides-clear 4 _ _ _ (omega arith) (g .strides))))
+
+-- ---- 6 to 10
+
+module _ (t : Tensor) (c : Config) where
+  entry-good : lowest 6 (t .rank) (permBad (t .rank) (at (c .perm))) .status ≡ 0 → (i : ℕ) → i < t .rank →
+      (leb (t .rank) (at (c .perm) i) ≡ false) × (some i (λ j. eqb (at (c .perm) j) (at (c .perm) i)) ≡ false)
+  entry-good z i h = either-clear _ _ (lowest-clear 6 (t .rank) (permBad (t .rank) (at (c .perm))) i (omega arith) z h)
+
+  pub offset-good : lowest 7 (t .rank) (λ d. badOffset (shapeAt t d) (at (c .offset) d)) .status ≡ 0 → (d : ℕ) → d < t .rank → at (c .offset) d < shapeAt t d
+  offset-good z d h = leb-false _ _ (lowest-clear 7 (t .rank) (λ d. badOffset (shapeAt t d) (at (c .offset) d)) d (omega arith) z h)
+
+  pub step-good : lowest 9 (t .rank) (λ d. badStep (at (c .step) d)) .status ≡ 0 → (d : ℕ) → d < t .rank → (1 ≤ at (c .step) d) × (at (c .step) d ≤ 65535)
+  step-good z d h =
+      let w = either-clear (eqb (at (c .step) d) 0) _ (lowest-clear 9 (t .rank) (λ d. badStep (at (c .step) d)) d (omega arith) z h) in
+      (positive (at (c .step) d) (eqb-false _ _ (w .0)), ltb-false _ _ (w .1))
+
+  pub config-good : configFault t c .status ≡ 0 → GoodConfig t c
+  unfolding configFault
+  config-good z =
+      let z6 = or-clear _ _ z in
+      let z7 = or-clear _ _ (z6 .1) in
+      let z8 = or-clear _ _ (z7 .1) in
+      let z9 = or-clear _ _ (z8 .1) in
+      record {
+        perm = λ i h. leb-false _ _ (entry-good (z6 .0) i h .0);
+        apart = λ i j h q. eqb-false _ _ (some-clear i (λ k. eqb (at (c .perm) k) (at (c .perm) i)) (entry-good (z6 .0) i h .1) j q);
+        offset = offset-good (z7 .0);
+        size = λ d h. ltb-false _ _ (lowest-clear 8 (t .rank) (λ d. badSize (shapeAt t d) (at (c .offset) d) (at (c .size) d)) d (omega arith) (z8 .0) h);
+        step = step-good (z9 .0);
+        extent = λ d h. ltb-false _ _ (lowest-clear 10 (t .rank) (λ d. badExtent (extent t c d)) d (omega arith) (z9 .1) h);
+      }
+
+  pub config-clear : GoodConfig t c → configFault t c .status ≡ 0
+  unfolding configFault
+  config-clear g =
+      or-zero _ _
+      (lowest-zero 6 _ _
+      (λ i h. neither _ _ (lt-leb _ _ (g .perm i h)) (some-none i _ (λ j q. ne-eqb _ _ (g .apart i j h q)))))
+      (or-zero _ _ (lowest-zero 7 _ _ (λ d h. lt-leb _ _ (g .offset d h)))
+      (or-zero _ _ (lowest-zero 8 _ _ (λ d h. le-ltb _ _ (g .size d h)))
+      (or-zero _ _
+      (lowest-zero 9 _ _
+      (λ d h. neither _ _ (ne-eqb (at (c .step) d) 0 (λ e. omega (arith, g .step d h .0))) (le-ltb _ _ (g .step d h .1))))
+      (lowest-zero 10 _ _ (λ d h. le-ltb _ _ (g .extent d h))))))
+
+  -- ---- 11 and 12
+
+  pub place-good : placeFault t c .status ≡ 0 → GoodPlace t c
+  unfolding placeFault
+  place-good z =
+      let p = or-clear _ _ z in
+      record {
+        strides = strides-good 11 _ _ _ (omega arith) (p .0);
+        offset = λ i h.
+            let o = either-clear (leb (at (dstStrides t c) i) (at (c .«dst_offset») i)) _
+            (lowest-clear 12 (t .rank) (λ i. badDstOffset (at (dstStrides t c) i) (at (c .«dst_offset») i)) i (omega arith) (p .1) h) in
+            (leb-false _ _ (o .0), ltb-false _ _ (o .1));
+      }
+
+  pub place-clear : GoodPlace t c → placeFault t c .status ≡ 0
+  unfolding placeFault
+  place-clear g =
+      or-zero _ _ (strides-clear 11 _ _ _ (omega arith) (g .strides))
+      (lowest-zero 12 _ _ (λ i h. neither _ _ (lt-leb _ _ (g .offset i h .0)) (le-ltb _ _ (g .offset i h .1))))
+
+  -- ---- 1 to 13
+
+  module _ (srcLen dstLen : ℕ) where
+    pub move-good : moveFault t c srcLen dstLen .status ≡ 0 → GoodMove t c srcLen dstLen
+    unfolding moveFault
+    move-good z =
+        let z1 = or-clear _ _ z in
+        let z5 = or-clear _ _ (z1 .1) in
+        let z6 = or-clear _ _ (z5 .1) in
+        let z11 = or-clear _ _ (z6 .1) in
+        record {
+          source = source-good t (z1 .0);
+          long = ltb-false srcLen (span t) (when-clear 5 0 (ltb srcLen (span t)) (omega arith) (z5 .0));
+          config = config-good (z6 .0);
+          place = place-good (z11 .0);
+          room = ltb-false dstLen (need t c) (when-clear 13 0 (ltb dstLen (need t c)) (omega arith) (z11 .1));
+        }
+
+    pub move-clear : GoodMove t c srcLen dstLen → moveFault t c srcLen dstLen .status ≡ 0
+    unfolding moveFault
+    move-clear g =
+        or-zero _ _ (source-clear t (g .source))
+        (or-zero _ _ (when-zero 5 0 _ (le-ltb _ _ (g .long)))
+        (or-zero _ _ (config-clear (g .config))
+        (or-zero _ _ (place-clear (g .place)) (when-zero 13 0 _ (le-ltb _ _ (g .room))))))

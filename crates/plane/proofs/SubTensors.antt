@@ -1,0 +1,191 @@
+-- A sub-tensor is a tensor of its own: it is accepted where its numbers are used as a record, and it lies within the source. Assumes nothing.
+use Prim.Native.Nat.{ℕ, zero, suc, _+_, _-_, _*_, _≤_, _<_}
+use native.Mathlib.Nat.{le-trans, add-mul, mul-le-mul-left, mul-le-mul-right}
+use native.Mathlib.Decide.{ℕ-discrete}
+use native.Mathlib.Omega.{arith}
+use mathlib.Core.Path.{_≡_, sym, ap, ap₂, _∙_}
+use mathlib.Core.List.{List}
+use borrow.Author.Tests.{eqb-false, ne-eqb, leb-false, lt-leb, ltb-false, le-ltb}
+use lib.Dec.{ltb, eqb}
+use lib.ListN.{length}
+use Rattle.plane.specs.declared.Tensor.{Tensor}
+use Rattle.plane.specs.declared.SubConfig.{SubConfig}
+use Rattle.plane.specs.declared.SubTensor.{SubTensor}
+use Rattle.plane.specs.Arrays.{at, sum, howMany}
+use Rattle.plane.specs.Planes.{shapeAt, strideAt, resolved, srcStrides, span, sourceFault}
+use Rattle.plane.specs.Moves.{badOffset}
+use Rattle.plane.specs.Helpers.{isUnit, staying, excess, subDim, badSubSize, rankFault, subFault, subOf, subByte, noSub, subAnswer, subTensorOf}
+use Rattle.plane.proofs.Bools.{either-clear, neither}
+use Rattle.plane.proofs.Arrays.{firsts-at, firsts-same, sum-same}
+use Rattle.plane.proofs.Faults.{or-clear, or-zero, when-clear, when-zero, lowest-clear, lowest-zero, unless-fault, unless-none}
+use Rattle.plane.proofs.Good.{GoodSource, positive, source-good, source-clear}
+use Rattle.plane.proofs.Falling.{stride-positive, strides-fall, written-stays, written-good}
+use Rattle.plane.proofs.Staying.{staying-count, staying-below, staying-rises, staying-sum}
+
+-- ---- what acceptance of a sub-tensor tells
+
+-- 1 to 5, 7, 8, 14 and 15
+pub record GoodSub (t : Tensor) (s : SubConfig) (srcLen : ℕ) : Type 0 where
+  pub source : GoodSource t
+  pub long : span t ≤ srcLen
+  pub offset : (d : ℕ) → d < t .rank → at (s .offset) d < shapeAt t d
+  pub size : (d : ℕ) → d < t .rank → (1 ≤ at (s .size) d) × (at (s .size) d + at (s .offset) d ≤ shapeAt t d)
+  pub rank : (1 ≤ s .rank) × (s .rank ≤ t .rank)
+  pub units : excess t s ≤ howMany (t .rank) (isUnit (at (s .size)))
+
+module _ (t : Tensor) (s : SubConfig) (srcLen : ℕ) where
+  pub sub-good : subFault t s srcLen .status ≡ 0 → GoodSub t s srcLen
+  unfolding subFault rankFault
+  sub-good z =
+      let z1 = or-clear _ _ z in
+      let z5 = or-clear _ _ (z1 .1) in
+      let z7 = or-clear _ _ (z5 .1) in
+      let z8 = or-clear _ _ (z7 .1) in
+      let z14 = or-clear _ _ (z8 .1) in
+      let r = either-clear (eqb (s .rank) 0) (ltb (t .rank) (s .rank)) (when-clear 14 0 _ (omega arith) (z14 .0)) in
+      record {
+        source = source-good t (z1 .0);
+        long = ltb-false srcLen (span t) (when-clear 5 0 _ (omega arith) (z5 .0));
+        offset = λ d h. leb-false _ _ (lowest-clear 7 (t .rank) (λ d. badOffset (shapeAt t d) (at (s .offset) d)) d (omega arith) (z7 .0) h);
+        size = λ d h.
+            let w = either-clear (eqb (at (s .size) d) 0) _
+            (lowest-clear 8 (t .rank) (λ d. badSubSize (shapeAt t d) (at (s .offset) d) (at (s .size) d)) d (omega arith) (z8 .0) h) in
+            (positive _ (eqb-false _ _ (w .0)), ltb-false _ _ (w .1));
+        rank = (positive _ (eqb-false _ _ (r .0)), ltb-false _ _ (r .1));
+        units = ltb-false _ _ (when-clear 15 0 _ (omega arith) (z14 .1));
+      }
+
+  pub sub-clear : GoodSub t s srcLen → subFault t s srcLen .status ≡ 0
+  unfolding subFault rankFault
+  sub-clear g =
+      or-zero _ _ (source-clear t (g .source))
+      (or-zero _ _ (when-zero 5 0 _ (le-ltb _ _ (g .long)))
+      (or-zero _ _ (lowest-zero 7 _ _ (λ d h. lt-leb _ _ (g .offset d h)))
+      (or-zero _ _
+      (lowest-zero 8 _ _
+      (λ d h. neither _ _ (ne-eqb (at (s .size) d) 0 (λ e. omega (arith, g .size d h .0))) (le-ltb _ _ (g .size d h .1))))
+      (or-zero _ _
+      (when-zero 14 0 _ (neither _ _ (ne-eqb (s .rank) 0 (λ e. omega (arith, g .rank .0))) (le-ltb _ _ (g .rank .1))))
+      (when-zero 15 0 _ (le-ltb _ _ (g .units)))))))
+
+-- ---- the sub-tensor's dimensions
+
+-- what the terms of two sums come to together
+sums-within : (n : ℕ) (f g h : ℕ → ℕ) → ((d : ℕ) → d < n → f d + g d ≤ h d) → sum n f + sum n g ≤ sum n h
+unfolding sum
+sums-within zero f g h w = omega arith
+sums-within (suc n) f g h w = omega (arith, sums-within n f g h (λ d q. w d (omega arith)), w n (omega arith))
+
+module _ {t : Tensor} {s : SubConfig} {srcLen : ℕ} (g : GoodSub t s srcLen) where
+  -- as many dimensions stay as the rank asks for
+  pub sub-count : length (staying (at (s .size)) (excess t s) (t .rank)) ≡ s .rank
+  sub-count = staying-count (at (s .size)) (s .rank) (t .rank) (g .rank .1) (g .units)
+
+  -- they are dimensions of the source, in order
+  pub subDim-below : (i : ℕ) → i < s .rank → subDim t s i < t .rank
+  subDim-below i h = staying-below (at (s .size)) (excess t s) (t .rank) i (omega (arith, sub-count))
+
+  pub subDim-rises : (i j : ℕ) → i < j → j < s .rank → subDim t s i < subDim t s j
+  subDim-rises i j l h = staying-rises (at (s .size)) (excess t s) (t .rank) i j l (omega (arith, sub-count))
+
+  rank-small : s .rank ≤ 4
+  rank-small = omega (arith, g .rank .1, g .source .rank .1)
+
+  -- the shape and the stride of dimension i, as the record of the sub-tensor has them
+  pub sub-shape : (i : ℕ) → i < s .rank → shapeAt (subOf t s) i ≡ at (s .size) (subDim t s i)
+  unfolding subOf
+  sub-shape i h = firsts-at (s .rank) (λ i. at (s .size) (subDim t s i)) i rank-small h
+
+  pub sub-stride : (i : ℕ) → i < s .rank → strideAt (subOf t s) i ≡ at (srcStrides t) (subDim t s i)
+  unfolding subOf
+  sub-stride i h = firsts-at (s .rank) (λ i. at (srcStrides t) (subDim t s i)) i rank-small h
+
+  -- the source's resolved strides: at least 1, within the limit, and falling inward
+  abbrev whole : ℕ → ℕ
+  whole d = resolved (t .rank) (shapeAt t) (strideAt t) d
+
+  whole-at : (d : ℕ) → d < t .rank → at (srcStrides t) d ≡ whole d
+  whole-at d h = firsts-at (t .rank) whole d (g .source .rank .1) h
+
+  some : (d : ℕ) → d < t .rank → 1 ≤ shapeAt t d
+  some d h = g .source .shape d h .0
+
+  its-stride : (i : ℕ) → i < s .rank → strideAt (subOf t s) i ≡ whole (subDim t s i)
+  its-stride i h = sub-stride i h ∙ whole-at (subDim t s i) (subDim-below i h)
+
+  stride-within : (i : ℕ) → i < s .rank → (1 ≤ strideAt (subOf t s) i) × (strideAt (subOf t s) i ≤ 2147483647)
+  stride-within i h =
+      let b = subDim-below i h in
+      rw (its-stride i h) (stride-positive (t .rank) (shapeAt t) (strideAt t) some (g .source .strides) (subDim t s i) b, g .source .strides .most (subDim t s i) b)
+
+  strides-drop : (i : ℕ) → suc i < s .rank → strideAt (subOf t s) (suc i) * shapeAt (subOf t s) (suc i) ≤ strideAt (subOf t s) i
+  strides-drop i h =
+      let b = subDim-below (suc i) h in
+      let l = g .size (subDim t s (suc i)) b .1 in
+      rw (its-stride (suc i) h, sub-shape (suc i) h, its-stride i (omega arith))
+      (le-trans (mul-le-mul-left (whole (subDim t s (suc i))) (omega arith))
+      (strides-fall (t .rank) (shapeAt t) (strideAt t) some (g .source .strides) (subDim t s i) (subDim t s (suc i)) (subDim-rises i (suc i) (omega arith) h) b))
+
+  pub sub-source : GoodSource (subOf t s)
+  unfolding subOf
+  sub-source = record {
+    rank = (g .rank .0, rank-small);
+    element = g .source .element;
+    shape = λ i h. rw (sub-shape i h) (let b = subDim-below i h in (g .size (subDim t s i) b .0, omega (arith, g .size (subDim t s i) b .1, g .source .shape (subDim t s i) b .1)));
+    strides = written-good (s .rank) (shapeAt (subOf t s)) (strideAt (subOf t s)) stride-within strides-drop;
+  }
+
+  -- its strides are resolved as they are written
+  pub sub-resolved : srcStrides (subOf t s) ≡ subOf t s .stride
+  unfolding subOf
+  sub-resolved =
+      firsts-same (s .rank) _ _
+      (λ i h. written-stays (s .rank) (shapeAt (subOf t s)) (strideAt (subOf t s)) i (stride-within i h .0) ∙ sub-stride i h)
+
+  -- how far a box of the sizes reaches in a dimension, in elements
+  abbrev across : ℕ → ℕ
+  across d = (at (s .size) d - 1) * at (srcStrides t) d
+
+  -- the dimensions that are taken out reach no further
+  pub sub-span : span (subOf t s) ≡ (1 + sum (t .rank) across) * t .size
+  unfolding span subOf
+  sub-span =
+      ap (λ (x : ℕ). (1 + x) * t .size)
+      (sum-same (s .rank) _ _ (λ i h. ap₂ (λ (x y : ℕ). (x - 1) * y) (sub-shape i h) (ap (λ (x : List ℕ). at x i) sub-resolved ∙ sub-stride i h)) ∙
+      ap (λ (m : ℕ). sum m (λ i. across (subDim t s i))) (sym sub-count) ∙
+      staying-sum (at (s .size)) (excess t s) across (λ d u. rw u (omega arith)) (t .rank))
+
+  pub sub-within : subByte t s + span (subOf t s) ≤ span t
+  unfolding span subByte
+  sub-within =
+      rw sub-span
+      (rw (← add-mul)
+      (mul-le-mul-right (t .size) (omega (arith, sums-within (t .rank) _ across (λ d. (shapeAt t d - 1) * at (srcStrides t) d) reach))))
+    where
+      reach : (d : ℕ) → d < t .rank → at (s .offset) d * at (srcStrides t) d + across d ≤ (shapeAt t d - 1) * at (srcStrides t) d
+      reach d h = rw (← add-mul) (mul-le-mul-right (at (srcStrides t) d) (omega (arith, g .size d h .0, g .size d h .1)))
+
+-- ---- the answer
+
+module _ (t : Tensor) (s : SubConfig) (srcLen : ℕ) (z : subTensorOf t s srcLen .status ≡ 0) where
+  clear : subFault t s srcLen .status ≡ 0
+  unfolding subTensorOf subAnswer
+  clear = elim (ℕ-discrete (subFault t s srcLen .status) 0) [
+    | yes e ↦ e
+    | no h ↦ absurd (h (sym (ap (λ (x : SubTensor). x .status) (unless-fault (subFault t s srcLen) (noSub (subFault t s srcLen)) _ h)) ∙ z))
+  ]
+
+  given : subTensorOf t s srcLen ≡ record { status = 0; dim = 0; tensor = subOf t s; byte = subByte t s }
+  unfolding subTensorOf subAnswer
+  given = unless-none (subFault t s srcLen) (noSub (subFault t s srcLen)) _ clear
+
+  pub sub-told : GoodSub t s srcLen
+  sub-told = sub-good t s srcLen clear
+
+  -- the numbers of a sub-tensor, used as a tensor record, are accepted
+  pub sub-accepted : sourceFault (subTensorOf t s srcLen .tensor) .status ≡ 0
+  sub-accepted = rw given (source-clear (subOf t s) (sub-source sub-told))
+
+  -- and all its elements lie in the source, from its byte on
+  pub sub-fits : subTensorOf t s srcLen .byte + span (subTensorOf t s srcLen .tensor) ≤ srcLen
+  sub-fits = rw given (le-trans (sub-within sub-told) (sub-told .long))

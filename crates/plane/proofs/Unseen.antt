@@ -1,0 +1,306 @@
+-- Entries at or past the rank are not looked at: records and configurations that agree below the rank have the same answers.
+-- Assumes nothing.
+use Prim.Native.Nat.{ℕ, zero, suc, _+_, _-_, _*_, _/_, _^_, _≤_, _<_}
+use native.Mathlib.Decide.{ℕ-discrete}
+use native.Mathlib.Omega.{arith}
+use mathlib.Core.Path.{_≡_, refl, sym, ap, ap₂, subst, _∙_}
+use mathlib.Core.Bool.{Bool, cond, _||_, _&&_}
+use mathlib.Core.List.{List, [], _∷_, _++_}
+use lib.Dec.{leb, ltb, eqb}
+use lib.ListN.{length}
+use Rattle.plane.specs.declared.Tensor.{Tensor}
+use Rattle.plane.specs.declared.Config.{Config}
+use Rattle.plane.specs.declared.SubConfig.{SubConfig}
+use Rattle.plane.specs.declared.Fault.{Fault}
+use Rattle.plane.specs.declared.SubTensor.{SubTensor}
+use Rattle.plane.specs.Arrays.{at, firsts, sum, product, some, howMany, or0}
+use Rattle.plane.specs.Faults.{none, when, _orElse_, lowest, outward, unless}
+use Rattle.plane.specs.Planes.{badRank, badShape, badStride, shapeAt, strideAt, inner, resolved, strideBad, strides, srcStrides, span, sourceFault}
+use Rattle.plane.specs.Moves.{upward, count, extent, dstExtents, dstStrides, need, permBad, badOffset, badSize, badStep, badExtent, badDstOffset, configFault, placeFault, moveFault, roomFault, accepted, answerOf, judgeOf, roomOf}
+use Rattle.plane.specs.ReadyMade.{configOf, allZero, cutTo, madeFor}
+use Rattle.plane.specs.Helpers.{elements, countFault, countAnswer, countOf, isUnit, staying, subDim, badSubSize, rankFault, subFault, subOf, subByte, noSub, subAnswer, subTensorOf}
+use Rattle.plane.proofs.Arrays.{firsts-same, sum-same, product-same, howMany-same, some-same}
+use Rattle.plane.proofs.Faults.{status, or-path, or-found, or-clear, lowest-same, outward-same, unless-fault, unless-none}
+use Rattle.plane.proofs.Good.{config-good}
+use Rattle.plane.proofs.Rules.{answer-refused, answer-given}
+use Rattle.plane.proofs.SubTensors.{sub-good, subDim-below}
+
+-- ---- what agrees below the rank
+
+pub record SameTensor (t t′ : Tensor) : Type 0 where
+  pub rank : t .rank ≡ t′ .rank
+  pub size : t .size ≡ t′ .size
+  pub shape : (d : ℕ) → d < t .rank → at (t .shape) d ≡ at (t′ .shape) d
+  pub stride : (d : ℕ) → d < t .rank → at (t .stride) d ≡ at (t′ .stride) d
+
+pub record SameConfig (n : ℕ) (c c′ : Config) : Type 0 where
+  pub offset : (d : ℕ) → d < n → at (c .offset) d ≡ at (c′ .offset) d
+  pub size : (d : ℕ) → d < n → at (c .size) d ≡ at (c′ .size) d
+  pub step : (d : ℕ) → d < n → at (c .step) d ≡ at (c′ .step) d
+  pub dst-offset : (d : ℕ) → d < n → at (c .«dst_offset») d ≡ at (c′ .«dst_offset») d
+  pub dst-stride : (d : ℕ) → d < n → at (c .«dst_stride») d ≡ at (c′ .«dst_stride») d
+  pub perm : (d : ℕ) → d < n → at (c .perm) d ≡ at (c′ .perm) d
+  pub pre : (d : ℕ) → d < n → at (c .pre) d ≡ at (c′ .pre) d
+  pub post : (d : ℕ) → d < n → at (c .post) d ≡ at (c′ .post) d
+
+pub record SameSub (n : ℕ) (s s′ : SubConfig) : Type 0 where
+  pub offset : (d : ℕ) → d < n → at (s .offset) d ≡ at (s′ .offset) d
+  pub size : (d : ℕ) → d < n → at (s .size) d ≡ at (s′ .size) d
+  pub rank : s .rank ≡ s′ .rank
+
+-- ---- strides
+
+module _ (n : ℕ) (s s′ p p′ : ℕ → ℕ) (es : (d : ℕ) → d < n → s d ≡ s′ d) (ep : (d : ℕ) → d < n → p d ≡ p′ d) where
+  inner-same : (k : ℕ) → k ≤ n → inner n s p k ≡ inner n s′ p′ k
+  unfolding inner
+  inner-same zero h = refl
+  inner-same (suc k) h =
+      let q : n - suc k < n = omega arith in
+      ap₂ (λ (x y : ℕ). x * y) (ap₂ or0 (ep (n - suc k) q) (inner-same k (omega arith))) (es (n - suc k) q)
+
+  resolved-same : (d : ℕ) → d < n → resolved n s p d ≡ resolved n s′ p′ d
+  unfolding resolved
+  resolved-same d h = ap₂ or0 (ep d h) (inner-same (n - suc d) (omega arith))
+
+  strideBad-same : (d : ℕ) → d < n → strideBad n s p d ≡ strideBad n s′ p′ d
+  unfolding strideBad
+  strideBad-same d h = ap₂ badStride (resolved-same d h) (inner-same (n - suc d) (omega arith))
+
+  strides-same : strides n s p ≡ strides n s′ p′
+  strides-same = firsts-same n (resolved n s p) (resolved n s′ p′) resolved-same
+
+-- ---- two tensor records of one rank n and one element size z
+
+abbrev tensor : ℕ → ℕ → List ℕ → List ℕ → Tensor
+tensor n z shape stride = record { rank = n; size = z; shape = shape; stride = stride }
+
+module _ (n z : ℕ) (s s′ p p′ : List ℕ) (a : SameTensor (tensor n z s p) (tensor n z s′ p′)) where
+  abbrev T : Tensor
+  T = tensor n z s p
+
+  abbrev T′ : Tensor
+  T′ = tensor n z s′ p′
+
+  shapes-same : lowest 3 n (λ d. badShape (shapeAt T d)) ≡ lowest 3 n (λ d. badShape (shapeAt T′ d))
+  shapes-same = lowest-same 3 n _ _ (λ d h. ap badShape (a .shape d h))
+
+  source-same : sourceFault T ≡ sourceFault T′
+  unfolding sourceFault
+  source-same =
+      or-path refl (or-path refl (or-path shapes-same
+      (outward-same 4 n _ _ (strideBad-same n (shapeAt T) (shapeAt T′) (strideAt T) (strideAt T′) (a .shape) (a .stride)))))
+
+  src-strides-same : srcStrides T ≡ srcStrides T′
+  src-strides-same = strides-same n (shapeAt T) (shapeAt T′) (strideAt T) (strideAt T′) (a .shape) (a .stride)
+
+  span-same : span T ≡ span T′
+  unfolding span
+  span-same =
+      ap (λ (x : ℕ). (1 + x) * z)
+      (sum-same n _ _ (λ d h. ap₂ (λ (x : ℕ) (l : List ℕ). (x - 1) * at l d) (a .shape d h) src-strides-same))
+
+  -- ---- the move
+
+  module _ (c c′ : Config) (b : SameConfig n c c′) where
+    extent-same : (d : ℕ) → d < n → extent T c d ≡ extent T′ c′ d
+    unfolding extent count
+    extent-same d h =
+        let w = ap₂ or0 (b .size d h) (ap₂ (λ (x y : ℕ). x - y) (a .shape d h) (b .offset d h)) in
+        ap₂ (λ (x y : ℕ). x + y) (ap₂ (λ (x y : ℕ). x + y) (b .pre d h) (ap₂ upward w (b .step d h))) (b .post d h)
+
+    perm-same : (i : ℕ) → i < n → permBad n (at (c .perm)) i ≡ permBad n (at (c′ .perm)) i
+    perm-same i h =
+        ap₂ (λ (x y : Bool). x || y) (ap (leb n) (b .perm i h)) (some-same i _ _ (λ j q. ap₂ eqb (b .perm j (omega arith)) (b .perm i h)))
+
+    config-same : configFault T c ≡ configFault T′ c′
+    unfolding configFault
+    config-same =
+        or-path (lowest-same 6 n _ _ perm-same)
+        (or-path (lowest-same 7 n _ _ (λ d h. ap₂ badOffset (a .shape d h) (b .offset d h)))
+        (or-path (lowest-same 8 n _ _ (λ d h. ap₂ (λ (x y : ℕ). ltb x y) (a .shape d h) (ap₂ (λ (x y : ℕ). x + y) (b .size d h) (b .offset d h))))
+        (or-path (lowest-same 9 n _ _ (λ d h. ap badStep (b .step d h))) (lowest-same 10 n _ _ (λ d h. ap badExtent (extent-same d h))))))
+
+    -- the destination is looked at only where no number up to 10 is given
+    module _ (g : configFault T c .status ≡ 0) where
+      extents-same : dstExtents T c ≡ dstExtents T′ c′
+      unfolding dstExtents
+      extents-same =
+          firsts-same n _ _ (λ i h. extent-same (at (c .perm) i) (config-good T c g .perm i h) ∙ ap (extent T′ c′) (b .perm i h))
+
+      extent-at : (d : ℕ) → d < n → at (dstExtents T c) d ≡ at (dstExtents T′ c′) d
+      extent-at d h = ap (λ (l : List ℕ). at l d) extents-same
+
+      dst-strides-same : dstStrides T c ≡ dstStrides T′ c′
+      dst-strides-same = strides-same n _ _ _ _ extent-at (b .dst-stride)
+
+      place-same : placeFault T c ≡ placeFault T′ c′
+      unfolding placeFault
+      place-same =
+          or-path (outward-same 11 n _ _ (strideBad-same n _ _ _ _ extent-at (b .dst-stride)))
+          (lowest-same 12 n _ _ (λ i h. ap₂ badDstOffset (ap (λ (l : List ℕ). at l i) dst-strides-same) (b .dst-offset i h)))
+
+      need-same : need T c ≡ need T′ c′
+      unfolding need
+      need-same =
+          ap (λ (x : ℕ). (1 + x) * z)
+          (sum-same n _ _
+          (λ i h.
+          ap₂ (λ (x y : ℕ). x * y)
+          (ap₂ (λ (x : ℕ) (l : List ℕ). x + at l i - 1) (b .dst-offset i h) extents-same)
+          (ap (λ (l : List ℕ). at l i) dst-strides-same)))
+
+      accepted-same : accepted T c ≡ accepted T′ c′
+      accepted-same =
+          λ i. record { status = 0; dim = 0; rank = n; size = z; extent = extents-same i; stride = dst-strides-same i; need = need-same i }
+
+    -- a fault g that stands behind the configuration's
+    behind : (g g′ : Fault) → (configFault T c .status ≡ 0 → g ≡ g′) → (configFault T c orElse g) ≡ (configFault T′ c′ orElse g′)
+    behind g g′ h = elim (ℕ-discrete (configFault T c .status) 0) [
+      | yes y ↦ or-path config-same (h y)
+      | no y ↦ or-found _ g y ∙ config-same ∙ sym (or-found _ g′ (λ x. y (status config-same ∙ x)))
+    ]
+
+    answer-same : (f : Fault) → (f .status ≡ 0 → configFault T c .status ≡ 0) → answerOf f T c ≡ answerOf f T′ c′
+    answer-same f h = elim (ℕ-discrete (f .status) 0) [
+      | yes y ↦ answer-given f T c y ∙ accepted-same (h y) ∙ sym (answer-given f T′ c′ y)
+      | no y ↦ answer-refused f T c y ∙ sym (answer-refused f T′ c′ y)
+    ]
+
+    room-same : roomOf T c ≡ roomOf T′ c′
+    unfolding roomOf roomFault
+    room-same =
+        let e : roomFault T c ≡ roomFault T′ c′ = or-path source-same (behind _ _ place-same) in
+        let w : answerOf (roomFault T c) T c ≡ answerOf (roomFault T′ c′) T′ c′ =
+        answer-same (roomFault T c) (λ y. or-clear _ _ (or-clear _ _ y .1) .0) ∙ ap (λ (f : Fault). answerOf f T′ c′) e in
+        let v : unless (roomFault T c) 0 (span T) ≡ unless (roomFault T′ c′) 0 (span T′) = ap₂ (λ (f : Fault) (x : ℕ). unless f 0 x) e span-same in
+        λ i. record { answer = w i; span = v i }
+
+    judge-same : (sl dl : ℕ) → judgeOf T c sl dl ≡ judgeOf T′ c′ sl dl
+    unfolding judgeOf moveFault
+    judge-same sl dl =
+        let e : moveFault T c sl dl ≡ moveFault T′ c′ sl dl =
+        or-path source-same (or-path (ap (λ (x : ℕ). when 5 0 (ltb sl x)) span-same)
+        (behind _ _ (λ y. or-path (place-same y) (ap (λ (x : ℕ). when 13 0 (ltb dl x)) (need-same y))))) in
+        answer-same (moveFault T c sl dl) (λ y. or-clear _ _ (or-clear _ _ (or-clear _ _ y .1) .1) .0) ∙ ap (λ (f : Fault). answerOf f T′ c′) e
+
+  -- ---- the helpers
+
+  elements-same : (start : ℕ) → elements T start ≡ elements T′ start
+  unfolding elements
+  elements-same start = product-same (n - start) _ _ (λ k h. a .shape (start + k) (omega arith))
+
+  count-same : (start : ℕ) → countOf T start ≡ countOf T′ start
+  unfolding countOf countFault
+  count-same start =
+      ap₂ countAnswer
+      (or-path refl (or-path shapes-same (or-path refl (ap (λ (x : ℕ). when 29 0 (leb (2 ^ 64) x)) (elements-same start)))))
+      (elements-same start)
+
+  -- the sub-tensor's rank is one number m, so that its output's rank is one too
+  module _ (m : ℕ) (o o′ q q′ : List ℕ) (b : SameSub n (record { offset = o; size = q; rank = m }) (record { offset = o′; size = q′; rank = m })) where
+    abbrev S : SubConfig
+    S = record { offset = o; size = q; rank = m }
+
+    abbrev S′ : SubConfig
+    S′ = record { offset = o′; size = q′; rank = m }
+
+    unit-same : (d : ℕ) → d < n → isUnit (at q) d ≡ isUnit (at q′) d
+    unit-same d h = ap (λ (x : ℕ). eqb x 1) (b .size d h)
+
+    staying-same : (x d : ℕ) → d ≤ n → staying (at q) x d ≡ staying (at q′) x d
+    unfolding staying
+    staying-same x zero h = refl
+    staying-same x (suc d) h =
+        ap₂ (λ (l k : List ℕ). l ++ k) (staying-same x d (omega arith))
+        (ap₂ (λ (u : Bool) (k : ℕ). cond (u && ltb k x) [] (d ∷ [])) (unit-same d h)
+        (howMany-same d _ _ (λ k r. unit-same k (omega arith))))
+
+    rank-same : rankFault T S ≡ rankFault T′ S′
+    unfolding rankFault
+    rank-same = or-path refl (ap (λ (x : ℕ). when 15 0 (ltb x (n - m))) (howMany-same n _ _ unit-same))
+
+    sub-fault-same : (sl : ℕ) → subFault T S sl ≡ subFault T′ S′ sl
+    unfolding subFault
+    sub-fault-same sl =
+        or-path source-same
+        (or-path (ap (λ (x : ℕ). when 5 0 (ltb sl x)) span-same)
+        (or-path (lowest-same 7 n _ _ (λ d h. ap₂ badOffset (a .shape d h) (b .offset d h)))
+        (or-path
+        (lowest-same 8 n _ _
+        (λ d h.
+        ap₂ (λ (x y : Bool). x || y) (ap (λ (x : ℕ). eqb x 0) (b .size d h))
+        (ap₂ (λ (x y : ℕ). ltb x y) (a .shape d h) (ap₂ (λ (x y : ℕ). x + y) (b .size d h) (b .offset d h)))))
+        rank-same)))
+
+    byte-same : subByte T S ≡ subByte T′ S′
+    unfolding subByte
+    byte-same =
+        ap (λ (x : ℕ). x * z) (sum-same n _ _ (λ d h. ap₂ (λ (x : ℕ) (l : List ℕ). x * at l d) (b .offset d h) src-strides-same))
+
+    of-same : (sl : ℕ) → subFault T S sl .status ≡ 0 → subOf T S ≡ subOf T′ S′
+    unfolding subOf
+    of-same sl y =
+        let dims : staying (at q) (n - m) n ≡ staying (at q′) (n - m) n = staying-same (n - m) n (omega arith) in
+        let shape = firsts-same m (λ i. at q (subDim T S i)) (λ i. at q′ (subDim T′ S′ i))
+        (λ i h. b .size (subDim T S i) (subDim-below (sub-good T S sl y) i h) ∙ ap (λ (l : List ℕ). at q′ (at l i)) dims) in
+        let stride = firsts-same m (λ i. at (srcStrides T) (subDim T S i)) (λ i. at (srcStrides T′) (subDim T′ S′ i))
+        (λ i h. ap₂ (λ (k l : List ℕ). at k (at l i)) src-strides-same dims) in
+        λ i. record { rank = m; size = z; shape = shape i; stride = stride i }
+
+    sub-same : (sl : ℕ) → subTensorOf T S sl ≡ subTensorOf T′ S′ sl
+    unfolding subTensorOf subAnswer
+    sub-same sl =
+        let f = subFault T S sl in
+        let f′ = subFault T′ S′ sl in
+        let e = sub-fault-same sl in
+        let x : SubTensor = record { status = 0; dim = 0; tensor = subOf T S; byte = subByte T S } in
+        let x′ : SubTensor = record { status = 0; dim = 0; tensor = subOf T′ S′; byte = subByte T′ S′ } in
+        elim (ℕ-discrete (f .status) 0) [
+          | yes y ↦ unless-none f (noSub f) x y ∙
+              (λ i. record { status = 0; dim = 0; tensor = of-same sl y i; byte = byte-same i }) ∙
+              sym (unless-none f′ (noSub f′) x′ (sym (status e) ∙ y))
+          | no y ↦ unless-fault f (noSub f) x y ∙ ap noSub e ∙ sym (unless-fault f′ (noSub f′) x′ (λ z. y (status e ∙ z)))
+        ]
+
+-- ---- the theorems
+
+module _ (t t′ : Tensor) (a : SameTensor t t′) where
+  -- the same arrays as t′, at t's rank and element size
+  abbrev like : Tensor
+  like = tensor (t .rank) (t .size) (t′ .shape) (t′ .stride)
+
+  across : {A : Type 0} (f : Tensor → A) → f like ≡ f t′
+  across f = ap₂ (λ (n z : ℕ). f (tensor n z (t′ .shape) (t′ .stride))) (a .rank) (a .size)
+
+  agrees : SameTensor t like
+  agrees = record { rank = refl; size = refl; shape = a .shape; stride = a .stride }
+
+  pub room-unseen : (c c′ : Config) → SameConfig (t .rank) c c′ → roomOf t c ≡ roomOf t′ c′
+  room-unseen c c′ b = room-same _ _ _ _ _ _ agrees c c′ b ∙ across (λ (x : Tensor). roomOf x c′)
+
+  pub judge-unseen : (c c′ : Config) → SameConfig (t .rank) c c′ → (srcLen dstLen : ℕ) → judgeOf t c srcLen dstLen ≡ judgeOf t′ c′ srcLen dstLen
+  judge-unseen c c′ b sl dl = judge-same _ _ _ _ _ _ agrees c c′ b sl dl ∙ across (λ (x : Tensor). judgeOf x c′ sl dl)
+
+  pub count-unseen : (start : ℕ) → countOf t start ≡ countOf t′ start
+  count-unseen start = count-same _ _ _ _ _ _ agrees start ∙ across (λ (x : Tensor). countOf x start)
+
+  pub sub-unseen : (s s′ : SubConfig) → SameSub (t .rank) s s′ → (srcLen : ℕ) → subTensorOf t s srcLen ≡ subTensorOf t′ s′ srcLen
+  sub-unseen s s′ b sl =
+      sub-same _ _ _ _ _ _ agrees (s .rank) (s .offset) (s′ .offset) (s .size) (s′ .size) (record { offset = b .offset; size = b .size; rank = refl }) sl ∙
+      across (λ (x : Tensor). subTensorOf x (record { offset = s′ .offset; size = s′ .size; rank = s .rank }) sl) ∙
+      ap (λ (m : ℕ). subTensorOf t′ (record { offset = s′ .offset; size = s′ .size; rank = m }) sl) (b .rank)
+
+-- arguments that agree below the rank make the same configuration
+pub made-unseen : (n : ℕ) (c c′ : Config) → SameConfig n c c′ → madeFor n c ≡ madeFor n c′
+unfolding madeFor cutTo
+made-unseen n c c′ b =
+    let o = firsts-same n (at (c .offset)) (at (c′ .offset)) (b .offset) in
+    let z = firsts-same n (at (c .size)) (at (c′ .size)) (b .size) in
+    let s = firsts-same n (at (c .step)) (at (c′ .step)) (b .step) in
+    let d = firsts-same n (at (c .«dst_offset»)) (at (c′ .«dst_offset»)) (b .dst-offset) in
+    let e = firsts-same n (at (c .«dst_stride»)) (at (c′ .«dst_stride»)) (b .dst-stride) in
+    let p = firsts-same n (at (c .perm)) (at (c′ .perm)) (b .perm) in
+    let f = firsts-same n (at (c .pre)) (at (c′ .pre)) (b .pre) in
+    let g = firsts-same n (at (c .post)) (at (c′ .post)) (b .post) in
+    ap (λ (x : Config). cond (badRank n) (record { status = 1; config = allZero }) (record { status = 0; config = x }))
+    (λ i. configOf (o i) (z i) (s i) (d i) (e i) (p i) (f i) (g i))

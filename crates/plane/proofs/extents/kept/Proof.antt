@@ -1,0 +1,16 @@
+use Prim.Native.Nat.{ℕ, _+_, _-_, _/_}
+use mathlib.Core.Path.{refl}
+use native.Mathlib.Omega.{arith}
+use native.Mathlib.Nat.{div-le-self}
+use borrow.Author.Needs.{needs}
+use Rattle.plane.proofs.extents.kept.Statement.{statement}
+use Rattle.plane.proofs.extents.kept.Tie as tie
+
+returns : tie.Need-returns
+returns c =
+    let m = c .args .m in
+    let s = c .args .step in
+    (refl, omega (arith, div-le-self (m + (s - 1)) s))
+
+pub kept-spec : {M : Type 1} → statement M
+kept-spec = tie.close (tie.spec (λ c. search needs) (λ c. search needs) (λ c. search needs) returns)

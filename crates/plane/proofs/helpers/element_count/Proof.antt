@@ -1,0 +1,69 @@
+use Prim.Native.Nat.{ℕ, _≤_, _<_}
+use mathlib.Core.Path.{_≡_, refl, sym, ap, _∙_}
+use native.Mathlib.Omega.{arith}
+use borrow.Author.Needs.{needs}
+use borrow.Author.Tests.{le-leb, lt-leb}
+use Rattle.plane.specs.declared.Fault.{Fault}
+use Rattle.plane.specs.Helpers.{elements, countFault, countAnswer, countOf}
+use Rattle.plane.specs.Private.{productOf}
+use Rattle.plane.proofs.Bools.{in-range}
+use Rattle.plane.proofs.Faults.{status, given, spared, passed, stopped}
+use Rattle.plane.proofs.Rules.{shape-box}
+use Rattle.plane.proofs.Counting.{counts-refused}
+use Rattle.plane.proofs.helpers.element_count.Statement.{statement}
+use Rattle.plane.proofs.helpers.element_count.Tie as tie
+
+returns : tie.Need-returns
+unfolding countFault
+returns c =
+    counts-refused _ _ (given 1 0 _ _ (omega arith) (sym (c .before .before .rank-is-bad .ensures) ∙ c .before .if1 .taken)) (λ z. omega arith)
+    (c .refused .ensures)
+
+shape-fault-requires : tie.Need-shape-fault-requires
+shape-fault-requires c κs = in-range _ 1 4 (sym (c .before .before .rank-is-bad .ensures) ∙ c .before .if1 .left) .1
+
+returns-2 : tie.Need-returns-2
+unfolding countFault
+returns-2 c =
+    let f = c .before .before .before in
+    let i = f .before .before in
+    counts-refused _ _
+    (spared 1 0 _ _ (sym (i .before .rank-is-bad .ensures) ∙ i .if1 .left) ∙ stopped _ (f .shape-fault .ensures) (c .before .if2 .taken))
+    (c .before .if2 .taken) (c .refused2 .ensures)
+
+returns-3 : tie.Need-returns-3
+unfolding countFault
+returns-3 c =
+    let f = c .before .before .before .before in
+    let i = f .before .before in
+    counts-refused _ _
+    (spared 1 0 _ _ (sym (i .before .rank-is-bad .ensures) ∙ i .if1 .left) ∙ passed _ (f .shape-fault .ensures) (c .before .before .if2 .left) ∙
+    given 16 0 _ _ (omega arith) (le-leb _ _ (c .before .if3 .taken)))
+    (λ z. omega arith) (c .refused3 .ensures)
+
+product-from-requires : tie.Need-product-from-requires
+product-from-requires c κs =
+    let f = c .before .before .before in
+    let i = f .before .before in
+    let t = i .before .before .args .t in (
+      in-range _ 1 4 (sym (i .before .rank-is-bad .ensures) ∙ i .if1 .left) .1,
+      c .if3 .left,
+      λ d h. shape-box t (sym (status (f .shape-fault .ensures)) ∙ c .before .if2 .left) d h .0,
+    )
+
+returns-4 : tie.Need-returns-4
+unfolding countFault countOf productOf elements
+returns-4 c =
+    let f = c .before .before .before .before in
+    let i = f .before .before in
+    let a = i .before .before .args in
+    c .product-from .ensures ∙
+    sym (ap (λ (x : Fault). countAnswer x (elements (a .t) (a .start)))
+    (spared 1 0 _ _ (sym (i .before .rank-is-bad .ensures) ∙ i .if1 .left) ∙ passed _ (f .shape-fault .ensures) (c .before .before .if2 .left) ∙
+    spared 16 0 _ _ (lt-leb _ _ (c .before .if3 .left))))
+
+pub element-count-spec : {M : Type 1} → statement M
+element-count-spec =
+    tie.close
+    (tie.spec (λ c κs. search needs) (λ c κs. search needs) returns shape-fault-requires (λ c κs. search needs) returns-2 (λ c. search needs)
+    (λ c κs. search needs) returns-3 (λ c. search needs) product-from-requires returns-4)

@@ -1,0 +1,9 @@
+use borrow.Author.Needs.{needs}
+use Rattle.plane.proofs.ready_made.pad_hwc.Statement.{statement}
+use Rattle.plane.proofs.ready_made.pad_hwc.Tie as tie
+
+returns : tie.Need-returns
+returns c = rw (c .cut-to .ensures, c .before .with-dst-stride .ensures, c .before .before .with-post .ensures, c .before .before .before .with-pre .ensures, c .before .before .before .before .defaults .ensures)
+
+pub pad-hwc-spec : {M : Type 1} → statement M
+pad-hwc-spec = tie.close (tie.spec (λ c κs. search needs) (λ c κs. search needs) (λ c κs. search needs) (λ c κs. search needs) (λ c κs. search needs) returns)

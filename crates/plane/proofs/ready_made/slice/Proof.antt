@@ -1,0 +1,9 @@
+use borrow.Author.Needs.{needs}
+use Rattle.plane.proofs.ready_made.slice.Statement.{statement}
+use Rattle.plane.proofs.ready_made.slice.Tie as tie
+
+returns : tie.Need-returns
+returns c = rw (c .made-for .ensures, c .before .with-dst-stride .ensures, c .before .before .with-size .ensures, c .before .before .before .with-offset .ensures, c .before .before .before .before .defaults .ensures)
+
+pub slice-spec : {M : Type 1} → statement M
+slice-spec = tie.close (tie.spec (λ c κs. search needs) (λ c κs. search needs) (λ c κs. search needs) (λ c κs. search needs) (λ c κs. search needs) returns)

@@ -1,0 +1,52 @@
+-- `plane::sub::sub_size_fault` answers rule 8 as it is for a sub-tensor. Assumes nothing.
+use Prim.Native.Nat.{ℕ, _-_}
+use native.Mathlib.Omega.{arith}
+use borrow.Author.Needs.{needs}
+use Rattle.plane.specs.Arrays.{at}
+use Rattle.plane.specs.Helpers.{badSubSize}
+use Rattle.plane.proofs.Faults.{Searched, searched-start, searched-more, searched-found, searched-end}
+use Rattle.plane.proofs.sub.sub_size_fault.Statement.{statement}
+use Rattle.plane.proofs.sub.sub_size_fault.Tie as tie
+
+abbrev Inv-loop : tie.InvT-loop
+Inv-loop n shape offset size d₀ d = Searched 8 n (λ (k : ℕ). badSubSize (at shape k) (at offset k) (at size k)) d
+
+abbrev μ-loop : tie.MeasureT-loop
+μ-loop n shape offset size d₀ d = n - d
+
+returns : tie.Need-returns Inv-loop μ-loop
+returns c =
+    searched-found (c .before .before .before .loop .inv) (omega arith) (c .before .before .loop-test .taken)
+    (rw (c .before .size-is-bad .ensures) at (c .if1 .taken))
+
+loop-again : tie.Need-loop-again Inv-loop μ-loop
+loop-again c =
+    searched-more (c .before .before .before .loop .inv) (c .before .before .loop-test .taken)
+    (rw (c .before .size-is-bad .ensures) at (c .if1 .left))
+
+returns-2 : tie.Need-returns-2 Inv-loop μ-loop
+returns-2 c = searched-end (c .before .before .loop .inv) (c .before .loop-test .left) (c .no-fault .ensures)
+
+pub sub-size-fault-spec : {M : Type 1} → statement M
+sub-size-fault-spec =
+    tie.close
+    (tie.spec
+    Inv-loop
+    μ-loop
+    (λ c. searched-start)
+    (λ c. search needs)
+    (λ c. search needs)
+    (λ c. search needs)
+    (λ c. search needs)
+    (λ c. search needs)
+    (λ c. search needs)
+    (λ c. search needs)
+    (λ c. search needs)
+    (λ c. search needs)
+    (λ c κs. search needs)
+    returns
+    (λ c. search needs)
+    (λ c. search needs)
+    loop-again
+    (λ c κs. search needs)
+    returns-2)

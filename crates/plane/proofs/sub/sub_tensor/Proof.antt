@@ -1,0 +1,98 @@
+-- `plane::sub_tensor` answers the sub-tensor, or the first rule that refuses it. Assumes nothing.
+use mathlib.Core.Path.{_≡_, _∙_}
+use native.Mathlib.Omega.{arith}
+use borrow.Author.Needs.{needs}
+use Rattle.plane.specs.Helpers.{subFault, subTensorOf}
+use Rattle.plane.proofs.Faults.{passed, stopped}
+use Rattle.plane.proofs.Rules.{its-fault, its-good, its-strides}
+use Rattle.plane.proofs.Good.{GoodSource}
+use Rattle.plane.proofs.SubAnswers.{partFault, sub-refuses, sub-defers, sub-short, sub-long, offset-small}
+use Rattle.plane.proofs.sub.sub_tensor.Statement.{statement}
+use Rattle.plane.proofs.sub.sub_tensor.Tie as tie
+
+-- 1 to 4 are passed
+good : (c : tie.Else1) → GoodSource (c .before .before .before .before .args .t)
+good c = its-good _ (c .before .before .before .source-of .ensures) (c .if1 .left)
+
+-- and 5
+long : (c : tie.Else2) → let a = c .before .before .before .before .before .before .args in subFault (a .t) (a .s) (a .src-len) ≡ partFault (a .t) (a .s)
+long c =
+    let i = c .before .before in
+    sub-long _ _ _ (i .before .before .before .source-of .ensures) (i .if1 .left) (c .if2 .left)
+
+returns : tie.Need-returns
+unfolding subTensorOf subFault
+returns c =
+    let w = c .before .before .before .before .source-of .ensures in
+    sub-refuses _ _ (c .refused .ensures) (c .before .if1 .taken) (stopped _ (its-fault _ w) (c .before .if1 .taken))
+
+returns-2 : tie.Need-returns-2
+unfolding subTensorOf
+returns-2 c =
+    let i = c .before .before .before in
+    let w = i .before .before .before .source-of .ensures in
+    sub-refuses _ _ (c .refused2 .ensures) (λ z. omega arith) (sub-short _ _ _ w (i .if1 .left) (c .before .if2 .taken))
+
+offset-fault-requires : tie.Need-offset-fault-requires
+offset-fault-requires c κs = good (c .before .before .before .before) .rank .1
+
+returns-3 : tie.Need-returns-3
+unfolding subTensorOf
+returns-3 c =
+    let o = c .before .before .before in
+    sub-refuses _ _ (c .refused3 .ensures) (c .before .if3 .taken)
+    (long (o .before .before .before) ∙ stopped _ (o .offset-fault .ensures) (c .before .if3 .taken))
+
+sub-size-fault-requires : tie.Need-sub-size-fault-requires
+sub-size-fault-requires c κs = good (c .before .before .before .before .before .before .before .before) .rank .1
+
+returns-4 : tie.Need-returns-4
+unfolding subTensorOf
+returns-4 c =
+    let z = c .before .before .before in
+    let v = z .before .before in
+    let o = v .before .before in
+    sub-refuses _ _ (c .refused4 .ensures) (c .before .if4 .taken)
+    (long (o .before .before .before) ∙
+    passed _ (o .offset-fault .ensures) (v .if3 .left) ∙
+    stopped _ (z .sub-size-fault .ensures) (c .before .if4 .taken))
+
+shrink-requires : tie.Need-shrink-requires
+shrink-requires c κs =
+    let v = c .before .before .before .before .before in
+    let o = v .before .before in
+    let i = o .before .before .before .before .before in
+    let w = i .before .before .before in (
+      good i .rank .1,
+      its-strides _ (w .source-of .ensures) (i .if1 .left),
+      offset-small (w .before .args .s) (good i) (o .offset-fault .ensures) (v .if3 .left),
+    )
+
+returns-5 : tie.Need-returns-5
+unfolding subTensorOf
+returns-5 c =
+    let z = c .before .before .before .before in
+    let v = z .before .before in
+    let o = v .before .before in
+    sub-defers _ _ (c .shrink .ensures)
+    (long (o .before .before .before) ∙
+    passed _ (o .offset-fault .ensures) (v .if3 .left) ∙
+    passed _ (z .sub-size-fault .ensures) (c .before .before .if4 .left))
+
+pub sub-tensor-spec : {M : Type 1} → statement M
+sub-tensor-spec =
+    tie.close
+    (tie.spec
+    (λ c κs. search needs)
+    (λ c κs. search needs)
+    returns
+    (λ c κs. search needs)
+    returns-2
+    offset-fault-requires
+    (λ c κs. search needs)
+    returns-3
+    sub-size-fault-requires
+    (λ c κs. search needs)
+    returns-4
+    shrink-requires
+    returns-5)

@@ -1,0 +1,49 @@
+-- Arrays of four entries, one a dimension, and sums and products over the dimensions.
+use Prim.Native.Nat.{ℕ, zero, suc, _+_, _*_}
+use mathlib.Core.Bool.{Bool, true, false, cond, _||_}
+use mathlib.Core.List.{List, [], _∷_}
+use lib.Dec.{ltb, eqb}
+use lib.ListN.{getD}
+
+-- entry d
+abbrev pub at : List ℕ → ℕ → ℕ
+at xs d = getD xs d 0
+
+-- v below the rank n, and 0 at or past it
+abbrev pub below : ℕ → ℕ → ℕ → ℕ
+below n d v = cond (ltb d n) v 0
+
+-- the array of four entries
+abbrev pub table : {A : Type 0} → (ℕ → A) → List A
+table f = f 0 ∷ f 1 ∷ f 2 ∷ f 3 ∷ []
+
+-- the array with the entries of f below the rank n, and 0 at and past it
+unfoldable pub firsts : ℕ → (ℕ → ℕ) → List ℕ
+firsts n f = table (λ d. below n d (f d))
+
+abbrev pub zeros : List ℕ
+zeros = 0 ∷ 0 ∷ 0 ∷ 0 ∷ []
+
+-- f 0 + f 1 + .. + f (n - 1)
+unfoldable pub sum : ℕ → (ℕ → ℕ) → ℕ
+sum zero f = 0
+sum (suc k) f = sum k f + f k
+
+-- f 0 x f 1 x .. x f (n - 1)
+unfoldable pub product : ℕ → (ℕ → ℕ) → ℕ
+product zero f = 1
+product (suc k) f = product k f * f k
+
+-- how many of 0, 1, .., n - 1 p holds of
+unfoldable pub howMany : ℕ → (ℕ → Bool) → ℕ
+howMany zero p = 0
+howMany (suc k) p = howMany k p + cond (p k) 1 0
+
+-- whether p holds of one of 0, 1, .., n - 1
+unfoldable pub some : ℕ → (ℕ → Bool) → Bool
+some zero p = false
+some (suc k) p = some k p || p k
+
+-- s, and p where s is 0
+abbrev pub or0 : ℕ → ℕ → ℕ
+or0 s p = cond (eqb s 0) p s

@@ -1,0 +1,102 @@
+-- The helpers: element count and sub-tensor. The element size is in Planes.
+use Prim.Native.Nat.{ℕ, zero, suc, _+_, _-_, _*_, _^_}
+use mathlib.Core.Bool.{Bool, cond, _||_, _&&_}
+use mathlib.Core.List.{List, [], _∷_, _++_}
+use lib.Dec.{ltb, leb, eqb}
+use Rattle.plane.specs.declared.Tensor.{Tensor}
+use Rattle.plane.specs.declared.Fault.{Fault}
+use Rattle.plane.specs.declared.Count.{Count}
+use Rattle.plane.specs.declared.SubConfig.{SubConfig}
+use Rattle.plane.specs.declared.SubTensor.{SubTensor}
+use Rattle.plane.specs.Arrays.{at, firsts, zeros, sum, product, howMany}
+use Rattle.plane.specs.Faults.{when, _orElse_, lowest, unless}
+use Rattle.plane.specs.Planes.{badRank, badShape, shapeAt, srcStrides, span, sourceFault}
+use Rattle.plane.specs.Moves.{badOffset, badSize}
+
+-- ---- Element count
+
+-- the product of the shapes from dimension start on
+unfoldable pub elements : Tensor → ℕ → ℕ
+elements t start = product (t .rank - start) (λ k. shapeAt t (start + k))
+
+-- 16: a start dimension not below the rank; 29: a count that does not fit 64 bits
+unfoldable pub countFault : Tensor → ℕ → Fault
+countFault t start =
+    when 1 0 (badRank (t .rank)) orElse
+    lowest 3 (t .rank) (λ d. badShape (shapeAt t d)) orElse
+    when 16 0 (leb (t .rank) start) orElse
+    when 29 0 (leb (2 ^ 64) (elements t start))
+
+abbrev pub noCount : Fault → Count
+noCount f = record { status = f .status; dim = f .dim; count = 0 }
+
+unfoldable pub countAnswer : Fault → ℕ → Count
+countAnswer f count = unless f (noCount f) (record { status = 0; dim = 0; count = count })
+
+unfoldable pub countOf : Tensor → ℕ → Count
+countOf t start = countAnswer (countFault t start) (elements t start)
+
+-- ---- Sub-tensor
+
+abbrev pub isUnit : (ℕ → ℕ) → ℕ → Bool
+isUnit size d = eqb (size d) 1
+
+-- unit dimensions are removed from the first on, excess of them
+abbrev pub removed : (ℕ → ℕ) → ℕ → ℕ → Bool
+removed size excess d = isUnit size d && ltb (howMany d (isUnit size)) excess
+
+-- those of the dimensions 0, 1, .., n - 1 that stay, in order
+unfoldable pub staying : (ℕ → ℕ) → ℕ → ℕ → List ℕ
+staying size excess zero = []
+staying size excess (suc d) = staying size excess d ++ cond (removed size excess d) [] (d ∷ [])
+
+-- by how much the rank falls
+abbrev pub excess : Tensor → SubConfig → ℕ
+excess t s = t .rank - s .rank
+
+-- the source dimension that is dimension i of the sub-tensor
+abbrev pub subDim : Tensor → SubConfig → ℕ → ℕ
+subDim t s i = at (staying (at (s .size)) (excess t s) (t .rank)) i
+
+-- 8: a size of 0, or past the shape
+abbrev pub badSubSize : ℕ → ℕ → ℕ → Bool
+badSubSize shape offset size = eqb size 0 || badSize shape offset size
+
+-- 14: rank 0 or above the rank; 15: too few unit dimensions
+unfoldable pub rankFault : Tensor → SubConfig → Fault
+rankFault t s =
+    when 14 0 (eqb (s .rank) 0 || ltb (t .rank) (s .rank)) orElse
+    when 15 0 (ltb (howMany (t .rank) (isUnit (at (s .size)))) (excess t s))
+
+unfoldable pub subFault : Tensor → SubConfig → ℕ → Fault
+subFault t s srcLen =
+    sourceFault t orElse
+    when 5 0 (ltb srcLen (span t)) orElse
+    lowest 7 (t .rank) (λ d. badOffset (shapeAt t d) (at (s .offset) d)) orElse
+    lowest 8 (t .rank) (λ d. badSubSize (shapeAt t d) (at (s .offset) d) (at (s .size) d)) orElse
+    rankFault t s
+
+-- the sizes for shapes, and the resolved strides of the whole plane
+unfoldable pub subOf : Tensor → SubConfig → Tensor
+subOf t s = record {
+  rank = s .rank;
+  size = t .size;
+  shape = firsts (s .rank) (λ i. at (s .size) (subDim t s i));
+  stride = firsts (s .rank) (λ i. at (srcStrides t) (subDim t s i));
+}
+
+-- the byte at which the sub-tensor starts in the source
+unfoldable pub subByte : Tensor → SubConfig → ℕ
+subByte t s = sum (t .rank) (λ d. at (s .offset) d * at (srcStrides t) d) * t .size
+
+abbrev pub noTensor : Tensor
+noTensor = record { rank = 0; size = 0; shape = zeros; stride = zeros }
+
+abbrev pub noSub : Fault → SubTensor
+noSub f = record { status = f .status; dim = f .dim; tensor = noTensor; byte = 0 }
+
+unfoldable pub subAnswer : Fault → Tensor → ℕ → SubTensor
+subAnswer f t byte = unless f (noSub f) (record { status = 0; dim = 0; tensor = t; byte = byte })
+
+unfoldable pub subTensorOf : Tensor → SubConfig → ℕ → SubTensor
+subTensorOf t s srcLen = subAnswer (subFault t s srcLen) (subOf t s) (subByte t s)

@@ -1,0 +1,125 @@
+-- The move: kept counts, extents, destination strides and need; the numbers of refusal 5 to 13; the answers.
+use Prim.Native.Nat.{ℕ, _+_, _-_, _*_, _/_}
+use mathlib.Core.Bool.{Bool, cond, _||_}
+use mathlib.Core.List.{List}
+use lib.Dec.{ltb, leb, eqb}
+use Rattle.plane.specs.declared.Tensor.{Tensor}
+use Rattle.plane.specs.declared.Config.{Config}
+use Rattle.plane.specs.declared.Fault.{Fault}
+use Rattle.plane.specs.declared.Answer.{Answer}
+use Rattle.plane.specs.declared.RoomAnswer.{RoomAnswer}
+use Rattle.plane.specs.Arrays.{at, firsts, zeros, sum, some, or0}
+use Rattle.plane.specs.Faults.{when, _orElse_, lowest, outward, unless}
+use Rattle.plane.specs.Planes.{shapeAt, strideBad, strides, span, sourceFault}
+
+-- ---- By source dimension d
+
+-- size 0 means shape - offset
+abbrev pub taken : Tensor → Config → ℕ → ℕ
+taken t c d = or0 (at (c .size) d) (shapeAt t d - at (c .offset) d)
+
+-- a / b, rounded up
+abbrev pub upward : ℕ → ℕ → ℕ
+upward a b = (a + (b - 1)) / b
+
+-- how many are kept: size / step, rounded up
+unfoldable pub count : Tensor → Config → ℕ → ℕ
+count t c d = upward (taken t c d) (at (c .step) d)
+
+unfoldable pub extent : Tensor → Config → ℕ → ℕ
+extent t c d = at (c .pre) d + count t c d + at (c .post) d
+
+-- ---- By destination dimension i, which is source dimension perm i
+
+unfoldable pub dstExtents : Tensor → Config → List ℕ
+dstExtents t c = firsts (t .rank) (λ i. extent t c (at (c .perm) i))
+
+abbrev pub dstStrides : Tensor → Config → List ℕ
+dstStrides t c = strides (t .rank) (at (dstExtents t c)) (at (c .«dst_stride»))
+
+-- in bytes
+unfoldable pub need : Tensor → Config → ℕ
+need t c = (1 + sum (t .rank) (λ i. (at (c .«dst_offset») i + at (dstExtents t c) i - 1) * at (dstStrides t c) i)) * t .size
+
+-- ---- The numbers of refusal
+
+-- 6: at or above the rank, or equal to an earlier entry
+abbrev pub permBad : ℕ → (ℕ → ℕ) → ℕ → Bool
+permBad n perm i = leb n (perm i) || some i (λ j. eqb (perm j) (perm i))
+
+-- 7: not below the shape
+abbrev pub badOffset : ℕ → ℕ → Bool
+badOffset shape offset = leb shape offset
+
+-- 8
+abbrev pub badSize : ℕ → ℕ → ℕ → Bool
+badSize shape offset size = ltb shape (size + offset)
+
+-- 9
+abbrev pub badStep : ℕ → Bool
+badStep step = eqb step 0 || ltb 65535 step
+
+-- 10
+abbrev pub badExtent : ℕ → Bool
+badExtent e = ltb 65535 e
+
+-- 12: not below the resolved stride, or above 65,535
+abbrev pub badDstOffset : ℕ → ℕ → Bool
+badDstOffset stride offset = leb stride offset || ltb 65535 offset
+
+-- 6 to 10
+unfoldable pub configFault : Tensor → Config → Fault
+configFault t c =
+    lowest 6 (t .rank) (permBad (t .rank) (at (c .perm))) orElse
+    lowest 7 (t .rank) (λ d. badOffset (shapeAt t d) (at (c .offset) d)) orElse
+    lowest 8 (t .rank) (λ d. badSize (shapeAt t d) (at (c .offset) d) (at (c .size) d)) orElse
+    lowest 9 (t .rank) (λ d. badStep (at (c .step) d)) orElse
+    lowest 10 (t .rank) (λ d. badExtent (extent t c d))
+
+-- 11 and 12
+unfoldable pub placeFault : Tensor → Config → Fault
+placeFault t c =
+    outward 11 (t .rank) (strideBad (t .rank) (at (dstExtents t c)) (at (c .«dst_stride»))) orElse
+    lowest 12 (t .rank) (λ i. badDstOffset (at (dstStrides t c) i) (at (c .«dst_offset») i))
+
+-- a move is refused with 5 for a source shorter than the span, and with 13 for a destination shorter than need
+unfoldable pub moveFault : Tensor → Config → ℕ → ℕ → Fault
+moveFault t c srcLen dstLen =
+    sourceFault t orElse
+    when 5 0 (ltb srcLen (span t)) orElse
+    configFault t c orElse
+    placeFault t c orElse
+    when 13 0 (ltb dstLen (need t c))
+
+-- a room question knows no lengths
+unfoldable pub roomFault : Tensor → Config → Fault
+roomFault t c = sourceFault t orElse configFault t c orElse placeFault t c
+
+-- ---- The answers
+
+abbrev pub refused : Fault → Answer
+refused f =
+    record { status = f .status; dim = f .dim; rank = 0; size = 0; extent = zeros; stride = zeros; need = 0 }
+
+abbrev pub accepted : Tensor → Config → Answer
+accepted t c = record {
+  status = 0;
+  dim = 0;
+  rank = t .rank;
+  size = t .size;
+  extent = dstExtents t c;
+  stride = dstStrides t c;
+  need = need t c;
+}
+
+unfoldable pub answerOf : Fault → Tensor → Config → Answer
+answerOf f t c = unless f (refused f) (accepted t c)
+
+unfoldable pub judgeOf : Tensor → Config → ℕ → ℕ → Answer
+judgeOf t c srcLen dstLen = answerOf (moveFault t c srcLen dstLen) t c
+
+unfoldable pub roomOf : Tensor → Config → RoomAnswer
+roomOf t c = record {
+  answer = answerOf (roomFault t c) t c;
+  span = unless (roomFault t c) 0 (span t);
+}

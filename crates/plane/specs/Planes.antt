@@ -1,0 +1,66 @@
+-- Planes and strides: a tensor record, the numbers of refusal 1 to 4, strides and the span.
+use Prim.Native.Nat.{ℕ, zero, suc, _+_, _-_, _*_}
+use mathlib.Core.Bool.{Bool, cond, _||_}
+use mathlib.Core.List.{List}
+use lib.Dec.{ltb, eqb}
+use Rattle.plane.specs.declared.Tensor.{Tensor}
+use Rattle.plane.specs.declared.Fault.{Fault}
+use Rattle.plane.specs.Arrays.{at, firsts, sum, or0}
+use Rattle.plane.specs.Faults.{when, _orElse_, lowest, outward}
+
+-- 1: the rank is 1 to 4
+abbrev pub badRank : ℕ → Bool
+badRank n = ltb n 1 || ltb 4 n
+
+-- an element size that is taken, and 0 for any other
+abbrev pub elementSize : ℕ → ℕ
+elementSize z = cond (eqb z 1 || eqb z 2 || eqb z 4) z 0
+
+-- 2
+abbrev pub badElement : ℕ → Bool
+badElement z = eqb (elementSize z) 0
+
+-- 3: a shape is 1 to 65,535
+abbrev pub badShape : ℕ → Bool
+badShape s = ltb s 1 || ltb 65535 s
+
+-- 4 and 11: a resolved stride below its inner product, or above 2,147,483,647
+abbrev pub badStride : ℕ → ℕ → Bool
+badStride stride inner = ltb stride inner || ltb 2147483647 stride
+
+abbrev pub shapeAt : Tensor → ℕ → ℕ
+shapeAt t d = at (t .shape) d
+
+-- the stride as the record has it. The rules read the source's strides here and nowhere else
+abbrev pub strideAt : Tensor → ℕ → ℕ
+strideAt t d = at (t .stride) d
+
+-- the inner product of the dimension that has k dimensions inside it: 1 for the last, else stride times shape of the next
+unfoldable pub inner : ℕ → (ℕ → ℕ) → (ℕ → ℕ) → ℕ → ℕ
+inner n shape stride zero = 1
+inner n shape stride (suc k) = or0 (stride (n - suc k)) (inner n shape stride k) * shape (n - suc k)
+
+-- stride 0 means the inner product
+unfoldable pub resolved : ℕ → (ℕ → ℕ) → (ℕ → ℕ) → ℕ → ℕ
+resolved n shape stride d = or0 (stride d) (inner n shape stride (n - suc d))
+
+unfoldable pub strideBad : ℕ → (ℕ → ℕ) → (ℕ → ℕ) → ℕ → Bool
+strideBad n shape stride d = badStride (resolved n shape stride d) (inner n shape stride (n - suc d))
+
+abbrev pub strides : ℕ → (ℕ → ℕ) → (ℕ → ℕ) → List ℕ
+strides n shape stride = firsts n (resolved n shape stride)
+
+abbrev pub srcStrides : Tensor → List ℕ
+srcStrides t = strides (t .rank) (shapeAt t) (strideAt t)
+
+-- in bytes
+unfoldable pub span : Tensor → ℕ
+span t = (1 + sum (t .rank) (λ d. (shapeAt t d - 1) * at (srcStrides t) d)) * t .size
+
+-- 1 to 4
+unfoldable pub sourceFault : Tensor → Fault
+sourceFault t =
+    when 1 0 (badRank (t .rank)) orElse
+    when 2 0 (badElement (t .size)) orElse
+    lowest 3 (t .rank) (λ d. badShape (shapeAt t d)) orElse
+    outward 4 (t .rank) (strideBad (t .rank) (shapeAt t) (strideAt t))

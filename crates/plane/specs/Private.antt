@@ -1,0 +1,46 @@
+-- What the contracts of private functions cite. No reader of a public contract needs this file.
+use Prim.Native.Nat.{ℕ, _+_, _-_, _*_, _^_}
+use lib.Dec.{leb}
+use lib.ListN.{length}
+use Rattle.plane.specs.declared.Tensor.{Tensor}
+use Rattle.plane.specs.declared.Fault.{Fault}
+use Rattle.plane.specs.declared.Count.{Count}
+use Rattle.plane.specs.declared.strides.Strides.{Strides}
+use Rattle.plane.specs.declared.source.Source.{Source}
+use Rattle.plane.specs.declared.sub.Staying.{Staying}
+use Rattle.plane.specs.Arrays.{at, firsts, zeros, sum, product, howMany}
+use Rattle.plane.specs.Faults.{when, outward, unless}
+use Rattle.plane.specs.Planes.{strideBad, strides, srcStrides, span, sourceFault}
+use Rattle.plane.specs.Helpers.{countAnswer, isUnit, staying}
+
+-- strides resolved, or the fault and zeros
+unfoldable pub stridesOf : ℕ → ℕ → (ℕ → ℕ) → (ℕ → ℕ) → Strides
+stridesOf num n shape stride = record {
+  fault = outward num n (strideBad n shape stride);
+  stride = unless (outward num n (strideBad n shape stride)) zeros (strides n shape stride);
+}
+
+-- the judgement of a tensor record by itself: 1 to 4, or its resolved strides and its span
+unfoldable pub sourceOf : Tensor → Source
+sourceOf t = record {
+  fault = sourceFault t;
+  stride = unless (sourceFault t) zeros (srcStrides t);
+  span = unless (sourceFault t) 0 (span t);
+}
+
+-- the elements from the first to the last coordinate of a box that starts at these offsets
+abbrev pub reach : ℕ → (ℕ → ℕ) → (ℕ → ℕ) → (ℕ → ℕ) → ℕ
+reach n offset extent stride = 1 + sum n (λ d. (offset d + extent d - 1) * stride d)
+
+-- the product of the shapes of n dimensions from start on, or 29
+unfoldable pub productOf : ℕ → (ℕ → ℕ) → ℕ → Count
+productOf n shape start =
+    countAnswer (when 29 0 (leb (2 ^ 64) (product (n - start) (λ k. shape (start + k))))) (product (n - start) (λ k. shape (start + k)))
+
+-- the sizes and strides of the dimensions that stay, and how many that should go are not there
+unfoldable pub stayingOf : ℕ → (ℕ → ℕ) → (ℕ → ℕ) → ℕ → Staying
+stayingOf n size stride excess = record {
+  lacking = excess - howMany n (isUnit size);
+  shape = firsts (length (staying size excess n)) (λ i. size (at (staying size excess n) i));
+  stride = firsts (length (staying size excess n)) (λ i. stride (at (staying size excess n) i));
+}

@@ -1,0 +1,72 @@
+// Element size and element count.
+use crate::Count;
+use crate::Fault;
+use crate::Tensor;
+use crate::refusals::rank_is_bad;
+use crate::refusals::shape_fault;
+ghost use mathlib.Core.Path.{_≡_};
+ghost use Prim.Native.Nat.{ℕ, _≤_, _<_};
+ghost use Rattle.plane.specs.Arrays.{at};
+ghost use Rattle.plane.specs.Planes.{elementSize};
+ghost use Rattle.plane.specs.Helpers.{noCount, countOf};
+ghost use Rattle.plane.specs.Private.{productOf};
+
+// The element size in bytes, and 0 for one that is not taken.
+pub fn element_size(size: u8) -> u8
+    ensures { λ r. ⌜ r ≡ elementSize size ⌝ }
+{
+    if (size == 1) | (size == 2) | (size == 4) {
+        size
+    } else {
+        0
+    }
+}
+
+fn refused(f: Fault) -> Count
+    ensures { λ r. ⌜ r ≡ noCount f ⌝ }
+{
+    Count {
+        status: f.status,
+        dim: f.dim,
+        count: 0,
+    }
+}
+
+// The elements from a start dimension on: the product of the shapes, or 29 where 64 bits do not hold it.
+fn product_from(n: u8, shape: [u32; 4], start: u8) -> Count
+    requires { ⌜ (n ≤ 4) × (start < n) × ((d : ℕ) → d < n → 0 < at shape d) ⌝ }
+    ensures { λ r. ⌜ r ≡ productOf n (at shape) start ⌝ }
+{
+    let mut count: u64 = 1;
+    for d in start..n {
+        let s = shape[d as usize] as u64;
+        if 18446744073709551615 / s < count {
+            return refused(Fault { status: 29, dim: 0 });
+        }
+        count = count * s;
+    }
+    Count {
+        status: 0,
+        dim: 0,
+        count: count,
+    }
+}
+
+// How many elements there are from a start dimension on; all of them from 0 on.
+pub fn element_count(t: Tensor, start: u32) -> Count
+    ensures { λ r. ⌜ r ≡ countOf t start ⌝ }
+{
+    let n = t.rank;
+    if rank_is_bad(n) {
+        return refused(Fault { status: 1, dim: 0 });
+    }
+    let shape = t.shape;
+    let f = shape_fault(n, shape);
+    if f.status != 0 {
+        return refused(f);
+    }
+    if (n as u32) <= start {
+        return refused(Fault { status: 16, dim: 0 });
+    }
+    product_from(n, shape, start as u8)
+}

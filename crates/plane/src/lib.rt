@@ -1,0 +1,92 @@
+// The rules of a plane and of a move: what is refused, with which number and at which dimension, and what an accepted
+// move answers. No call here touches a plane's bytes, asks anything of its caller, or sets memory aside.
+
+mod refusals; // a rule each: the dimension at fault for 3, 6, 7, 8, 9 and 12
+mod strides; // strides resolved outward, and the bytes that a box of elements reaches over
+mod source; // 1 to 4: a tensor record by itself
+mod extents; // kept counts and extents, and 10
+mod destination; // 6 to 12: a configuration for an accepted tensor record
+mod verdict; // the whole of a move: 1 to 13
+mod settings; // a configuration with one field set
+mod helpers; // element size and element count
+mod sub; // a part of a plane as a tensor of its own
+pub mod ready_made; // configurations for the common moves
+
+pub use helpers::element_count;
+pub use helpers::element_size;
+pub use sub::sub_tensor;
+pub use verdict::judge;
+pub use verdict::room;
+
+// A plane in memory: dimension 0 has the largest stride. Shapes and strides are in elements, the element size in bytes;
+// stride 0 asks for the compact one.
+pub struct Tensor {
+    pub rank: u8,
+    pub size: u8,
+    pub shape: [u32; 4],
+    pub stride: [u32; 4],
+}
+
+// How a plane is to be laid out. By source dimension: offset, size, step, pre and post. By destination dimension:
+// dst_offset, dst_stride and perm, which names the source dimension.
+pub struct Config {
+    pub offset: [u32; 4],
+    pub size: [u32; 4],
+    pub step: [u32; 4],
+    pub dst_offset: [u32; 4],
+    pub dst_stride: [u32; 4],
+    pub perm: [u8; 4],
+    pub pre: [u8; 4],
+    pub post: [u8; 4],
+}
+
+// A number of refusal and the dimension that it names; number 0 is no fault.
+pub struct Fault {
+    pub status: u8,
+    pub dim: u8,
+}
+
+// What a move answers: extents and resolved strides in destination order, and the bytes that it needs.
+pub struct Answer {
+    pub status: u8,
+    pub dim: u8,
+    pub rank: u8,
+    pub size: u8,
+    pub extent: [u32; 4],
+    pub stride: [u32; 4],
+    pub need: u64,
+}
+
+// What a room question answers: the move's answer, and the bytes that the source spans.
+pub struct RoomAnswer {
+    pub answer: Answer,
+    pub span: u64,
+}
+
+// A configuration made for a rank, or 1 and zeros.
+pub struct Made {
+    pub status: u8,
+    pub config: Config,
+}
+
+// How many elements there are.
+pub struct Count {
+    pub status: u8,
+    pub dim: u8,
+    pub count: u64,
+}
+
+// Which part of a plane a sub-tensor is, and of which rank it is to be.
+pub struct SubConfig {
+    pub offset: [u32; 4],
+    pub size: [u32; 4],
+    pub rank: u32,
+}
+
+// A part of a plane as a tensor of its own, which starts at a byte of the plane's source.
+pub struct SubTensor {
+    pub status: u8,
+    pub dim: u8,
+    pub tensor: Tensor,
+    pub byte: u64,
+}

@@ -1,0 +1,127 @@
+// The rules that name the lowest dimension at fault, a function each. n is the rank; entries at or past it are not read.
+use crate::Fault;
+ghost use mathlib.Core.Path.{_≡_};
+ghost use Prim.Native.Nat.{ℕ, _+_, _≤_, _<_};
+ghost use lib.Dec.{ltb, leb, eqb};
+ghost use Rattle.plane.specs.Arrays.{at, some};
+ghost use Rattle.plane.specs.Faults.{none, lowest};
+ghost use Rattle.plane.specs.Planes.{badRank, badShape};
+ghost use Rattle.plane.specs.Moves.{permBad, badOffset, badSize, badStep, badDstOffset};
+
+pub(crate) fn no_fault() -> Fault
+    ensures { λ r. ⌜ r ≡ none ⌝ }
+{
+    Fault { status: 0, dim: 0 }
+}
+
+// 1
+pub(crate) fn rank_is_bad(n: u8) -> bool
+    ensures { λ r. ⌜ r ≡ badRank n ⌝ }
+{
+    (n < 1) | (4 < n)
+}
+
+// 3
+pub(crate) fn shape_fault(n: u8, shape: [u32; 4]) -> Fault
+    requires { ⌜ n ≤ 4 ⌝ }
+    ensures { λ r. ⌜ r ≡ lowest 3 n (λ d. badShape (at shape d)) ⌝ }
+{
+    for d in 0..n {
+        let s = shape[d as usize];
+        if (s < 1) | (65535 < s) {
+            return Fault { status: 3, dim: d };
+        }
+    }
+    no_fault()
+}
+
+// Whether entry i equals an earlier one.
+fn is_repeated(perm: [u8; 4], i: usize) -> bool
+    requires { ⌜ i < 4 ⌝ }
+    ensures { λ r. ⌜ r ≡ some i (λ j. eqb (at perm j) (at perm i)) ⌝ }
+{
+    for j in 0..i {
+        if perm[j] == perm[i] {
+            return true;
+        }
+    }
+    false
+}
+
+// 6
+pub(crate) fn perm_fault(n: u8, perm: [u8; 4]) -> Fault
+    requires { ⌜ n ≤ 4 ⌝ }
+    ensures { λ r. ⌜ r ≡ lowest 6 n (permBad n (at perm)) ⌝ }
+{
+    for i in 0..n {
+        let k = i as usize;
+        if (n <= perm[k]) | is_repeated(perm, k) {
+            return Fault { status: 6, dim: i };
+        }
+    }
+    no_fault()
+}
+
+// 7
+pub(crate) fn offset_fault(n: u8, shape: [u32; 4], offset: [u32; 4]) -> Fault
+    requires { ⌜ n ≤ 4 ⌝ }
+    ensures { λ r. ⌜ r ≡ lowest 7 n (λ d. badOffset (at shape d) (at offset d)) ⌝ }
+{
+    for d in 0..n {
+        let k = d as usize;
+        if shape[k] <= offset[k] {
+            return Fault { status: 7, dim: d };
+        }
+    }
+    no_fault()
+}
+
+// Whether a part of this size at this offset runs past the shape. The sum needs more than 32 bits.
+pub(crate) fn size_is_bad(shape: u32, offset: u32, size: u32) -> bool
+    ensures { λ r. ⌜ r ≡ badSize shape offset size ⌝ }
+{
+    (shape as u64) < (size as u64) + (offset as u64)
+}
+
+// 8
+pub(crate) fn size_fault(n: u8, shape: [u32; 4], offset: [u32; 4], size: [u32; 4]) -> Fault
+    requires { ⌜ n ≤ 4 ⌝ }
+    ensures { λ r. ⌜ r ≡ lowest 8 n (λ d. badSize (at shape d) (at offset d) (at size d)) ⌝ }
+{
+    for d in 0..n {
+        let k = d as usize;
+        if size_is_bad(shape[k], offset[k], size[k]) {
+            return Fault { status: 8, dim: d };
+        }
+    }
+    no_fault()
+}
+
+// 9
+pub(crate) fn step_fault(n: u8, step: [u32; 4]) -> Fault
+    requires { ⌜ n ≤ 4 ⌝ }
+    ensures { λ r. ⌜ r ≡ lowest 9 n (λ d. badStep (at step d)) ⌝ }
+{
+    for d in 0..n {
+        let s = step[d as usize];
+        if (s == 0) | (65535 < s) {
+            return Fault { status: 9, dim: d };
+        }
+    }
+    no_fault()
+}
+
+// 12: strides are the resolved ones.
+pub(crate) fn dst_offset_fault(n: u8, stride: [u32; 4], offset: [u32; 4]) -> Fault
+    requires { ⌜ n ≤ 4 ⌝ }
+    ensures { λ r. ⌜ r ≡ lowest 12 n (λ i. badDstOffset (at stride i) (at offset i)) ⌝ }
+{
+    for i in 0..n {
+        let k = i as usize;
+        let o = offset[k];
+        if (stride[k] <= o) | (65535 < o) {
+            return Fault { status: 12, dim: i };
+        }
+    }
+    no_fault()
+}

@@ -1,0 +1,140 @@
+// A part of a plane as a tensor of its own.
+use crate::Fault;
+use crate::SubConfig;
+use crate::SubTensor;
+use crate::Tensor;
+use crate::refusals::no_fault;
+use crate::refusals::offset_fault;
+use crate::refusals::size_is_bad;
+use crate::source::source_of;
+use crate::strides::distance;
+ghost use mathlib.Core.Path.{_≡_};
+ghost use Prim.Native.Nat.{ℕ, _+_, _-_, _*_, _≤_, _<_};
+ghost use lib.Dec.{ltb, eqb};
+ghost use Rattle.plane.specs.Arrays.{at, howMany};
+ghost use Rattle.plane.specs.Faults.{lowest};
+ghost use Rattle.plane.specs.Planes.{srcStrides};
+ghost use Rattle.plane.specs.Helpers.{badSubSize, rankFault, noSub, subOf, subByte, subAnswer, subTensorOf};
+ghost use Rattle.plane.specs.Private.{stayingOf};
+
+// 8: here a size of 0 is refused too.
+fn sub_size_fault(n: u8, shape: [u32; 4], offset: [u32; 4], size: [u32; 4]) -> Fault
+    requires { ⌜ n ≤ 4 ⌝ }
+    ensures { λ r. ⌜ r ≡ lowest 8 n (λ d. badSubSize (at shape d) (at offset d) (at size d)) ⌝ }
+{
+    for d in 0..n {
+        let k = d as usize;
+        if (size[k] == 0) | size_is_bad(shape[k], offset[k], size[k]) {
+            return Fault { status: 8, dim: d };
+        }
+    }
+    no_fault()
+}
+
+// The dimensions that stay, and how many of those that should go are lacking.
+pub(crate) struct Staying {
+    pub(crate) lacking: u8,
+    pub(crate) shape: [u32; 4],
+    pub(crate) stride: [u32; 4],
+}
+
+// Takes unit dimensions out, with their strides, from the first on, until excess of them are gone.
+fn without_units(n: u8, size: [u32; 4], stride: [u32; 4], excess: u8) -> Staying
+    requires { ⌜ n ≤ 4 ⌝ }
+    ensures { λ r. ⌜ r ≡ stayingOf n (at size) (at stride) excess ⌝ }
+{
+    let mut shape = [0u32; 4];
+    let mut out = [0u32; 4];
+    let mut lacking = excess;
+    let mut k: usize = 0;
+    for d in 0..n {
+        let i = d as usize;
+        if (size[i] == 1) & (0 < lacking) {
+            lacking -= 1;
+        } else {
+            shape[k] = size[i];
+            out[k] = stride[i];
+            k += 1;
+        }
+    }
+    Staying {
+        lacking,
+        shape,
+        stride: out,
+    }
+}
+
+fn refused(f: Fault) -> SubTensor
+    ensures { λ r. ⌜ r ≡ noSub f ⌝ }
+{
+    SubTensor {
+        status: f.status,
+        dim: f.dim,
+        tensor: Tensor {
+            rank: 0,
+            size: 0,
+            shape: [0u32; 4],
+            stride: [0u32; 4],
+        },
+        byte: 0,
+    }
+}
+
+// 14 and 15, else the sub-tensor. stride has the resolved strides of the whole plane.
+fn shrink(t: Tensor, s: SubConfig, stride: [u32; 4]) -> SubTensor
+    requires { ⌜ (t .rank ≤ 4) × (stride ≡ srcStrides t) × ((d : ℕ) → d < t .rank → at (s .offset) d ≤ 131072) ⌝ }
+    ensures { λ r. ⌜ r ≡ subAnswer (rankFault t s) (subOf t s) (subByte t s) ⌝ }
+{
+    let n = t.rank;
+    let m = s.rank;
+    if (m == 0) | ((n as u32) < m) {
+        return refused(Fault { status: 14, dim: 0 });
+    }
+    let size = s.size;
+    let part = without_units(n, size, stride, n - (m as u8));
+    if part.lacking != 0 {
+        return refused(Fault { status: 15, dim: 0 });
+    }
+    let offset = s.offset;
+    let shape = part.shape;
+    let kept = part.stride;
+    SubTensor {
+        status: 0,
+        dim: 0,
+        tensor: Tensor {
+            rank: m as u8,
+            size: t.size,
+            shape,
+            stride: kept,
+        },
+        byte: distance(n, offset, stride) * (t.size as u64),
+    }
+}
+
+// The numbers of the part of a plane that a source of src_len bytes holds: its shape and strides, and its first byte.
+pub fn sub_tensor(t: Tensor, s: SubConfig, src_len: usize) -> SubTensor
+    ensures { λ r. ⌜ r ≡ subTensorOf t s «src_len» ⌝ }
+{
+    let whole = source_of(t);
+    let f = whole.fault;
+    if f.status != 0 {
+        return refused(f);
+    }
+    if (src_len as u64) < whole.span {
+        return refused(Fault { status: 5, dim: 0 });
+    }
+    let n = t.rank;
+    let shape = t.shape;
+    let offset = s.offset;
+    let f7 = offset_fault(n, shape, offset);
+    if f7.status != 0 {
+        return refused(f7);
+    }
+    let size = s.size;
+    let f8 = sub_size_fault(n, shape, offset, size);
+    if f8.status != 0 {
+        return refused(f8);
+    }
+    let stride = whole.stride;
+    shrink(t, s, stride)
+}
