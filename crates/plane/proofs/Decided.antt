@@ -3,6 +3,7 @@
 use mathlib.Core.Path.{_≡_, sym, _∙_}
 use Rattle.plane.proofs.verdict.room.Reads as room
 use Rattle.plane.proofs.verdict.judge.Reads as judge
+use Rattle.plane.proofs.tensors.source_of.Reads as source-of
 use Rattle.plane.proofs.helpers.element_size.Reads as element-size
 use Rattle.plane.proofs.helpers.element_count.Reads as element-count
 use Rattle.plane.proofs.sub.sub_tensor.Reads as sub-tensor
@@ -33,6 +34,9 @@ room-decided = record { free = λ κ a. tt; one = λ κ a x y s t p q. p ∙ sym
 
 pub judge-decided : Decided judge.Pre judge.Post
 judge-decided = record { free = λ κ a. tt; one = λ κ a x y s t p q. p ∙ sym q }
+
+pub source-of-decided : Decided source-of.Pre source-of.Post
+source-of-decided = record { free = λ κ a. tt; one = λ κ a x y s t p q. p ∙ sym q }
 
 pub element-size-decided : Decided element-size.Pre element-size.Post
 element-size-decided = record { free = λ κ a. tt; one = λ κ a x y s t p q. p ∙ sym q }

@@ -13,13 +13,13 @@ use Rattle.plane.specs.declared.Config.{Config}
 use Rattle.plane.specs.declared.Fault.{Fault}
 use Rattle.plane.specs.declared.Answer.{Answer}
 use Rattle.plane.specs.declared.RoomAnswer.{RoomAnswer}
-use Rattle.plane.specs.declared.source.Source.{Source}
+use Rattle.plane.specs.declared.Source.{Source}
 use Rattle.plane.specs.declared.strides.Strides.{Strides}
 use Rattle.plane.specs.Arrays.{at, zeros, sum, or0}
 use Rattle.plane.specs.Faults.{none, fault, when, _orElse_, lowest, outward, unless}
-use Rattle.plane.specs.Planes.{badRank, badElement, badShape, shapeAt, strideAt, strideBad, srcStrides, span, sourceFault}
+use Rattle.plane.specs.Planes.{badRank, badElement, badShape, shapeAt, strideAt, strideBad, srcStrides, span, sourceFault, sourceOf}
 use Rattle.plane.specs.Moves.{upward, taken, count, extent, dstExtents, dstStrides, need, badDstOffset, configFault, placeFault, moveFault, roomFault, refused, accepted, answerOf, judgeOf, roomOf}
-use Rattle.plane.specs.Private.{sourceOf, stridesOf, reach}
+use Rattle.plane.specs.Private.{stridesOf, reach}
 use Rattle.plane.proofs.Bools.{either-clear, in-range}
 use Rattle.plane.proofs.Arrays.{zeros-at, sum-same, firsts-at}
 use Rattle.plane.proofs.Faults.{status, is-fault, or-none, or-found, or-path, or-assoc, passed, stopped, unless-fault, unless-none, given, spared, when-bad, when-good, lowest-clear}

@@ -11,14 +11,14 @@ use Rattle.plane.specs.declared.Tensor.{Tensor}
 use Rattle.plane.specs.declared.Fault.{Fault}
 use Rattle.plane.specs.declared.SubConfig.{SubConfig}
 use Rattle.plane.specs.declared.SubTensor.{SubTensor}
-use Rattle.plane.specs.declared.source.Source.{Source}
+use Rattle.plane.specs.declared.Source.{Source}
 use Rattle.plane.specs.declared.sub.Staying.{Staying}
 use Rattle.plane.specs.Arrays.{at, firsts, sum, howMany}
 use Rattle.plane.specs.Faults.{none, fault, _orElse_, lowest}
-use Rattle.plane.specs.Planes.{shapeAt, srcStrides, span}
+use Rattle.plane.specs.Planes.{shapeAt, srcStrides, span, sourceOf}
 use Rattle.plane.specs.Moves.{badOffset}
 use Rattle.plane.specs.Helpers.{isUnit, staying, excess, subDim, badSubSize, rankFault, subFault, subOf, subByte, noSub, subAnswer}
-use Rattle.plane.specs.Private.{sourceOf, stayingOf}
+use Rattle.plane.specs.Private.{stayingOf}
 use Rattle.plane.proofs.Bools.{either-clear}
 use Rattle.plane.proofs.Faults.{status, passed, given, spared, when-bad, when-good, unless-fault, lowest-clear}
 use Rattle.plane.proofs.Good.{GoodSource, positive}

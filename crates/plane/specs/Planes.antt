@@ -5,8 +5,9 @@ use mathlib.Core.List.{List}
 use lib.Dec.{ltb, eqb}
 use Rattle.plane.specs.declared.Tensor.{Tensor}
 use Rattle.plane.specs.declared.Fault.{Fault}
-use Rattle.plane.specs.Arrays.{at, firsts, sum, or0}
-use Rattle.plane.specs.Faults.{when, _orElse_, lowest, outward}
+use Rattle.plane.specs.declared.Source.{Source}
+use Rattle.plane.specs.Arrays.{at, firsts, zeros, sum, or0}
+use Rattle.plane.specs.Faults.{when, _orElse_, lowest, outward, unless}
 
 -- 1: the rank is 1 to 4
 abbrev pub badRank : ℕ → Bool
@@ -64,3 +65,11 @@ sourceFault t =
     when 2 0 (badElement (t .size)) orElse
     lowest 3 (t .rank) (λ d. badShape (shapeAt t d)) orElse
     outward 4 (t .rank) (strideBad (t .rank) (shapeAt t) (strideAt t))
+
+-- a tensor record by itself: its resolved strides and its span; zeros besides a fault
+unfoldable pub sourceOf : Tensor → Source
+sourceOf t = record {
+  fault = sourceFault t;
+  stride = unless (sourceFault t) zeros (srcStrides t);
+  span = unless (sourceFault t) 0 (span t);
+}

@@ -2,15 +2,12 @@
 use Prim.Native.Nat.{ℕ, _+_, _-_, _*_, _^_}
 use lib.Dec.{leb}
 use lib.ListN.{length}
-use Rattle.plane.specs.declared.Tensor.{Tensor}
-use Rattle.plane.specs.declared.Fault.{Fault}
 use Rattle.plane.specs.declared.Count.{Count}
 use Rattle.plane.specs.declared.strides.Strides.{Strides}
-use Rattle.plane.specs.declared.source.Source.{Source}
 use Rattle.plane.specs.declared.sub.Staying.{Staying}
 use Rattle.plane.specs.Arrays.{at, firsts, zeros, sum, product, howMany}
 use Rattle.plane.specs.Faults.{when, outward, unless}
-use Rattle.plane.specs.Planes.{strideBad, strides, srcStrides, span, sourceFault}
+use Rattle.plane.specs.Planes.{strideBad, strides}
 use Rattle.plane.specs.Helpers.{countAnswer, isUnit, staying}
 
 -- strides resolved, or the fault and zeros
@@ -18,14 +15,6 @@ unfoldable pub stridesOf : ℕ → ℕ → (ℕ → ℕ) → (ℕ → ℕ) → S
 stridesOf num n shape stride = record {
   fault = outward num n (strideBad n shape stride);
   stride = unless (outward num n (strideBad n shape stride)) zeros (strides n shape stride);
-}
-
--- the judgement of a tensor record by itself: 1 to 4, or its resolved strides and its span
-unfoldable pub sourceOf : Tensor → Source
-sourceOf t = record {
-  fault = sourceFault t;
-  stride = unless (sourceFault t) zeros (srcStrides t);
-  span = unless (sourceFault t) 0 (span t);
 }
 
 -- the elements from the first to the last coordinate of a box that starts at these offsets

@@ -3,7 +3,7 @@
 
 mod refusals; // a rule each: the dimension at fault for 3, 6, 7, 8, 9 and 12
 mod strides; // strides resolved outward, and the bytes that a box of elements reaches over
-mod source; // 1 to 4: a tensor record by itself
+mod tensors; // 1 to 4: a tensor record by itself
 mod extents; // kept counts and extents, and 10
 mod destination; // 6 to 12: a configuration for an accepted tensor record
 mod verdict; // the whole of a move: 1 to 13
@@ -15,6 +15,7 @@ pub mod ready_made; // configurations for the common moves
 pub use helpers::element_count;
 pub use helpers::element_size;
 pub use sub::sub_tensor;
+pub use tensors::source_of;
 pub use verdict::judge;
 pub use verdict::room;
 
@@ -44,6 +45,13 @@ pub struct Config {
 pub struct Fault {
     pub status: u8,
     pub dim: u8,
+}
+
+// What a tensor record by itself comes to: its resolved strides, and the bytes that it spans; zeros besides a fault.
+pub struct Source {
+    pub fault: Fault,
+    pub stride: [u32; 4],
+    pub span: u64,
 }
 
 // What a move answers: extents and resolved strides in destination order, and the bytes that it needs.

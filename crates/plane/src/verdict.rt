@@ -6,7 +6,7 @@ use crate::RoomAnswer;
 use crate::Tensor;
 use crate::destination::destination;
 use crate::destination::refused;
-use crate::source::source_of;
+use crate::tensors::source_of;
 ghost use mathlib.Core.Path.{_≡_};
 ghost use Rattle.plane.specs.Moves.{roomOf, judgeOf};
 

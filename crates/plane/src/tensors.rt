@@ -1,5 +1,6 @@
 // A tensor record by itself: 1 to 4, its resolved strides and its span.
 use crate::Fault;
+use crate::Source;
 use crate::Tensor;
 use crate::helpers::element_size;
 use crate::refusals::rank_is_bad;
@@ -8,14 +9,7 @@ use crate::strides::bytes;
 use crate::strides::resolve;
 ghost use mathlib.Core.Path.{_≡_};
 ghost use Rattle.plane.specs.Arrays.{zeros};
-ghost use Rattle.plane.specs.Private.{sourceOf};
-
-// The resolved strides and the span of an accepted record; zeros besides the fault of a refused one.
-pub(crate) struct Source {
-    pub(crate) fault: Fault,
-    pub(crate) stride: [u32; 4],
-    pub(crate) span: u64,
-}
+ghost use Rattle.plane.specs.Planes.{sourceOf};
 
 fn refused(f: Fault) -> Source
     ensures { λ r. ⌜ r ≡ record { fault = f; stride = zeros; span = 0 } ⌝ }
@@ -27,7 +21,8 @@ fn refused(f: Fault) -> Source
     }
 }
 
-pub(crate) fn source_of(t: Tensor) -> Source
+// The judgement of a tensor record by itself: its resolved strides and its span, or 1 to 4.
+pub fn source_of(t: Tensor) -> Source
     ensures { λ r. ⌜ r ≡ sourceOf t ⌝ }
 {
     let n = t.rank;

@@ -9,8 +9,8 @@ use Rattle.plane.proofs.Bools.{in-range}
 use Rattle.plane.proofs.Faults.{status, given, spared, passed, stopped}
 use Rattle.plane.proofs.Resolving.{strides-fault, strides-ok}
 use Rattle.plane.proofs.Rules.{source-refused, source-given, shape-box}
-use Rattle.plane.proofs.source.source_of.Statement.{statement}
-use Rattle.plane.proofs.source.source_of.Tie as tie
+use Rattle.plane.proofs.tensors.source_of.Statement.{statement}
+use Rattle.plane.proofs.tensors.source_of.Tie as tie
 
 returns : tie.Need-returns
 unfolding sourceFault
