@@ -23,6 +23,7 @@ use Rattle.plane.specs.Moves.{extent, dstExtents, dstStrides, need, perm
 use Rattle.plane.specs.Helpers.{elements, countFault, noCount, countAnswer, countOf, isUnit, excess, badSubSize, rankFault, subFault, subOf, subByte, noSub, subAnswer, subTensorOf}
 use Rattle.plane.proofs.Faults.{or-path, unless-fault, unless-none}
 use Rattle.plane.proofs.Rules.{answer-refused, answer-status}
+use Rattle.plane.proofs.SubAnswers.{sub-status}
 use Rattle.plane.proofs.Chains.{Rule, whole, upward, outside, Positive, chain, Exact, exact, or-last, whole-is, join, one-chain}
 
 -- ---- the rules of each call, in the paper's order
@@ -154,13 +155,6 @@ count-status f x = elim (ℕ-discrete (f .status) 0) [
 count-dim : (f : Fault) (x : ℕ) → (f .status ≡ 0 → ⊥) → countAnswer f x .dim ≡ f .dim
 unfolding countAnswer
 count-dim f x z = ap (λ (c : Count). c .dim) (unless-fault f (noCount f) (record { status = 0; dim = 0; count = x }) z)
-
-sub-status : (f : Fault) (t : Tensor) (x : ℕ) → subAnswer f t x .status ≡ f .status
-unfolding subAnswer
-sub-status f t x = elim (ℕ-discrete (f .status) 0) [
-  | yes z ↦ ap (λ (s : SubTensor). s .status) (unless-none f (noSub f) (record { status = 0; dim = 0; tensor = t; byte = x }) z) ∙ sym z
-  | no z ↦ ap (λ (s : SubTensor). s .status) (unless-fault f (noSub f) (record { status = 0; dim = 0; tensor = t; byte = x }) z)
-]
 
 sub-dim : (f : Fault) (t : Tensor) (x : ℕ) → (f .status ≡ 0 → ⊥) → subAnswer f t x .dim ≡ f .dim
 unfolding subAnswer

@@ -1,5 +1,6 @@
 -- From what the checks of `sub_tensor` answer, in their order, to the definition of its answer. Assumes nothing.
 use Prim.Native.Nat.{ℕ, _-_, _*_, _≤_, _<_}
+use native.Mathlib.Decide.{ℕ-discrete}
 use native.Mathlib.Omega.{arith}
 use mathlib.Core.Path.{_≡_, sym, ap, ap₂, _∙_}
 use mathlib.Core.Bool.{false, _||_}
@@ -20,7 +21,7 @@ use Rattle.plane.specs.Moves.{badOffset}
 use Rattle.plane.specs.Helpers.{isUnit, staying, excess, subDim, badSubSize, rankFault, subFault, subOf, subByte, noSub, subAnswer}
 use Rattle.plane.specs.Private.{stayingOf}
 use Rattle.plane.proofs.Bools.{either-clear}
-use Rattle.plane.proofs.Faults.{status, passed, given, spared, when-bad, when-good, unless-fault, lowest-clear}
+use Rattle.plane.proofs.Faults.{status, passed, given, spared, when-bad, when-good, unless-fault, unless-none, lowest-clear}
 use Rattle.plane.proofs.Good.{GoodSource, positive}
 use Rattle.plane.proofs.Rules.{its-fault, its-span}
 use Rattle.plane.proofs.Staying.{staying-count}
@@ -33,6 +34,14 @@ sub-refuses u byte {f} e h p = e ∙ sym (ap (λ (x : Fault). subAnswer x u byte
 -- the rules f leave the answer to g
 pub sub-defers : (u : Tensor) (byte : ℕ) {f g : Fault} {r : SubTensor} → r ≡ subAnswer g u byte → f ≡ g → r ≡ subAnswer f u byte
 sub-defers u byte e p = e ∙ sym (ap (λ (x : Fault). subAnswer x u byte) p)
+
+-- an answer's number is its fault's
+pub sub-status : (f : Fault) (t : Tensor) (x : ℕ) → subAnswer f t x .status ≡ f .status
+unfolding subAnswer
+sub-status f t x = elim (ℕ-discrete (f .status) 0) [
+  | yes z ↦ ap (λ (s : SubTensor). s .status) (unless-none f (noSub f) (record { status = 0; dim = 0; tensor = t; byte = x }) z) ∙ sym z
+  | no z ↦ ap (λ (s : SubTensor). s .status) (unless-fault f (noSub f) (record { status = 0; dim = 0; tensor = t; byte = x }) z)
+]
 
 -- ---- 1 to 5
 

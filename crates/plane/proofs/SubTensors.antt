@@ -1,7 +1,6 @@
 -- A sub-tensor is a tensor of its own: it is accepted where its numbers are used as a record, and it lies within the source. Assumes nothing.
 use Prim.Native.Nat.{ℕ, zero, suc, _+_, _-_, _*_, _≤_, _<_}
 use native.Mathlib.Nat.{le-trans, add-mul, mul-le-mul-left, mul-le-mul-right}
-use native.Mathlib.Decide.{ℕ-discrete}
 use native.Mathlib.Omega.{arith}
 use mathlib.Core.Path.{_≡_, sym, ap, ap₂, _∙_}
 use mathlib.Core.List.{List}
@@ -17,9 +16,10 @@ use Rattle.plane.specs.Moves.{badOffset}
 use Rattle.plane.specs.Helpers.{isUnit, staying, excess, subDim, badSubSize, rankFault, subFault, subOf, subByte, noSub, subAnswer, subTensorOf}
 use Rattle.plane.proofs.Bools.{either-clear, neither}
 use Rattle.plane.proofs.Arrays.{firsts-at, firsts-same, sum-same}
-use Rattle.plane.proofs.Faults.{or-clear, or-zero, when-clear, when-zero, lowest-clear, lowest-zero, unless-fault, unless-none}
+use Rattle.plane.proofs.Faults.{or-clear, or-zero, when-clear, when-zero, lowest-clear, lowest-zero, unless-none}
 use Rattle.plane.proofs.Good.{GoodSource, positive, source-good, source-clear}
 use Rattle.plane.proofs.Falling.{stride-positive, strides-fall, written-stays, written-good}
+use Rattle.plane.proofs.SubAnswers.{sub-status}
 use Rattle.plane.proofs.Staying.{staying-count, staying-below, staying-rises, staying-sum}
 
 -- ---- what acceptance of a sub-tensor tells
@@ -168,24 +168,21 @@ module _ {t : Tensor} {s : SubConfig} {srcLen : ℕ} (g : GoodSub t s srcLen) wh
 -- ---- the answer
 
 module _ (t : Tensor) (s : SubConfig) (srcLen : ℕ) (z : subTensorOf t s srcLen .status ≡ 0) where
-  clear : subFault t s srcLen .status ≡ 0
-  unfolding subTensorOf subAnswer
-  clear = elim (ℕ-discrete (subFault t s srcLen .status) 0) [
-    | yes e ↦ e
-    | no h ↦ absurd (h (sym (ap (λ (x : SubTensor). x .status) (unless-fault (subFault t s srcLen) (noSub (subFault t s srcLen)) _ h)) ∙ z))
-  ]
+  pub sub-taken : subFault t s srcLen .status ≡ 0
+  unfolding subTensorOf
+  sub-taken = sym (sub-status (subFault t s srcLen) (subOf t s) (subByte t s)) ∙ z
 
-  given : subTensorOf t s srcLen ≡ record { status = 0; dim = 0; tensor = subOf t s; byte = subByte t s }
+  pub sub-given : subTensorOf t s srcLen ≡ record { status = 0; dim = 0; tensor = subOf t s; byte = subByte t s }
   unfolding subTensorOf subAnswer
-  given = unless-none (subFault t s srcLen) (noSub (subFault t s srcLen)) _ clear
+  sub-given = unless-none (subFault t s srcLen) (noSub (subFault t s srcLen)) _ sub-taken
 
   pub sub-told : GoodSub t s srcLen
-  sub-told = sub-good t s srcLen clear
+  sub-told = sub-good t s srcLen sub-taken
 
   -- the numbers of a sub-tensor, used as a tensor record, are accepted
   pub sub-accepted : sourceFault (subTensorOf t s srcLen .tensor) .status ≡ 0
-  sub-accepted = rw given (source-clear (subOf t s) (sub-source sub-told))
+  sub-accepted = rw sub-given (source-clear (subOf t s) (sub-source sub-told))
 
   -- and all its elements lie in the source, from its byte on
   pub sub-fits : subTensorOf t s srcLen .byte + span (subTensorOf t s srcLen .tensor) ≤ srcLen
-  sub-fits = rw given (le-trans (sub-within sub-told) (sub-told .long))
+  sub-fits = rw sub-given (le-trans (sub-within sub-told) (sub-told .long))
