@@ -1,0 +1,22 @@
+-- Theorems to read first: Demand2 (what an accepted move leaves), Decided (no two outcomes), Slices (a sub-tensor copied is a slice),
+-- Laws (what the layer above may use), Examples.
+pub mod Demand2
+pub mod Decided
+pub mod Slices
+pub mod Laws
+pub mod Examples
+-- Laws over plain values, which the functions' proofs cite.
+pub mod Runs
+pub mod Places
+pub mod Turns
+pub mod Parts
+pub mod Sums
+pub mod Numbers
+pub mod Fitting
+pub mod Stored
+pub mod Spacing
+pub mod Keeping
+pub mod Planned
+pub mod Making
+pub mod Judged
+pub mod SubParts

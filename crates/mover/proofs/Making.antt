@@ -1,0 +1,140 @@
+-- A plan as the code makes it is the plan of the move: the loops that work out its numbers, the bounds that acceptance gives them, and
+-- the axes. Assumes nothing.
+use Prim.Native.Nat.{ℕ, _+_, _-_, _*_, _^_, _≤_, _<_}
+use native.Mathlib.Nat.{mul-le-mul}
+use native.Mathlib.Numerals.{add-one}
+use native.Mathlib.Decide.{decLt}
+use native.Mathlib.Omega.{arith}
+use mathlib.Core.Path.{_≡_, refl, sym, ap, ap₂, subst, _∙_}
+use mathlib.Core.Bool.{cond}
+use mathlib.Core.List.{List}
+use borrow.Author.Tests.{lt-ltb, le-ltb}
+use lib.Dec.{ltb}
+use Rattle.plane.specs.declared.Tensor.{Tensor}
+use Rattle.plane.specs.declared.Config.{Config}
+use Rattle.plane.specs.declared.Source.{Source}
+use Rattle.plane.specs.declared.Answer.{Answer}
+use Rattle.plane.specs.Arrays.{at, sum, product}
+use Rattle.plane.specs.Planes.{srcStrides, sourceOf}
+use Rattle.plane.specs.Moves.{count, extent, dstExtents, roomFault, accepted}
+use Rattle.plane.proofs.Arrays.{firsts-at}
+use Rattle.plane.proofs.Bounds.{product-fits, element-small}
+use Rattle.plane.proofs.Faults.{status, or-clear}
+use Rattle.plane.proofs.Good.{GoodSource, GoodConfig, GoodPlace, source-good, config-good, place-good}
+use Rattle.plane.proofs.Rules.{dst-extent, its-fault, its-strides}
+use Rattle.mover.specs.declared.plan.Axis.{Axis}
+use Rattle.mover.specs.Element.{dimOf}
+use Rattle.mover.specs.Private.{axisOf, axisAt, planOf, axisMade, loneMade, Fit}
+
+-- a sum of at most four offsets times strides, times an element size
+pub bytes-fit : (x n z : ℕ) → n ≤ 4 → z ≤ 4 → x ≤ n * (65535 * 4294967295) → x * z < 2 ^ 64
+bytes-fit x n z l s h =
+    let u : x ≤ 4 * (65535 * 4294967295) = omega arith in
+    omega (arith, mul-le-mul u s)
+
+-- a loop that multiplies extents up to n
+pub record Multiplied (n : ℕ) (f : ℕ → ℕ) (total i : ℕ) : Type 0 where
+  pub within : i ≤ n
+  pub is : total ≡ product i f
+
+module _ {n : ℕ} {f : ℕ → ℕ} where
+  pub multiplied-start : Multiplied n f 1 0
+  unfolding product
+  multiplied-start = record { within = omega arith; is = refl }
+
+  module _ {total i : ℕ} (m : Multiplied n f total i) where
+    next : total * f i ≡ product (i + 1) f
+    unfolding product
+    next = ap (λ (x : ℕ). x * f i) (m .is) ∙ sym (ap (λ (k : ℕ). product k f) (add-one i))
+
+    pub multiplied-more : i < n → Multiplied n f (total * f i) (i + 1)
+    multiplied-more h = record { within = omega arith; is = next }
+
+    pub multiplied-fits : n ≤ 4 → ((k : ℕ) → k < n → f k ≤ 65535) → i < n → total * f i < 2 ^ 64
+    multiplied-fits l b h =
+        let e = next in
+        let w = product-fits (i + 1) f (omega arith) (λ k q. b k (omega arith)) in
+        omega arith
+
+    pub multiplied-end : n ≤ i → total ≡ product n f
+    multiplied-end h =
+        let l = m .within in
+        let q : i ≡ n = omega arith in
+        m .is ∙ ap (λ (k : ℕ). product k f) q
+
+-- ---- an accepted move
+
+module _ {t : Tensor} {c : Config} (g : GoodSource t) (k : GoodConfig t c) where
+  extent-is : (i : ℕ) → i < t .rank → at (dstExtents t c) i ≡ at (c .pre) (dimOf c i) + count t c (dimOf c i) + at (c .post) (dimOf c i)
+  unfolding dstExtents extent
+  extent-is i h = firsts-at (t .rank) (λ i. extent t c (at (c .perm) i)) i (g .rank .1) h
+
+  pub accepted-fit : GoodPlace t c → Fit c (accepted t c)
+  accepted-fit p = record {
+    rank = g .rank .1;
+    size = element-small (t .size) (g .element) .1;
+    dim = λ i h. omega (arith, k .perm i h, g .rank .1);
+    offset = λ i h. omega (arith, k .offset (dimOf c i) (k .perm i h), g .shape (dimOf c i) (k .perm i h) .1);
+    place = λ i h. p .offset i h .1;
+    extent = λ i h. dst-extent k i (g .rank .1) h .1;
+    padding = λ i h. omega (arith, extent-is i h);
+  }
+
+  -- what the padding leaves of an extent is kept
+  axis-made : (i : ℕ) → i < t .rank → axisMade c (accepted t c) (srcStrides t) i ≡ axisOf t c i
+  axis-made i h =
+      let e : at (dstExtents t c) i - at (c .pre) (dimOf c i) - at (c .post) (dimOf c i) ≡ count t c (dimOf c i) = omega (arith, extent-is i h) in
+      λ x. record {
+        extent = axisOf t c i .extent;
+        pre = axisOf t c i .pre;
+        count = e x;
+        jump = axisOf t c i .jump;
+        stride = axisOf t c i .stride;
+      }
+
+  at-made : (j : ℕ) → j < 4 → cond (ltb j (4 - t .rank)) (loneMade (accepted t c)) (axisMade c (accepted t c) (srcStrides t) (j - (4 - t .rank))) ≡ axisAt t c j
+  at-made j l = elim (decLt j (4 - t .rank)) [
+    | yes h ↦ rw (lt-ltb j (4 - t .rank) h)
+    | no h ↦ rw (le-ltb j (4 - t .rank) (omega arith)) (axis-made (j - (4 - t .rank)) (omega (arith, g .rank .1)))
+  ]
+
+module _ (t : Tensor) (c : Config) (z : roomFault t c .status ≡ 0) where
+  room-source : GoodSource t
+  unfolding roomFault
+  room-source = source-good t (or-clear _ _ z .0)
+
+  room-config : GoodConfig t c
+  unfolding roomFault
+  room-config = config-good t c (or-clear _ _ (or-clear _ _ z .1) .0)
+
+  room-place : GoodPlace t c
+  unfolding roomFault
+  room-place = place-good t c (or-clear _ _ (or-clear _ _ z .1) .1)
+
+  pub room-strides : {s : Source} → s ≡ sourceOf t → s .stride ≡ srcStrides t
+  unfolding roomFault
+  room-strides e = its-strides t e (status (its-fault t e) ∙ or-clear _ _ z .0)
+
+  module _ {a : Answer} (ea : a ≡ accepted t c) where
+    pub answer-fit : Fit c a
+    answer-fit = subst (λ (x : Answer). Fit c x) (sym ea) (accepted-fit room-source room-config room-place)
+
+    module _ {strides : List ℕ} (es : strides ≡ srcStrides t) where
+      -- axis j, as the code has it
+      pub axis-is : (j : ℕ) {x : Axis} → j < 4 → x ≡ cond (ltb j (4 - a .rank)) (loneMade a) (axisMade c a strides (j - (4 - a .rank))) → x ≡ axisAt t c j
+      axis-is j l e =
+          e ∙
+          ap₂ (λ (a : Answer) (s : List ℕ). cond (ltb j (4 - a .rank)) (loneMade a) (axisMade c a s (j - (4 - a .rank)))) ea es ∙
+          at-made room-source room-config j l
+
+      pub plan-is : {h b : ℕ} {d0 d1 d2 d3 : Axis} →
+          h ≡ sum (a .rank) (λ i. at (c .offset) (dimOf c i) * at strides (dimOf c i)) * a .size →
+          b ≡ sum (a .rank) (λ i. at (c .«dst_offset») i * at (a .stride) i) * a .size →
+          d0 ≡ axisAt t c 0 → d1 ≡ axisAt t c 1 → d2 ≡ axisAt t c 2 → d3 ≡ axisAt t c 3 →
+          record { size = a .size; home = h; base = b; d0 = d0; d1 = d1; d2 = d2; d3 = d3 } ≡ planOf t c
+      unfolding planOf
+      plan-is eh eb e0 e1 e2 e3 =
+          let z = ap (λ (a : Answer). a .size) ea in
+          let h = eh ∙ ap₂ (λ (a : Answer) (s : List ℕ). sum (a .rank) (λ i. at (c .offset) (dimOf c i) * at s (dimOf c i)) * a .size) ea es in
+          let b = eb ∙ ap (λ (a : Answer). sum (a .rank) (λ i. at (c .«dst_offset») i * at (a .stride) i) * a .size) ea in
+          λ x. record { size = z x; home = h x; base = b x; d0 = e0 x; d1 = e1 x; d2 = e2 x; d3 = e3 x }

@@ -1,0 +1,160 @@
+-- A move within one memory, between two parts that start anywhere, is the move between the parts as lists: the destination part
+-- is what `movedBy` makes of it, and all else is as it was. Assumes nothing.
+use mathlib.Core.Path.{_≡_, refl, sym, ap, _∙_}
+use mathlib.Core.List.{List, [], _∷_, _++_, append-assoc}
+use Prim.Native.Nat.{ℕ, zero, suc, _+_, _-_, _≤_, _<_, min}
+use native.Mathlib.Nat.{add-suc, suc-add, zero-add, add-assoc, min-le-right}
+use native.Mathlib.Omega.{arith}
+use lib.ListN.{length, set, getD, take, drop, replicate, length-set, length-drop, take-append-drop}
+use mathlib.Core.Logic.{_⊎_, ⊎-elim, inl, inr}
+use Rattle.mover.specs.declared.engine.Origin.the-variants.{Lent, Inside}
+use lib.Seq.{sets-eq, set-set, set-comm, drop-at, take-append-seam, sets, length-sets, set-append-left, ext-getD, getD-take, getD-drop, length-take-le, drop-drop}
+use Rattle.mover.specs.declared.plan.Plan.{Plan}
+use Rattle.mover.specs.Private.{planKept, spotOf, placeOf, homeOf, planBytes, putAt, co0, co1, co2, co3, putNumber, planTotal, movedBy, homeEnd, placeEnd, partOf, placedAt, Within, Ready, Apart}
+use Rattle.mover.proofs.Runs.{length-take-most, getD-sets-out}
+use Rattle.mover.proofs.Places.{place-most, home-most, apart-part}
+use Rattle.mover.proofs.Turns.{length-moved, length-bytes, spread-within, pick-same, run-same}
+
+set-past : (x l : List ℕ) (i v : ℕ) → set (x ++ l) (length x + i) v ≡ x ++ set l i v
+set-past [] l i v = rw zero-add
+set-past (a ∷ x) l i v = rw suc-add (ap (λ (r : List ℕ). a ∷ r) (set-past x l i v))
+
+-- stores into the middle of three lists
+pub sets-middle : (vs x d y : List ℕ) (i : ℕ) → i + length vs ≤ length d → sets (x ++ (d ++ y)) (length x + i) vs ≡ x ++ (sets d i vs ++ y)
+sets-middle [] x d y i h = refl
+sets-middle (v ∷ vs) x d y i h =
+    let k : i < length d = omega arith in
+    rw (set-past x (d ++ y) i v, set-append-left d y i v k, ← add-suc) (sets-middle vs x (set d i v) y (suc i) (rw length-set (omega arith)))
+
+-- a run within a part is a run of the whole
+pub run-within : (m : List ℕ) (a l h z : ℕ) → a + l ≤ length m → h + z ≤ l → take z (drop (a + h) m) ≡ take z (drop h (take l (drop a m)))
+run-within m a l h z w k =
+    let u : length (take z (drop (a + h) m)) ≡ z = length-take-le z (drop (a + h) m) (simp length-drop (omega arith)) in
+    let n : length (take l (drop a m)) ≡ l = length-take-le l (drop a m) (simp length-drop (omega arith)) in
+    let v : length (take z (drop h (take l (drop a m)))) ≡ z =
+    length-take-le z (drop h (take l (drop a m))) (simp (length-drop, n) (omega arith))
+    in
+    ext-getD 0 (take z (drop (a + h) m)) (take z (drop h (take l (drop a m))))
+    (u ∙ sym v)
+    (λ i g.
+    let gz : i < z = omega arith in
+    let gl : h + i < l = omega arith in
+    simp (getD-take z (drop (a + h) m) i 0 gz, getD-take z (drop h (take l (drop a m))) i 0 gz, getD-drop, getD-take l (drop a m) (h + i) 0 gl)
+    (ap (λ (k : ℕ). getD m k 0) (add-assoc a h i)))
+
+module _ (p : Plan) (a b : ℕ) where
+  placed-place : (c0 c1 c2 c3 : ℕ) → placeOf (placedAt a b p) c0 c1 c2 c3 ≡ b + placeOf p c0 c1 c2 c3
+  unfolding placeOf spotOf placedAt
+  placed-place c0 c1 c2 c3 = omega arith
+
+  placed-home : (c0 c1 c2 c3 : ℕ) → homeOf (placedAt a b p) c0 c1 c2 c3 ≡ a + homeOf p c0 c1 c2 c3
+  unfolding homeOf spotOf placedAt
+  placed-home c0 c1 c2 c3 = omega arith
+
+  placed-bytes : (m : List ℕ) (l c0 c1 c2 c3 : ℕ) → a + l ≤ length m → homeEnd p ≤ l
+      → planBytes (placedAt a b p) m c0 c1 c2 c3 ≡ planBytes p (partOf m a l) c0 c1 c2 c3
+  unfolding planBytes planKept placedAt
+  placed-bytes m l c0 c1 c2 c3 w e =
+      pick-same (planKept p c0 c1 c2 c3) (replicate (p .size) 0)
+      (λ k. rw (placed-home c0 c1 c2 c3) (run-within m a l (homeOf p c0 c1 c2 c3) (p .size) w (omega (arith, home-most p c0 c1 c2 c3 k))))
+
+  placed-put : (m x d y : List ℕ) (l c0 c1 c2 c3 : ℕ) → a + l ≤ length m → homeEnd p ≤ l → length x ≡ b → placeEnd p ≤ length d → Within p c0 c1 c2 c3
+      → putAt (placedAt a b p) m c0 c1 c2 c3 (x ++ (d ++ y)) ≡ x ++ (putAt p (partOf m a l) c0 c1 c2 c3 d ++ y)
+  unfolding putAt
+  placed-put m x d y l c0 c1 c2 c3 w e g f i =
+      let z = length-bytes p (partOf m a l) c0 c1 c2 c3 in
+      rw (placed-place c0 c1 c2 c3, placed-bytes m l c0 c1 c2 c3 w e, ← g)
+      (sets-middle (planBytes p (partOf m a l) c0 c1 c2 c3) x d y (placeOf p c0 c1 c2 c3) (omega (arith, place-most p c0 c1 c2 c3 i)))
+
+  module _ (h1 : 0 < p .d1 .extent) (h2 : 0 < p .d2 .extent) (h3 : 0 < p .d3 .extent) where
+    placed-moved : (m x d y : List ℕ) (l from n : ℕ) → a + l ≤ length m → homeEnd p ≤ l → length x ≡ b → placeEnd p ≤ length d → from + n ≤ planTotal p
+        → movedBy (placedAt a b p) m from n (x ++ (d ++ y)) ≡ x ++ (movedBy p (partOf m a l) from n d ++ y)
+    unfolding movedBy putNumber placedAt
+    placed-moved m x d y l from zero w e g f t = refl
+    placed-moved m x d y l from (suc n) w e g f t =
+        let q = from + n in
+        rw (placed-moved m x d y l from n w e g f (omega arith))
+        (placed-put m x (movedBy p (partOf m a l) from n d) y l (co0 p q) (co1 p q) (co2 p q) (co3 p q) w e g
+        (rw length-moved f) (spread-within p h1 h2 h3 q (omega arith)))
+
+    -- the move within a memory m, from its l bytes at a to its k bytes at b
+    pub moved-within : (m : List ℕ) (l k from n : ℕ) → a + l ≤ length m → b + k ≤ length m → homeEnd p ≤ l → placeEnd p ≤ k → from + n ≤ planTotal p
+        → movedBy (placedAt a b p) m from n m ≡ sets m b (movedBy p (partOf m a l) from n (partOf m b k))
+    moved-within m l k from n wa wb e f t =
+        let len : length (partOf m b k) ≡ k = length-take-le k (drop b m) (simp length-drop (omega arith)) in
+        let whole : m ≡ take b m ++ (partOf m b k ++ drop (b + k) m) =
+        sym (ap (λ (r : List ℕ). take b m ++ r) (ap (λ (r : List ℕ). partOf m b k ++ r) (sym (drop-drop k b m)) ∙ take-append-drop k (drop b m)) ∙ take-append-drop b m)
+        in
+        ap (λ (r : List ℕ). movedBy (placedAt a b p) m from n r) whole
+        ∙ placed-moved m (take b m) (partOf m b k) (drop (b + k) m) l from n wa e (length-take-le b m (omega arith)) (rw len f) t
+        ∙ sym (sets-eq (movedBy p (partOf m a l) from n (partOf m b k)) m b (rw (length-moved, len) (omega arith)) ∙ rw (length-moved, len, append-assoc))
+
+  placed-homeEnd : homeEnd (placedAt a b p) ≡ a + homeEnd p
+  unfolding homeEnd spotOf placedAt
+  placed-homeEnd = omega arith
+
+  placed-placeEnd : placeEnd (placedAt a b p) ≡ b + placeEnd p
+  unfolding placeEnd spotOf placedAt
+  placed-placeEnd = omega arith
+
+  -- what a move between the parts asks, and that they are apart, is what the move within the memory asks
+  pub placed-ready : (m none : List ℕ) (l k : ℕ) → a + l ≤ length m → b + k ≤ length m → Apart Inside a (a + l) b (b + k)
+      → Ready Lent p (partOf m a l) (partOf m b k) → Ready Inside (placedAt a b p) none m
+  unfolding placedAt
+  placed-ready m none l k wa wb u r =
+      let e = length-take-most l (drop a m) in
+      let f = length-take-most k (drop b m) in
+      let x = r .span in
+      let y = r .need in
+      record {
+        sized = r .sized;
+        some0 = r .some0;
+        some1 = r .some1;
+        some2 = r .some2;
+        some3 = r .some3;
+        span = omega (arith, placed-homeEnd);
+        need = omega (arith, placed-placeEnd);
+        apart = apart-part Inside u (omega arith) (omega (arith, placed-homeEnd)) (omega arith) (omega (arith, placed-placeEnd));
+      }
+
+  pub placed-fits : (m : List ℕ) (l k : ℕ) → a + l ≤ length m → b + k ≤ length m → Ready Lent p (partOf m a l) (partOf m b k)
+      → (a + p .home ≤ length m) × (b + p .base ≤ length m)
+  unfolding homeEnd placeEnd spotOf
+  placed-fits m l k wa wb r =
+      let x = r .span in
+      let y = r .need in
+      (omega (arith, length-take-most l (drop a m)), omega (arith, length-take-most k (drop b m)))
+
+  -- what the engine leaves of the memory is what the move between the parts leaves of the destination part
+  pub placed-written : (m e : List ℕ) (l k from budget r : ℕ) → a + l ≤ length m → b + k ≤ length m → Ready Lent p (partOf m a l) (partOf m b k) → from ≤ planTotal p
+      → r ≡ min budget (planTotal p - from) → e ≡ movedBy (placedAt a b p) m from r m
+      → e ≡ sets m b (movedBy p (partOf m a l) from r (partOf m b k))
+  placed-written m e l k from budget r wa wb g f n w =
+      let s = g .span in
+      let d = g .need in
+      w ∙ moved-within (g .some1) (g .some2) (g .some3) m l k from r wa wb
+      (omega (arith, length-take-most l (drop a m))) (omega (arith, length-take-most k (drop b m)))
+      (omega (arith, min-le-right budget (planTotal p - from)))
+
+-- what a step leaves of a memory: its own part is what was put there, a part that does not meet it is as it was, and what is put
+-- there next takes its place
+pub part-own : (m e : List ℕ) (b : ℕ) → b + length e ≤ length m → partOf (sets m b e) b (length e) ≡ e
+part-own m e b h =
+    rw (sets-eq e m b h, append-assoc, drop-at (take b m) (e ++ drop (b + length e) m) b (length-take-le b m (omega arith)))
+    (take-append-seam e (drop (b + length e) m))
+
+pub part-other : (m e : List ℕ) (b a l : ℕ) → (a + l ≤ b) ⊎ (b + length e ≤ a) → partOf (sets m b e) a l ≡ partOf m a l
+part-other m e b a l o =
+    run-same (sets m b e) m a l (length-sets m b e)
+    (λ k u v. getD-sets-out e m b k (⊎-elim (λ x. inl (omega arith)) (λ y. inr (omega arith)) o))
+
+set-sets : (vs l : List ℕ) (i j v : ℕ) → i < j → set (sets l j vs) i v ≡ sets (set l i v) j vs
+set-sets [] l i j v h = refl
+set-sets (a ∷ vs) l i j v h = set-sets vs (set l j a) i (suc j) v (omega arith) ∙ rw (set-comm l j i a v (λ e. omega arith))
+
+pub part-again : (m e f : List ℕ) (b : ℕ) → length e ≡ length f → sets (sets m b e) b f ≡ sets m b f
+part-again m [] [] b h = refl
+part-again m [] (y ∷ f) b h = absurd (omega arith)
+part-again m (x ∷ e) [] b h = absurd (omega arith)
+part-again m (x ∷ e) (y ∷ f) b h =
+    rw (set-sets e (set m b x) b (suc b) y (omega arith), set-set m b x y) (part-again (set m b y) e f (suc b) (omega arith))

@@ -1,0 +1,86 @@
+-- The elements of an accepted move stand apart, in the order of their numbers, because its strides fall inward. Assumes nothing.
+use Prim.Native.Nat.{ℕ, suc, _+_, _*_, _≤_, _<_}
+use native.Mathlib.Nat.{add-mul, suc-mul, mul-le-mul-right}
+use native.Mathlib.Decide.{decLt}
+use native.Mathlib.Omega.{arith}
+use mathlib.Core.Path.{_≡_, sym, ap, _∙_}
+use mathlib.Core.Logic.{_⊎_, inl, inr}
+use Rattle.plane.specs.declared.Tensor.{Tensor}
+use Rattle.plane.specs.declared.Config.{Config}
+use Rattle.plane.specs.Arrays.{at, sum}
+use Rattle.plane.specs.Planes.{resolved}
+use Rattle.plane.specs.Moves.{dstExtents, dstStrides}
+use Rattle.plane.proofs.Arrays.{firsts-at}
+use Rattle.plane.proofs.Good.{GoodSource, GoodConfig, GoodPlace}
+use Rattle.plane.proofs.Falling.{stride-positive, strides-fall}
+use Rattle.plane.proofs.Rules.{dst-extent}
+use Rattle.mover.specs.Element.{place}
+use Rattle.mover.specs.Moved.{extentAt, total, perStep, coordOf}
+use Rattle.mover.proofs.Keeping.{place-same}
+use Rattle.mover.proofs.Sums.{sum-add}
+use Rattle.mover.proofs.Numbers.{number, number-lt, number-digit, spots-apart}
+
+-- the number of the element at coordinates x
+unfoldable pub numberAt : Tensor → Config → (ℕ → ℕ) → ℕ
+numberAt t c x = number (t .rank) (extentAt t c) x
+
+module _ (t : Tensor) (c : Config) (x : ℕ → ℕ) (w : (i : ℕ) → i < t .rank → x i < extentAt t c i) where
+  pub numberAt-lt : numberAt t c x < total t c
+  unfolding numberAt total
+  numberAt-lt = number-lt (extentAt t c) x (t .rank) w
+
+  pub numberAt-coord : (i : ℕ) → i < t .rank → coordOf t c (numberAt t c x) i ≡ x i
+  unfolding numberAt coordOf perStep
+  numberAt-coord i h = number-digit (extentAt t c) x (t .rank) w i h
+
+module _ {t : Tensor} {c : Config} (g : GoodSource t) (k : GoodConfig t c) (p : GoodPlace t c) where
+  pub extent-some : (i : ℕ) → i < t .rank → 0 < extentAt t c i
+  extent-some i h = dst-extent k i (g .rank .1) h .0
+
+  stride-at : (i : ℕ) → i < t .rank → at (dstStrides t c) i ≡ resolved (t .rank) (at (dstExtents t c)) (at (c .«dst_stride»)) i
+  stride-at i h = firsts-at (t .rank) (resolved (t .rank) (at (dstExtents t c)) (at (c .«dst_stride»))) i (g .rank .1) h
+
+  pub stride-some : (i : ℕ) → i < t .rank → 1 ≤ at (dstStrides t c) i
+  stride-some i h = rw (stride-at i h) (stride-positive (t .rank) (at (dstExtents t c)) (at (c .«dst_stride»)) extent-some (p .strides) i h)
+
+  -- each destination stride is at least the next one's times its extent
+  pub stride-falls : (i : ℕ) → suc i < t .rank → at (dstStrides t c) (suc i) * extentAt t c (suc i) ≤ at (dstStrides t c) i
+  stride-falls i h =
+      rw (stride-at (suc i) h, stride-at i (omega arith))
+      (strides-fall (t .rank) (at (dstExtents t c)) (at (c .«dst_stride»)) extent-some (p .strides) i (suc i) (omega arith) h)
+
+  -- the offsets' part of a place, and the coordinates'
+  place-parts : (x : ℕ → ℕ) → place t c x ≡ sum (t .rank) (λ i. at (c .«dst_offset») i * at (dstStrides t c) i) + sum (t .rank) (λ i. x i * at (dstStrides t c) i)
+  unfolding place
+  place-parts x = sym (sum-add (t .rank) _ _ _ (λ i h. sym (add-mul (at (c .«dst_offset») i) (x i) (at (dstStrides t c) i))))
+
+  pub places-rise : (q r : ℕ) → q < r → r < total t c → place t c (coordOf t c q) < place t c (coordOf t c r)
+  unfolding total coordOf perStep
+  places-rise q r l m =
+      omega (
+        arith,
+        place-parts (coordOf t c q),
+        place-parts (coordOf t c r),
+        spots-apart (extentAt t c) (at (dstStrides t c)) (t .rank) (g .rank .0) extent-some stride-some stride-falls q r l m,
+      )
+
+  pub bytes-rise : (q r : ℕ) → q < r → r < total t c → place t c (coordOf t c q) * t .size + t .size ≤ place t c (coordOf t c r) * t .size
+  bytes-rise q r l m = rw suc-mul at (mul-le-mul-right (t .size) (places-rise q r l m))
+
+  module _ (x y : ℕ → ℕ) (a : (i : ℕ) → i < t .rank → x i < extentAt t c i) (b : (i : ℕ) → i < t .rank → y i < extentAt t c i) where
+    -- different coordinates have different numbers
+    number-differs : (i : ℕ) → i < t .rank → (x i ≡ y i → ⊥) → numberAt t c x ≡ numberAt t c y → ⊥
+    number-differs i h d e =
+        d (sym (numberAt-coord t c x a i h) ∙ ap (λ (q : ℕ). coordOf t c q i) e ∙ numberAt-coord t c y b i h)
+
+    -- so their bytes do not overlap
+    pub bytes-apart : (i : ℕ) → i < t .rank → (x i ≡ y i → ⊥) → (place t c x * t .size + t .size ≤ place t c y * t .size) ⊎ (place t c y * t .size + t .size ≤ place t c x * t .size)
+    bytes-apart i h d =
+        let p = place-same t c (coordOf t c (numberAt t c x)) x (numberAt-coord t c x a) in
+        let q = place-same t c (coordOf t c (numberAt t c y)) y (numberAt-coord t c y b) in
+        elim (decLt (numberAt t c x) (numberAt t c y)) [
+          | yes l ↦ inl (rw (p, q) at (bytes-rise (numberAt t c x) (numberAt t c y) l (numberAt-lt t c y b)))
+          | no l ↦
+              inr
+              (rw (p, q) at (bytes-rise (numberAt t c y) (numberAt t c x) (omega (arith, number-differs i h d)) (numberAt-lt t c x a)))
+        ]

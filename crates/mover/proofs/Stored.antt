@@ -1,0 +1,70 @@
+-- What `moved` leaves at each byte, for places that rise with the numbers. Assumes nothing.
+use Prim.Native.Nat.{ℕ, zero, suc, _+_, _*_, _≤_, _<_}
+use native.Mathlib.Nat.{add-zero, add-suc, suc-add, not-suc-le-zero, le-of-suc-le-suc, eq-or-lt-of-le}
+use native.Mathlib.Omega.{arith}
+use mathlib.Core.Path.{_≡_, refl, _∙_}
+use mathlib.Core.Logic.{_⊎_, ⊎-elim, inl, inr}
+use mathlib.Core.Bool.{Bool, true, false, cond}
+use mathlib.Core.List.{List, [], _∷_}
+use lib.ListN.{length, getD, set, take, drop, replicate, length-set, length-replicate}
+use lib.Seq.{sets, getD-set-same}
+use Rattle.plane.specs.declared.Tensor.{Tensor}
+use Rattle.plane.specs.declared.Config.{Config}
+use Rattle.mover.specs.Element.{areKept, sourcePlace, place, element}
+use Rattle.mover.specs.Moved.{total, coordOf, stored, moved}
+use Rattle.mover.proofs.Runs.{getD-sets-out, length-take-most}
+use Rattle.mover.proofs.Laws.{moved-length}
+
+-- the i-th of the bytes stored at a place
+sets-inside : (vs l : List ℕ) (at i : ℕ) → i < length vs → at + length vs ≤ length l → getD (sets l at vs) (at + i) 0 ≡ getD vs i 0
+sets-inside [] l at i h m = absurd (not-suc-le-zero h)
+sets-inside (v ∷ vs) l at zero h m =
+    rw add-zero (getD-sets-out vs (set l at v) (suc at) at (inl (omega arith)) ∙ getD-set-same l at v 0 (omega arith))
+sets-inside (v ∷ vs) l at (suc i) h m =
+    rw (add-suc, ← suc-add) (sets-inside vs (set l at v) (suc at) i (le-of-suc-le-suc h) (rw length-set (omega arith)))
+
+length-cond : (b : Bool) (z : ℕ) (l : List ℕ) → length (cond b (take z l) (replicate z 0)) ≤ z
+length-cond true z l = length-take-most z l
+length-cond false z l = rw length-replicate (omega arith)
+
+-- the byte at which element number q stands
+abbrev pub byteOf : Tensor → Config → ℕ → ℕ
+byteOf t c q = place t c (coordOf t c q) * t .size
+
+module _ (t : Tensor) (c : Config) (src : List ℕ) where
+  pub length-element : (x : ℕ → ℕ) → length (element t c src x) ≤ t .size
+  unfolding element
+  length-element x = length-cond (areKept t c x) (t .size) (drop (sourcePlace t c x * t .size) src)
+
+  -- a byte that belongs to none of the elements is as it was
+  pub moved-elsewhere : (from n : ℕ) (dst : List ℕ) (k : ℕ) → ((q : ℕ) → q < n → (k < byteOf t c (from + q)) ⊎ (byteOf t c (from + q) + t .size ≤ k)) → getD (moved t c src from n dst) k 0 ≡ getD dst k 0
+  unfolding moved stored
+  moved-elsewhere from zero dst k h = refl
+  moved-elsewhere from (suc n) dst k h =
+      let x = coordOf t c (from + n) in
+      let l = length-element x in
+      getD-sets-out (element t c src x) (moved t c src from n dst) (byteOf t c (from + n)) k
+      (⊎-elim (λ u. inl u) (λ v. inr (omega arith)) (h n (omega arith))) ∙
+      moved-elsewhere from n dst k (λ r g. h r (omega arith))
+
+  -- every element moved has its bytes, where each ends before the next begins, and in the destination
+  module _ (rise : (q r : ℕ) → q < r → r < total t c → byteOf t c q + t .size ≤ byteOf t c r) where
+    pub moved-element : (from n : ℕ) (dst : List ℕ) (q i : ℕ) → ((r : ℕ) → r < total t c → byteOf t c r + t .size ≤ length dst) → from + n ≤ total t c → q < n → i < length (element t c src (coordOf t c (from + q))) →
+        getD (moved t c src from n dst) (byteOf t c (from + q) + i) 0 ≡ getD (element t c src (coordOf t c (from + q))) i 0
+    unfolding moved stored
+    moved-element from zero dst q i e m l b = absurd (not-suc-le-zero l)
+    moved-element from (suc n) dst q i e m l b =
+        let r = from + n in
+        let z = length-element (coordOf t c r) in
+        let y = length-element (coordOf t c (from + q)) in
+        let w = e r (omega arith) in
+        ⊎-elim
+        (λ (last : q ≡ n).
+        rw last
+        (sets-inside (element t c src (coordOf t c r)) (moved t c src from n dst) (byteOf t c r) i (rw last at b)
+        (rw moved-length (omega arith))))
+        (λ (before : q < n).
+        getD-sets-out (element t c src (coordOf t c r)) (moved t c src from n dst) (byteOf t c r) (byteOf t c (from + q) + i)
+        (inl (omega (arith, rise (from + q) r (omega arith) (omega arith)))) ∙
+        moved-element from n dst q i e (omega arith) before b)
+        (eq-or-lt-of-le (le-of-suc-le-suc l))

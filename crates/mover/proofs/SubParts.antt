@@ -1,0 +1,43 @@
+-- Laws of the part of a source at which a sub-tensor starts. Assumes nothing.
+use Prim.Native.Nat.{ℕ, _+_, _-_, _≤_}
+use native.Mathlib.Omega.{arith}
+use mathlib.Core.Path.{_≡_, refl, sym, ap, ap₂, _∙_}
+use mathlib.Core.List.{List, []}
+use lib.ListN.{length, take, drop, length-drop}
+use lib.Seq.{take-length}
+use Rattle.plane.specs.declared.Tensor.{Tensor}
+use Rattle.plane.specs.declared.SubConfig.{SubConfig}
+use Rattle.plane.specs.declared.SubTensor.{SubTensor}
+use Rattle.plane.specs.Planes.{span}
+use Rattle.plane.specs.Helpers.{subFault, subOf, subByte, subTensorOf}
+use Rattle.plane.proofs.Faults.{unless-fault, unless-none}
+use Rattle.plane.proofs.SubAnswers.{sub-status}
+use Rattle.plane.proofs.SubTensors.{sub-taken, sub-given, sub-fits}
+use Rattle.mover.specs.SubPart.{subPart}
+
+module _ (t : Tensor) (s : SubConfig) (src : List ℕ) {r : SubTensor} (e : r ≡ subTensorOf t s (length src)) where
+  pub part-refused : (r .status ≡ 0 → ⊥) → take (length src - length src) (drop (length src) src) ≡ subPart t s src
+  unfolding subPart subTensorOf
+  part-refused h =
+      let z : length src - length src ≡ 0 = omega arith in
+      ap (λ (k : ℕ). take k (drop (length src) src)) z ∙
+      sym (unless-fault (subFault t s (length src)) [] (drop (subByte t s) src)
+      (λ y. h (ap (λ (x : SubTensor). x .status) e ∙ sub-status (subFault t s (length src)) (subOf t s) (subByte t s) ∙ y)))
+
+  module _ (z : r .status ≡ 0) where
+    its-status : subTensorOf t s (length src) .status ≡ 0
+    its-status = sym (ap (λ (x : SubTensor). x .status) e) ∙ z
+
+    pub part-within : r .byte ≤ length src
+    part-within =
+        let f = sub-fits t s (length src) its-status in
+        let b = ap (λ (x : SubTensor). x .byte) e in
+        omega arith
+
+    pub part-given : take (length src - r .byte) (drop (r .byte) src) ≡ subPart t s src
+    unfolding subPart
+    part-given =
+        let b = ap (λ (x : SubTensor). x .byte) (e ∙ sub-given t s (length src) its-status) in
+        ap (λ (k : ℕ). take k (drop (r .byte) src)) (sym (length-drop (r .byte) src)) ∙ take-length (drop (r .byte) src) ∙
+        ap (λ (k : ℕ). drop k src) b ∙
+        sym (unless-none (subFault t s (length src)) [] (drop (subByte t s) src) (sub-taken t s (length src) its-status))

@@ -1,0 +1,47 @@
+-- `mover::plan::axis_of` reads one dimension of the plan. Assumes nothing.
+use Prim.Native.Nat.{_+_, _≤_, _<_}
+use native.Mathlib.Omega.{arith}
+use borrow.Author.Needs.{needs}
+use Rattle.plane.specs.Arrays.{at}
+use Rattle.mover.specs.Element.{dimOf}
+use Rattle.mover.proofs.plan.axis_of.Statement.{statement}
+use Rattle.mover.proofs.plan.axis_of.Tie as tie
+
+-- the source dimension is one of the four
+dim : (c : tie.Start) → dimOf (c .args .t1) (c .args .i) < 4
+dim c = c .pre .0 .dim (c .args .i) (c .pre .1)
+
+-- the padding is no more than the extent
+padding : (c : tie.Start) → at (c .args .t1 .pre) (dimOf (c .args .t1) (c .args .i)) + at (c .args .t1 .post) (dimOf (c .args .t1) (c .args .i)) ≤ at (c .args .t2 .extent) (c .args .i)
+padding c = c .pre .0 .padding (c .args .i) (c .pre .1)
+
+small : (c : tie.Start) → at (c .args .t2 .extent) (c .args .i) ≤ 65535
+small c = c .pre .0 .extent (c .args .i) (c .pre .1)
+
+returns : tie.Need-returns
+returns c = rw (c .times .ensures .0)
+
+pub axis-of-spec : {M : Type 1} → statement M
+axis-of-spec =
+    tie.close
+    (tie.spec
+    (λ c. search needs)
+    (λ c. search needs)
+    (λ c. search needs)
+    (λ c. search needs)
+    (λ c. search needs)
+    (λ c. search needs)
+    (λ c. search needs)
+    (λ c. search needs)
+    (λ c. dim (c .before .before .before))
+    (λ c. search needs)
+    (λ c. dim (c .before .before .before .before))
+    (λ c. let s = c .before .before .before .before .before in omega (arith, padding s, small s))
+    (λ c. let s = c .before .before .before .before .before in omega (arith, padding s))
+    (λ c. let s = c .before .before .before .before .before in omega (arith, padding s))
+    (λ c. omega (arith, dim (c .before .before .before .before .before)))
+    (λ c. dim (c .before .before .before .before .before))
+    (λ c. omega (arith, dim (c .before .before .before .before .before)))
+    (λ c. dim (c .before .before .before .before .before))
+    (λ c κs. search needs)
+    returns)

@@ -1,0 +1,56 @@
+-- `mover::plan::home_of` sums offset times stride over the dimensions. Assumes nothing.
+use Prim.Native.Nat.{ℕ, _-_, _*_, _≤_, _<_}
+use native.Mathlib.Omega.{arith}
+use borrow.Author.Needs.{needs}
+use Rattle.plane.specs.Arrays.{at}
+use Rattle.plane.proofs.Arrays.{Summed, summed-start, summed-more, summed-end}
+use Rattle.mover.specs.Element.{dimOf}
+use Rattle.mover.proofs.Making.{bytes-fit}
+use Rattle.mover.proofs.plan.home_of.Statement.{statement}
+use Rattle.mover.proofs.plan.home_of.Tie as tie
+
+-- a term is at most this
+abbrev most : ℕ
+most = 65535 * 4294967295
+
+abbrev Inv-loop : tie.InvT-loop
+Inv-loop a c strides total₀ i₀ i-end total i =
+    Summed (a .rank) (λ (k : ℕ). at (c .offset) (dimOf c k) * at strides (dimOf c k)) most total i
+
+abbrev μ-loop : tie.MeasureT-loop
+μ-loop a c strides total₀ i₀ i-end total i = a .rank - i
+
+-- the source dimension is one of the four
+dim : (c : tie.In-loop Inv-loop μ-loop) → dimOf (c .before .before .args .t1) (c .before .loop .i) < 4
+dim c = c .before .before .pre .dim (c .before .loop .i) (c .loop-test .taken)
+
+small : (c : tie.After-times Inv-loop μ-loop) → c .times .result ≤ most
+small c =
+    let l = c .before .before .before in
+    omega (arith, l .before .before .pre .offset (l .before .loop .i) (l .loop-test .taken), c .times .ensures .1)
+
+add-total : tie.Need-add-total Inv-loop μ-loop
+add-total c =
+    let l = c .before .before .before .before in
+    omega (arith, small c, l .loop .inv .most, l .loop .inv .within, l .before .pre .rank)
+
+loop-again : tie.Need-loop-again Inv-loop μ-loop
+loop-again c =
+    let l = c .before .before .before in
+    summed-more (l .before .loop .inv) (l .loop-test .taken) (c .times .ensures .0) (small c)
+
+mul-result : tie.Need-mul-result Inv-loop μ-loop
+mul-result c =
+    let s = c .before .before .before .pre in
+    let e = summed-end (c .before .before .loop .inv) (c .before .loop-test .left) in
+    omega (arith, bytes-fit _ _ _ (s .rank) (s .size) (e .1))
+
+returns : tie.Need-returns Inv-loop μ-loop
+returns c = rw (summed-end (c .before .before .loop .inv) (c .before .loop-test .left) .0)
+
+pub home-of-spec : {M : Type 1} → statement M
+home-of-spec =
+    tie.close
+    (tie.spec Inv-loop μ-loop (λ c. summed-start) (λ c. search needs) (λ c. search needs) (λ c. search needs)
+    (λ c. omega (arith, dim (c .before))) (λ c. dim (c .before)) (λ c. omega (arith, dim (c .before .before))) (λ c. dim (c .before .before))
+    (λ c κs. search needs) add-total (λ c. search needs) (λ c. search needs) loop-again (λ c. search needs) mul-result returns)

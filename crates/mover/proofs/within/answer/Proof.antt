@@ -1,0 +1,67 @@
+-- `mover::within::answer` answers a job by the first rule that refuses it, else as its move does. Assumes nothing.
+use mathlib.Core.Path.{_≡_, sym, _∙_}
+use mathlib.Core.Bool.{false}
+use borrow.Author.Needs.{needs}
+use Rattle.mover.specs.Within.{leaves}
+use Rattle.mover.proofs.Judged.{source-leaves, target-leaves, move-refused, parts-meet, job-given}
+use Rattle.mover.proofs.within.answer.Statement.{statement}
+use Rattle.mover.proofs.within.answer.Tie as tie
+
+returns : tie.Need-returns
+returns c =
+    let l = c .before .before in
+    let a = l .before .args in
+    source-leaves (a .len) (a .job) (sym (l .leaves .ensures) ∙ c .before .if1 .taken) (c .refused .ensures)
+
+returns-2 : tie.Need-returns-2
+returns-2 c =
+    let l = c .before .before in
+    let a = l .before .before .before .args in
+    target-leaves (a .len) (a .job) (sym (l .leaves2 .ensures) ∙ c .before .if2 .taken) (c .refused2 .ensures)
+
+-- neither part leaves the memory
+stays : (c : tie.Else2) → let a = c .before .before .before .before .args in (leaves (a .len) (a .job .source) ≡ false) × (leaves (a .len) (a .job .target) ≡ false)
+stays c =
+    let i = c .before .before in
+    (sym (i .before .leaves .ensures) ∙ i .if1 .left, sym (c .before .leaves2 .ensures) ∙ c .if2 .left)
+
+returns-3 : tie.Need-returns-3
+returns-3 c =
+    let j = c .before .before in
+    let i = j .before in
+    let a = i .before .before .before .before .args in
+    move-refused (a .len) (a .job) (stays i .0) (stays i .1) (j .judge .ensures) (c .if3 .taken)
+
+returns-4 : tie.Need-returns-4
+returns-4 c =
+    let m = c .before .before in
+    let j = m .before .before .before in
+    let i = j .before in
+    let a = i .before .before .before .before .args in
+    parts-meet (a .len) (a .job) (stays i .0) (stays i .1) (j .judge .ensures) (m .before .if3 .left)
+    (sym (m .meets .ensures) ∙ c .before .if4 .taken) (c .refused3 .ensures)
+
+returns-5 : tie.Need-returns-5
+returns-5 c =
+    let m = c .before in
+    let j = m .before .before .before in
+    let i = j .before in
+    let a = i .before .before .before .before .args in
+    job-given (a .len) (a .job) (stays i .0) (stays i .1) (j .judge .ensures) (m .before .if3 .left) (sym (m .meets .ensures) ∙ c .if4 .left)
+
+pub answer-spec : {M : Type 1} → statement M
+answer-spec =
+    tie.close
+    (tie.spec
+    (λ c κs. search needs)
+    (λ c κs. search needs)
+    returns
+    (λ c κs. search needs)
+    (λ c κs. search needs)
+    returns-2
+    (λ c κs. search needs)
+    returns-3
+    (λ c κs. stays (c .before .before .before))
+    (λ c κs. search needs)
+    returns-4
+    returns-5)

@@ -1,0 +1,46 @@
+-- One destination element: the coordinates are a function x of the destination dimension i, which is source dimension perm i.
+use Prim.Native.Nat.{ℕ, zero, suc, _+_, _-_, _*_}
+use mathlib.Core.Bool.{Bool, true, cond, _&&_}
+use mathlib.Core.List.{List}
+use lib.Dec.{leb, ltb}
+use lib.ListN.{take, drop, replicate}
+use Rattle.plane.specs.declared.Tensor.{Tensor}
+use Rattle.plane.specs.declared.Config.{Config}
+use Rattle.plane.specs.Arrays.{at, sum}
+use Rattle.plane.specs.Planes.{srcStrides}
+use Rattle.plane.specs.Moves.{count, dstStrides}
+
+-- whether p holds of each of 0, 1, .., n - 1
+unfoldable pub every : ℕ → (ℕ → Bool) → Bool
+every zero p = true
+every (suc k) p = every k p && p k
+
+abbrev pub dimOf : Config → ℕ → ℕ
+dimOf c i = at (c .perm) i
+
+-- k = c[i] - pre[s]
+abbrev pub kOf : Config → ℕ → ℕ → ℕ
+kOf c i x = x - at (c .pre) (dimOf c i)
+
+-- k is from 0 to count - 1
+unfoldable pub isKept : Tensor → Config → ℕ → ℕ → Bool
+isKept t c i x = leb (at (c .pre) (dimOf c i)) x && ltb (kOf c i x) (count t c (dimOf c i))
+
+-- every k is
+unfoldable pub areKept : Tensor → Config → (ℕ → ℕ) → Bool
+areKept t c x = every (t .rank) (λ i. isKept t c i (x i))
+
+-- the source element at offset + k x step in each dimension, in elements
+unfoldable pub sourcePlace : Tensor → Config → (ℕ → ℕ) → ℕ
+sourcePlace t c x =
+    sum (t .rank)
+    (λ i. (at (c .offset) (dimOf c i) + kOf c i (x i) * at (c .step) (dimOf c i)) * at (srcStrides t) (dimOf c i))
+
+-- the place of the destination element: the sum of (destination offset + c) x stride, in elements
+unfoldable pub place : Tensor → Config → (ℕ → ℕ) → ℕ
+place t c x = sum (t .rank) (λ i. (at (c .«dst_offset») i + x i) * at (dstStrides t c) i)
+
+-- its bytes: the source element's, else all 0
+unfoldable pub element : Tensor → Config → List ℕ → (ℕ → ℕ) → List ℕ
+element t c src x =
+    cond (areKept t c x) (take (t .size) (drop (sourcePlace t c x * t .size) src)) (replicate (t .size) 0)

@@ -1,0 +1,197 @@
+-- What the contracts of private functions cite: a move as the engine wants it. No reader of a public contract needs this file.
+use mathlib.Core.Logic.{_⊎_}
+use mathlib.Core.Bool.{Bool, cond, _&&_}
+use mathlib.Core.List.{List}
+use Prim.Native.Nat.{ℕ, zero, suc, _+_, _-_, _*_, _/_, _%_, _≤_, _<_}
+use lib.Dec.{leb, ltb}
+use lib.ListN.{length, take, drop, replicate}
+use lib.Seq.{sets}
+use Rattle.plane.specs.declared.Tensor.{Tensor}
+use Rattle.plane.specs.declared.Config.{Config}
+use Rattle.plane.specs.declared.Answer.{Answer}
+use Rattle.plane.specs.Arrays.{at, sum}
+use Rattle.plane.specs.Planes.{srcStrides}
+use Rattle.plane.specs.Moves.{count, dstExtents, dstStrides}
+use Rattle.mover.specs.declared.plan.Axis.{Axis}
+use Rattle.mover.specs.declared.plan.Plan.{Plan}
+use Rattle.mover.specs.declared.engine.Origin.{Origin}
+use Rattle.mover.specs.declared.engine.Origin.the-variants.{Lent, Inside}
+use Rattle.mover.specs.Element.{dimOf}
+
+-- ---- the plan of an accepted move
+
+-- destination dimension i
+abbrev pub axisOf : Tensor → Config → ℕ → Axis
+axisOf t c i = record {
+  extent = at (dstExtents t c) i;
+  pre = at (c .pre) (dimOf c i);
+  count = count t c (dimOf c i);
+  jump = at (srcStrides t) (dimOf c i) * at (c .step) (dimOf c i);
+  stride = at (dstStrides t c) i;
+}
+
+-- a dimension that the rank lacks: one element, as far on as all of the plane
+abbrev pub lone : Tensor → Config → Axis
+lone t c = record { extent = 1; pre = 0; count = 1; jump = 0; stride = at (dstStrides t c) 0 * at (dstExtents t c) 0 }
+
+-- axis j of four: those that the rank lacks stand first
+abbrev pub axisAt : Tensor → Config → ℕ → Axis
+axisAt t c j = cond (ltb j (4 - t .rank)) (lone t c) (axisOf t c (j - (4 - t .rank)))
+
+unfoldable pub planOf : Tensor → Config → Plan
+planOf t c = record {
+  size = t .size;
+  home = sum (t .rank) (λ i. at (c .offset) (dimOf c i) * at (srcStrides t) (dimOf c i)) * t .size;
+  base = sum (t .rank) (λ i. at (c .«dst_offset») i * at (dstStrides t c) i) * t .size;
+  d0 = axisAt t c 0;
+  d1 = axisAt t c 1;
+  d2 = axisAt t c 2;
+  d3 = axisAt t c 3;
+}
+
+-- the same as the code makes it, from the configuration, the move's answer and the source's resolved strides: what the padding
+-- leaves of an extent is kept
+abbrev pub axisMade : Config → Answer → List ℕ → ℕ → Axis
+axisMade c a strides i = record {
+  extent = at (a .extent) i;
+  pre = at (c .pre) (dimOf c i);
+  count = at (a .extent) i - at (c .pre) (dimOf c i) - at (c .post) (dimOf c i);
+  jump = at strides (dimOf c i) * at (c .step) (dimOf c i);
+  stride = at (a .stride) i;
+}
+
+abbrev pub loneMade : Answer → Axis
+loneMade a = record { extent = 1; pre = 0; count = 1; jump = 0; stride = at (a .stride) 0 * at (a .extent) 0 }
+
+-- what acceptance tells of the configuration c and the answer a
+pub record Fit (c : Config) (a : Answer) : Type 0 where
+  pub rank : a .rank ≤ 4
+  pub size : a .size ≤ 4
+  pub dim : (i : ℕ) → i < a .rank → dimOf c i < 4
+  pub offset : (i : ℕ) → i < a .rank → at (c .offset) (dimOf c i) ≤ 65535
+  pub place : (i : ℕ) → i < a .rank → at (c .«dst_offset») i ≤ 65535
+  pub extent : (i : ℕ) → i < a .rank → at (a .extent) i ≤ 65535
+  pub padding : (i : ℕ) → i < a .rank → at (c .pre) (dimOf c i) + at (c .post) (dimOf c i) ≤ at (a .extent) i
+
+-- ---- what the engine writes, by four coordinates
+
+-- the source's bytes: those lent for reading, or the destination's own as they were
+abbrev pub sourceOf : Origin → List ℕ → List ℕ → List ℕ
+sourceOf Lent s d = s
+sourceOf Inside s d = d
+
+-- a destination coordinate c has k = c - pre; it is kept if k is from 0 to count - 1
+unfoldable pub axisKept : Axis → ℕ → Bool
+axisKept x c = leb (x .pre) c && ltb (c - x .pre) (x .count)
+
+unfoldable pub planKept : Plan → ℕ → ℕ → ℕ → ℕ → Bool
+planKept p c0 c1 c2 c3 = axisKept (p .d0) c0 && axisKept (p .d1) c1 && axisKept (p .d2) c2 && axisKept (p .d3) c3
+
+abbrev pub sum4 : ℕ → ℕ → ℕ → ℕ → ℕ → ℕ → ℕ → ℕ → ℕ
+sum4 k0 t0 k1 t1 k2 t2 k3 t3 = k0 * t0 + k1 * t1 + k2 * t2 + k3 * t3
+
+unfoldable pub spotOf : ℕ → ℕ → ℕ → ℕ → ℕ → ℕ → ℕ → ℕ → ℕ → ℕ → ℕ
+spotOf base size k0 t0 k1 t1 k2 t2 k3 t3 = base + sum4 k0 t0 k1 t1 k2 t2 k3 t3 * size
+
+-- the byte of the destination element at the coordinates: (sum of c x stride) x size, from the base
+unfoldable pub placeOf : Plan → ℕ → ℕ → ℕ → ℕ → ℕ
+placeOf p c0 c1 c2 c3 =
+    spotOf (p .base) (p .size) c0 (p .d0 .stride) c1 (p .d1 .stride) c2 (p .d2 .stride) c3 (p .d3 .stride)
+
+-- the byte of the source element for them: (sum of k x jump) x size, from the home
+unfoldable pub homeOf : Plan → ℕ → ℕ → ℕ → ℕ → ℕ
+homeOf p c0 c1 c2 c3 =
+    spotOf (p .home) (p .size)
+    (c0 - p .d0 .pre) (p .d0 .jump) (c1 - p .d1 .pre) (p .d1 .jump)
+    (c2 - p .d2 .pre) (p .d2 .jump) (c3 - p .d3 .pre) (p .d3 .jump)
+
+-- the element's bytes: the source's if every coordinate is kept, else zeros
+unfoldable pub planBytes : Plan → List ℕ → ℕ → ℕ → ℕ → ℕ → List ℕ
+planBytes p s c0 c1 c2 c3 =
+    cond (planKept p c0 c1 c2 c3) (take (p .size) (drop (homeOf p c0 c1 c2 c3) s)) (replicate (p .size) 0)
+
+-- the destination d with the element at the coordinates stored
+unfoldable pub putAt : Plan → List ℕ → ℕ → ℕ → ℕ → ℕ → List ℕ → List ℕ
+putAt p s c0 c1 c2 c3 d = sets d (placeOf p c0 c1 c2 c3) (planBytes p s c0 c1 c2 c3)
+
+unfoldable pub planTotal : Plan → ℕ
+planTotal p = p .d0 .extent * p .d1 .extent * p .d2 .extent * p .d3 .extent
+
+-- the coordinates of destination element number q: the last coordinate is the fastest
+abbrev pub co3 : Plan → ℕ → ℕ
+co3 p q = q % p .d3 .extent
+
+abbrev pub co2 : Plan → ℕ → ℕ
+co2 p q = q / p .d3 .extent % p .d2 .extent
+
+abbrev pub co1 : Plan → ℕ → ℕ
+co1 p q = q / p .d3 .extent / p .d2 .extent % p .d1 .extent
+
+abbrev pub co0 : Plan → ℕ → ℕ
+co0 p q = q / p .d3 .extent / p .d2 .extent / p .d1 .extent
+
+-- the destination d with element number q stored
+unfoldable pub putNumber : Plan → List ℕ → ℕ → List ℕ → List ℕ
+putNumber p s q d = putAt p s (co0 p q) (co1 p q) (co2 p q) (co3 p q) d
+
+-- the destination d with the n elements from number `from` on stored, in order
+unfoldable pub movedBy : Plan → List ℕ → ℕ → ℕ → List ℕ → List ℕ
+movedBy p s from zero d = d
+movedBy p s from (suc n) d = putNumber p s (from + n) (movedBy p s from n d)
+
+-- ---- a move within one memory
+
+-- the l bytes of m from a on. (`sets m b e` is m with the bytes from b on replaced by e.)
+abbrev pub partOf : List ℕ → ℕ → ℕ → List ℕ
+partOf m a l = take l (drop a m)
+
+-- the plan of a move between parts of one memory that start at a and b
+unfoldable pub placedAt : ℕ → ℕ → Plan → Plan
+placedAt a b p =
+    record {
+      size = p .size;
+      home = a + p .home;
+      base = b + p .base;
+      d0 = p .d0;
+      d1 = p .d1;
+      d2 = p .d2;
+      d3 = p .d3;
+    }
+
+-- ---- what the checks establish
+
+-- past the last byte of a source element that can be kept, and of a destination element
+unfoldable pub homeEnd : Plan → ℕ
+homeEnd p =
+    spotOf (p .home) (p .size)
+    (p .d0 .count - 1) (p .d0 .jump) (p .d1 .count - 1) (p .d1 .jump)
+    (p .d2 .count - 1) (p .d2 .jump) (p .d3 .count - 1) (p .d3 .jump)
+    + p .size
+
+unfoldable pub placeEnd : Plan → ℕ
+placeEnd p =
+    spotOf (p .base) (p .size)
+    (p .d0 .extent - 1) (p .d0 .stride) (p .d1 .extent - 1) (p .d1 .stride)
+    (p .d2 .extent - 1) (p .d2 .stride) (p .d3 .extent - 1) (p .d3 .stride)
+    + p .size
+
+-- two runs of bytes, a to a' and b to b', of one memory share none
+abbrev pub Apart : Origin → ℕ → ℕ → ℕ → ℕ → Type 0
+Apart Lent a a' b b' = Unit
+Apart Inside a a' b b' = (a' ≤ b) ⊎ (b' ≤ a)
+
+pub record Ready (o : Origin) (p : Plan) (s d : List ℕ) : Type 0 where
+  pub sized : 0 < p .size
+  pub some0 : 0 < p .d0 .extent
+  pub some1 : 0 < p .d1 .extent
+  pub some2 : 0 < p .d2 .extent
+  pub some3 : 0 < p .d3 .extent
+  pub span : homeEnd p ≤ length (sourceOf o s d)
+  pub need : placeEnd p ≤ length d
+  pub apart : Apart o (p .home) (homeEnd p) (p .base) (placeEnd p)
+
+pub record Within (p : Plan) (c0 c1 c2 c3 : ℕ) : Type 0 where
+  pub in0 : c0 < p .d0 .extent
+  pub in1 : c1 < p .d1 .extent
+  pub in2 : c2 < p .d2 .extent
+  pub in3 : c3 < p .d3 .extent

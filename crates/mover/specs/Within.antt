@@ -1,0 +1,64 @@
+-- A move between two parts of one memory.
+use Prim.Native.Nat.{ℕ, _+_, _-_, min, max}
+use mathlib.Core.Bool.{Bool, _||_}
+use mathlib.Core.List.{List}
+use lib.Dec.{ltb}
+use lib.ListN.{length, take, drop}
+use lib.Seq.{sets}
+use Rattle.plane.specs.declared.Fault.{Fault}
+use Rattle.plane.specs.Faults.{when, _orElse_, unless}
+use Rattle.plane.specs.Moves.{moveFault}
+use Rattle.mover.specs.declared.Part.{Part}
+use Rattle.mover.specs.declared.Job.{Job}
+use Rattle.mover.specs.declared.Verdict.{Verdict}
+use Rattle.mover.specs.declared.Advanced.{Advanced}
+use Rattle.mover.specs.Moved.{total, moved}
+
+-- 20: a part leaves a memory of n bytes
+abbrev pub leaves : ℕ → Part → Bool
+leaves n p = ltb n (p .start) || ltb (n - p .start) (p .length)
+
+-- two parts share a byte: the later start lies before the earlier end
+abbrev pub meets : Part → Part → Bool
+meets p q = ltb (max (p .start) (q .start)) (min (p .start + p .length) (q .start + q .length))
+
+-- 20, 1 to 13, 21
+unfoldable pub jobFault : ℕ → Job → Fault
+jobFault n j =
+    when 20 0 (leaves n (j .source) || leaves n (j .target)) orElse
+    moveFault (j .tensor) (j .config) (j .source .length) (j .target .length) orElse
+    when 21 0 (meets (j .source) (j .target))
+
+abbrev pub totalOf : Job → ℕ
+totalOf j = total (j .tensor) (j .config)
+
+unfoldable pub verdictOf : ℕ → Job → Verdict
+verdictOf n j = record {
+  status = jobFault n j .status;
+  dim = jobFault n j .dim;
+  total = unless (jobFault n j) 0 (totalOf j);
+}
+
+-- the bytes of a part
+abbrev pub bytesOf : Part → List ℕ → List ℕ
+bytesOf p m = take (p .length) (drop (p .start) m)
+
+-- the memory with n elements of the job moved, those from number `from` on
+unfoldable pub advancedBy : Job → ℕ → ℕ → List ℕ → List ℕ
+advancedBy j from n m =
+    sets m (j .target .start) (moved (j .tensor) (j .config) (bytesOf (j .source) m) from n (bytesOf (j .target) m))
+
+-- how many are moved: the budget, or what is left
+abbrev pub advance : Job → ℕ → ℕ → ℕ
+advance j from budget = min budget (totalOf j - from)
+
+unfoldable pub advanceOf : Job → ℕ → ℕ → List ℕ → Advanced
+advanceOf j from budget m = record {
+  status = jobFault (length m) j .status;
+  dim = jobFault (length m) j .dim;
+  count = unless (jobFault (length m) j) 0 (advance j from budget);
+}
+
+unfoldable pub advanceMemory : Job → ℕ → ℕ → List ℕ → List ℕ
+advanceMemory j from budget m =
+    unless (jobFault (length m) j) m (advancedBy j from (advance j from budget) m)

@@ -1,0 +1,44 @@
+// The mover: an accepted move puts into each destination element the source element or the padding zero that the record names,
+// and changes no other byte. Between two lent slices, or between two parts of one memory, from any element on.
+
+mod plan; // an accepted move as the engine wants it
+mod engine; // the loops over four destination coordinates
+mod moves; // a whole move between two lent slices
+mod within; // a move between two parts of one memory, a stretch at a time
+mod sub; // the part of a lent source at which a sub-tensor starts
+
+pub use moves::move_plane;
+pub use plane::Answer;
+pub use plane::Config;
+pub use plane::Tensor;
+pub use sub::sub_part;
+pub use within::advance;
+pub use within::judge_job;
+
+// A part of a memory: length bytes from the byte start on.
+pub struct Part {
+    pub start: u64,
+    pub length: u64,
+}
+
+// A move between two parts of one memory.
+pub struct Job {
+    pub source: Part,
+    pub target: Part,
+    pub tensor: Tensor,
+    pub config: Config,
+}
+
+// What a job comes to over a memory: a number of refusal with its dimension, or how many elements there are to move.
+pub struct Verdict {
+    pub status: u8,
+    pub dim: u8,
+    pub total: u64,
+}
+
+// How many elements were moved.
+pub struct Advanced {
+    pub status: u8,
+    pub dim: u8,
+    pub count: u64,
+}
