@@ -1,9 +1,10 @@
-# make show: what is proved so far. make test: the gate.
+# make show: the main job on an example. make test: the gate.
 .PHONY: show test kit
 
 show: kit
-	@rt check
-	@sed -n '/^## What is proved/,/^## /p' docs/PROOFS.md | sed '$$d'
+	@rt check rmvshow >/dev/null || { rt check rmvshow; exit 1; }
+	@echo "\$$ rmvshow < samples/turn.rmv"
+	@scripts/run rmvshow < samples/turn.rmv
 
 test:
 	@bash .ci/run

@@ -1,0 +1,107 @@
+-- What read and write come to where a test in code stops them, and where none does. Assumes nothing.
+use Prim.Native.Nat.{ℕ}
+use native.Mathlib.Decide.{ℕ-discrete}
+use native.Mathlib.Omega.{arith}
+use mathlib.Core.Path.{_≡_, refl, sym, ap, ap₂, _∙_}
+use mathlib.Core.Bool.{Bool, true, false, not}
+use mathlib.Core.List.{List}
+use borrow.Author.Tests.{eq-eqb, ne-eqb}
+use lib.ListN.{length}
+use lib.Seq.{sets}
+use Rattle.plane.specs.declared.Tensor.{Tensor}
+use Rattle.plane.specs.declared.Config.{Config}
+use Rattle.plane.specs.declared.Fault.{Fault}
+use Rattle.plane.specs.Faults.{fault}
+use Rattle.plane.proofs.Faults.{status, is-fault, given, spared, unless-fault, unless-none}
+use Rattle.record.specs.declared.Reading.{Reading}
+use Rattle.record.specs.Layout.{recordLength}
+use Rattle.record.specs.Records.{tensorIn, configIn, recordBytes, badLength, badMark, badVersion, fieldsFault, readFault, writeFault, refused, accepted, readOf, writtenRoom}
+use Rattle.record.specs.Private.{tensorBytes, configBytes}
+use Rattle.record.proofs.Laying.{record-laid}
+
+pub length-bad : (n : ℕ) → (n ≡ recordLength → ⊥) → badLength n ≡ true
+length-bad n h = ap not (ne-eqb n recordLength h)
+
+pub length-good : (n : ℕ) → n ≡ recordLength → badLength n ≡ false
+length-good n h = ap not (eq-eqb n recordLength h)
+
+-- ---- read
+
+module _ (bs : List ℕ) where
+  pub read-25 : (length bs ≡ recordLength → ⊥) → readFault bs ≡ fault 25 0
+  unfolding readFault
+  read-25 l = given 25 0 _ _ (omega arith) (length-bad _ l)
+
+  pub read-26 : length bs ≡ recordLength → badMark bs ≡ true → readFault bs ≡ fault 26 0
+  unfolding readFault
+  read-26 l m = spared 25 0 _ _ (length-good _ l) ∙ given 26 0 _ _ (omega arith) m
+
+  pub read-27 : length bs ≡ recordLength → badMark bs ≡ false → badVersion bs ≡ true → readFault bs ≡ fault 27 0
+  unfolding readFault
+  read-27 l m v = spared 25 0 _ _ (length-good _ l) ∙ spared 26 0 _ _ m ∙ given 27 0 _ _ (omega arith) v
+
+  pub read-fields : length bs ≡ recordLength → badMark bs ≡ false → badVersion bs ≡ false → readFault bs ≡ fieldsFault (tensorIn bs) (configIn bs)
+  unfolding readFault
+  read-fields l m v = spared 25 0 _ _ (length-good _ l) ∙ spared 26 0 _ _ m ∙ spared 27 0 _ _ v
+
+  pub read-refused : {f : Fault} {r : Reading} → readFault bs ≡ f → (f .status ≡ 0 → ⊥) → r ≡ refused f → r ≡ readOf bs
+  unfolding readOf
+  read-refused e h q =
+      q ∙ ap refused (sym e) ∙ sym (unless-fault (readFault bs) (refused (readFault bs)) (accepted (tensorIn bs) (configIn bs)) (λ z. h (sym (status e) ∙ z)))
+
+  pub read-given : readFault bs .status ≡ 0 → readOf bs ≡ accepted (tensorIn bs) (configIn bs)
+  unfolding readOf
+  read-given z = unless-none (readFault bs) (refused (readFault bs)) (accepted (tensorIn bs) (configIn bs)) z
+
+  -- an answer's number is its fault's
+  pub read-status : readOf bs .status ≡ readFault bs .status
+  unfolding readOf
+  read-status = elim (ℕ-discrete (readFault bs .status) 0) [
+    | yes z ↦ ap (λ (r : Reading). r .status) (unless-none (readFault bs) (refused (readFault bs)) (accepted (tensorIn bs) (configIn bs)) z) ∙ sym z
+    | no z ↦ ap (λ (r : Reading). r .status) (unless-fault (readFault bs) (refused (readFault bs)) (accepted (tensorIn bs) (configIn bs)) z)
+  ]
+
+  -- as the code comes to it: the fields read, and then judged
+  module _ {t : Tensor} {c : Config} {f : Fault} (te : t ≡ tensorIn bs) (ce : c ≡ configIn bs) (fe : f ≡ fieldsFault t c) (l : length bs ≡ recordLength) (m : badMark bs ≡ false) (v : badVersion bs ≡ false) where
+    read-judged : readFault bs ≡ f
+    read-judged = read-fields l m v ∙ ap₂ fieldsFault (sym te) (sym ce) ∙ sym fe
+
+    pub fields-refused : {r : Reading} → (f .status ≡ 0 → ⊥) → r ≡ refused f → r ≡ readOf bs
+    fields-refused h q = read-refused read-judged h q
+
+    pub fields-given : f .status ≡ 0 → accepted t c ≡ readOf bs
+    fields-given z = ap₂ accepted te ce ∙ sym (read-given (status read-judged ∙ z))
+
+-- ---- write
+
+module _ (t : Tensor) (c : Config) where
+  pub write-25 : (n : ℕ) → (n ≡ recordLength → ⊥) → writeFault t c n ≡ fault 25 0
+  unfolding writeFault
+  write-25 n l = given 25 0 _ _ (omega arith) (length-bad n l)
+
+  pub write-fields : (n : ℕ) → n ≡ recordLength → writeFault t c n ≡ fieldsFault t c
+  unfolding writeFault
+  write-fields n l = spared 25 0 _ _ (length-good n l)
+
+  module _ (room : List ℕ) where
+    pub room-kept : (writeFault t c (length room) .status ≡ 0 → ⊥) → writtenRoom t c room ≡ room
+    unfolding writtenRoom
+    room-kept h = unless-fault (writeFault t c (length room)) room (recordBytes t c) h
+
+    pub room-written : writeFault t c (length room) .status ≡ 0 → writtenRoom t c room ≡ recordBytes t c
+    unfolding writtenRoom
+    room-written z = unless-none (writeFault t c (length room)) room (recordBytes t c) z
+
+    -- as the code comes to it
+    pub write-short : (length room ≡ recordLength → ⊥) → (fault 25 0 ≡ writeFault t c (length room)) × (room ≡ writtenRoom t c room)
+    write-short l = let e = write-25 (length room) l in (sym e, sym (room-kept (is-fault 25 0 (omega arith) e)))
+
+    module _ {f : Fault} (l : length room ≡ recordLength) (fe : f ≡ fieldsFault t c) where
+      write-judged : f ≡ writeFault t c (length room)
+      write-judged = fe ∙ sym (write-fields (length room) l)
+
+      pub write-refused : (f .status ≡ 0 → ⊥) → (f ≡ writeFault t c (length room)) × (room ≡ writtenRoom t c room)
+      write-refused h = (write-judged, sym (room-kept (λ z. h (status write-judged ∙ z))))
+
+      pub write-given : {a b : List ℕ} → f .status ≡ 0 → a ≡ sets room 0 (tensorBytes t) → b ≡ sets a 39 (configBytes c) → (f ≡ writeFault t c (length room)) × (b ≡ writtenRoom t c room)
+      write-given z ea eb = (write-judged, record-laid t c room l ea eb ∙ sym (room-written (sym (status write-judged) ∙ z)))

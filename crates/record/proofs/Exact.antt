@@ -1,0 +1,87 @@
+-- Each refusal in its exact case and order, as in plane's file of this name. The lists below are the paper's numbers in the paper's
+-- order; an answer has number 0 exactly if every rule of its list is kept, and a number at a dimension exactly if that rule is
+-- broken there, at no dimension before, and every earlier rule is kept. A refused reading is zeros besides, a refused write
+-- leaves the room as it was. Assumes nothing.
+use Prim.Native.Nat.{ℕ}
+use native.Mathlib.Decide.{ℕ-discrete}
+use native.Mathlib.Omega.{arith}
+use mathlib.Core.Path.{_≡_, refl, sym, ap, _∙_}
+use mathlib.Core.List.{List, [], _∷_}
+use lib.ListN.{length}
+use Rattle.plane.specs.declared.Tensor.{Tensor}
+use Rattle.plane.specs.declared.Config.{Config}
+use Rattle.plane.specs.declared.Fault.{Fault}
+use Rattle.plane.specs.Faults.{none, fault, when}
+use Rattle.plane.specs.Planes.{badRank}
+use Rattle.plane.proofs.Faults.{status, or-path, or-clear, or-none, when-clear, when-good, lowest-clear}
+use Rattle.plane.proofs.Chains.{Rule, whole, upward, Positive, chain, Exact, exact, or-last, whole-is}
+use Rattle.record.specs.declared.Reading.{Reading}
+use Rattle.record.specs.Records.{tensorIn, configIn, badLength, badMark, badVersion, stray, fieldsFault, readFault, writeFault, refused, readOf, writtenRoom}
+use Rattle.record.proofs.Strays.{none-stray}
+use Rattle.record.proofs.Answers.{read-refused, read-status, room-kept}
+
+-- ---- the rules of each call, in the paper's order
+
+abbrev pub fieldsRules : Tensor → Config → List Rule
+fieldsRules t c = whole 1 (badRank (t .rank)) ∷ upward 28 4 (stray t c) ∷ []
+
+abbrev pub readRules : List ℕ → List Rule
+readRules bs =
+    whole 25 (badLength (length bs)) ∷
+    whole 26 (badMark bs) ∷
+    whole 27 (badVersion bs) ∷
+    fieldsRules (tensorIn bs) (configIn bs)
+
+abbrev pub writeRules : Tensor → Config → ℕ → List Rule
+writeRules t c n = whole 25 (badLength n) ∷ fieldsRules t c
+
+-- ---- the calls are held to their lists
+
+fields-chain : (t : Tensor) (c : Config) → fieldsFault t c ≡ chain (fieldsRules t c)
+unfolding fieldsFault chain
+fields-chain t c = or-path (whole-is 1 _) (sym (or-last (upward 28 4 (stray t c)) (omega arith)))
+
+read-chain : (bs : List ℕ) → readFault bs ≡ chain (readRules bs)
+unfolding readFault chain
+read-chain bs = or-path (whole-is 25 _) (or-path (whole-is 26 _) (or-path (whole-is 27 _) (fields-chain (tensorIn bs) (configIn bs))))
+
+write-chain : (t : Tensor) (c : Config) (n : ℕ) → writeFault t c n ≡ chain (writeRules t c n)
+unfolding writeFault chain
+write-chain t c n = or-path (whole-is 25 _) (fields-chain t c)
+
+-- every number is above 0
+
+positive-read : (bs : List ℕ) → Positive (readRules bs)
+positive-read bs = omega arith
+
+positive-write : (t : Tensor) (c : Config) (n : ℕ) → Positive (writeRules t c n)
+positive-write t c n = omega arith
+
+-- ---- the theorems
+
+module _ (bs : List ℕ) where
+  pub read-zeros : (readOf bs .status ≡ 0 → ⊥) → readOf bs ≡ refused (fault (readOf bs .status) (readOf bs .dim))
+  read-zeros h =
+      let e = sym (read-refused bs refl (λ z. h (read-status bs ∙ z)) refl) in
+      e ∙ ap (λ (r : Reading). refused (fault (r .status) (r .dim))) (sym e)
+
+  pub read-exact : Exact (readRules bs) (readOf bs .status) (readOf bs .dim)
+  read-exact =
+      exact (readRules bs) (positive-read bs) (readFault bs) (read-chain bs) (read-status bs)
+      (λ h. ap (λ (r : Reading). r .dim) (sym (read-refused bs {f = readFault bs} refl h refl)))
+
+module _ (t : Tensor) (c : Config) where
+  pub write-exact : (n : ℕ) → Exact (writeRules t c n) (writeFault t c n .status) (writeFault t c n .dim)
+  write-exact n = exact (writeRules t c n) (positive-write t c n) (writeFault t c n) (write-chain t c n) refl (λ h. refl)
+
+  -- an accepted write names no dimension
+  pub write-none : (n : ℕ) → writeFault t c n .status ≡ 0 → writeFault t c n ≡ none
+  unfolding writeFault fieldsFault
+  write-none n z =
+      let x = or-clear (when 25 0 (badLength n)) _ z in
+      let y = or-clear (when 1 0 (badRank (t .rank))) _ (x .1) in
+      or-none _ _ (x .0) ∙ or-none _ _ (y .0) ∙ none-stray t c (y .1)
+
+  -- a refused write changes no byte
+  pub write-kept : (room : List ℕ) → (writeFault t c (length room) .status ≡ 0 → ⊥) → writtenRoom t c room ≡ room
+  write-kept room h = room-kept t c room h

@@ -1,0 +1,10 @@
+-- Theorems to read first: Decided (no two outcomes), Exact (each refusal in its case and order), RoundTrip (there and back).
+pub mod Decided
+pub mod Exact
+pub mod RoundTrip
+-- Laws over plain values, which the functions' proofs cite.
+pub mod Parts
+pub mod Digits
+pub mod Strays
+pub mod Laying
+pub mod Answers

@@ -1,0 +1,5 @@
+-- What a reader must believe: Layout is the table of the bytes, Records is read and write. Private holds what only private
+-- functions cite.
+pub mod Layout
+pub mod Records
+pub mod Private

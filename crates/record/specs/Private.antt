@@ -1,0 +1,17 @@
+-- What the contracts of private functions cite. No reader of a public contract needs this file.
+use Prim.Native.Nat.{ℕ}
+use mathlib.Core.List.{List, _++_}
+use Rattle.plane.specs.declared.Tensor.{Tensor}
+use Rattle.plane.specs.declared.Config.{Config}
+use Rattle.record.specs.Layout.{headBytes, fourBytes}
+
+-- the record's bytes up to the end of the strides
+unfoldable pub tensorBytes : Tensor → List ℕ
+tensorBytes t = headBytes (t .rank) (t .size) ++ fourBytes 4 (t .shape) ++ fourBytes 4 (t .stride)
+
+-- and from there on
+unfoldable pub configBytes : Config → List ℕ
+configBytes c =
+    fourBytes 4 (c .offset) ++ fourBytes 4 (c .size) ++ fourBytes 4 (c .step) ++
+    fourBytes 4 (c .«dst_offset») ++ fourBytes 4 (c .«dst_stride») ++
+    fourBytes 1 (c .perm) ++ fourBytes 1 (c .pre) ++ fourBytes 1 (c .post)

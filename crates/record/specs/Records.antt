@@ -1,0 +1,81 @@
+-- The move record: what reading bytes answers, and what writing a tensor record and a configuration does.
+use Prim.Native.Nat.{ℕ}
+use mathlib.Core.Bool.{Bool, not, _&&_}
+use mathlib.Core.List.{List, [], _∷_, _++_}
+use lib.Dec.{leb, eqb}
+use lib.ListN.{length}
+use Rattle.plane.specs.declared.Tensor.{Tensor}
+use Rattle.plane.specs.declared.Config.{Config}
+use Rattle.plane.specs.declared.Fault.{Fault}
+use Rattle.plane.specs.Arrays.{at, some}
+use Rattle.plane.specs.Faults.{when, _orElse_, lowest, unless}
+use Rattle.plane.specs.Planes.{badRank}
+use Rattle.plane.specs.ReadyMade.{configOf, allZero}
+use Rattle.plane.specs.Helpers.{noTensor}
+use Rattle.record.specs.declared.Reading.{Reading}
+use Rattle.record.specs.Layout.{joined, recordLength, mark, theVersion, versionIn, rankIn, sizeIn, headBytes, groupCount, group, width, start, fourIn, fourBytes}
+
+-- ---- The fields that bytes hold, and the bytes of fields
+
+abbrev pub groupIn : List ℕ → ℕ → List ℕ
+groupIn bs k = fourIn (start k) (width k) bs
+
+unfoldable pub tensorIn : List ℕ → Tensor
+tensorIn bs = record { rank = rankIn bs; size = sizeIn bs; shape = groupIn bs 0; stride = groupIn bs 1 }
+
+unfoldable pub configIn : List ℕ → Config
+configIn bs =
+    configOf (groupIn bs 2) (groupIn bs 3) (groupIn bs 4) (groupIn bs 5) (groupIn bs 6)
+    (groupIn bs 7) (groupIn bs 8) (groupIn bs 9)
+
+-- the first seven bytes, and then the groups
+unfoldable pub recordBytes : Tensor → Config → List ℕ
+recordBytes t c = headBytes (t .rank) (t .size) ++ joined groupCount (λ k. fourBytes (width k) (group t c k))
+
+-- ---- The numbers of refusal
+
+-- 25
+abbrev pub badLength : ℕ → Bool
+badLength n = not (eqb n recordLength)
+
+-- 26
+abbrev pub badMark : List ℕ → Bool
+badMark bs = some 3 (λ k. not (eqb (at bs k) (at mark k)))
+
+-- 27
+abbrev pub badVersion : List ℕ → Bool
+badVersion bs = not (eqb (versionIn bs) theVersion)
+
+-- 28: d is at or past the rank, and some group has an entry there that is not 0
+unfoldable pub stray : Tensor → Config → ℕ → Bool
+stray t c d = leb (t .rank) d && some groupCount (λ k. not (eqb (at (group t c k) d) 0))
+
+-- 1 and 28, which read and write share
+unfoldable pub fieldsFault : Tensor → Config → Fault
+fieldsFault t c = when 1 0 (badRank (t .rank)) orElse lowest 28 4 (stray t c)
+
+unfoldable pub readFault : List ℕ → Fault
+readFault bs =
+    when 25 0 (badLength (length bs)) orElse
+    when 26 0 (badMark bs) orElse
+    when 27 0 (badVersion bs) orElse
+    fieldsFault (tensorIn bs) (configIn bs)
+
+-- for a room of n bytes
+unfoldable pub writeFault : Tensor → Config → ℕ → Fault
+writeFault t c n = when 25 0 (badLength n) orElse fieldsFault t c
+
+-- ---- The answers
+
+abbrev pub refused : Fault → Reading
+refused f = record { status = f .status; dim = f .dim; tensor = noTensor; config = allZero }
+
+abbrev pub accepted : Tensor → Config → Reading
+accepted t c = record { status = 0; dim = 0; tensor = t; config = c }
+
+unfoldable pub readOf : List ℕ → Reading
+readOf bs = unless (readFault bs) (refused (readFault bs)) (accepted (tensorIn bs) (configIn bs))
+
+-- a write answers its fault, and leaves a refused room as it was
+unfoldable pub writtenRoom : Tensor → Config → List ℕ → List ℕ
+writtenRoom t c room = unless (writeFault t c (length room)) room (recordBytes t c)

@@ -1,0 +1,21 @@
+// The move record: a tensor record and a configuration as 131 bytes, read and written. No call here asks anything of its
+// caller or sets memory aside.
+
+mod layout; // where each field stands
+mod numbers; // groups of four numbers, to and from bytes
+mod checks; // 1 and 28, which reading and writing share
+mod reader;
+mod writer;
+
+use plane::Config;
+use plane::Tensor;
+pub use reader::read;
+pub use writer::write;
+
+// What bytes hold: status 0 with the fields, or a number of refusal with its dimension and zeros besides.
+pub struct Reading {
+    pub status: u8,
+    pub dim: u8,
+    pub tensor: Tensor,
+    pub config: Config,
+}

@@ -1,0 +1,28 @@
+use Prim.Native.Nat.{ℕ, _≤_, _-_}
+use mathlib.Core.Path.{_≡_, sym}
+use lib.Seq.{length-take-le}
+use native.Mathlib.Omega.{arith}
+use borrow.Author.Needs.{needs}
+use lib.ListN.{length}
+use Rattle.rmvshow.proofs.lines.row.Statement.{statement}
+use Rattle.rmvshow.proofs.lines.row.Tie as tie
+
+abbrev Inv-loop : tie.InvT-loop
+Inv-loop fd bytes is-last text₀ n i₀ text i = (i ≤ length bytes) × (length text ≡ 768)
+
+abbrev μ-loop : tie.MeasureT-loop
+μ-loop fd bytes is-last text₀ n i₀ text i = length bytes - i
+
+slice-aggregate-write-all : tie.Need-slice-aggregate-write-all Inv-loop μ-loop
+slice-aggregate-write-all c =
+    let l = c .before .before .loop .inv .1 in
+    let p = c .before .before .before .before .pre in
+    sym (length-take-le _ _ (omega arith))
+
+pub row-spec : {M : Type 1} → statement M
+row-spec =
+    tie.close
+    (tie.spec Inv-loop μ-loop (λ c. search needs) (λ c. search needs) (λ c κs. search needs) (λ c. search needs) (λ c. search needs)
+    (λ c. search needs) (λ c κs. search needs) (λ c. search needs) (λ c. search needs) (λ c. search needs) (λ c. search needs)
+    (λ c. search needs) (λ c. search needs) (λ c. search needs) (λ c. search needs) (λ c. search needs) (λ c. search needs)
+    (λ c. search needs) (λ c. search needs) slice-aggregate-write-all (λ c κs. search needs) (λ c. search needs))

@@ -1,0 +1,32 @@
+// rmvshow: reads one move record and then its source from standard input, moves, and shows what came out.
+use libc::STDIN_FILENO;
+use libc::STDOUT_FILENO;
+use plane::Answer;
+
+mod lines; // what is printed
+
+// The answer of the move that a record asks for, over zeros.
+fn moved(bytes: &[u8], source: &[u8], room: &mut [u8]) -> Answer {
+    let r = record::read(bytes);
+    if r.status != 0 {
+        return lines::refused(r.status, r.dim);
+    }
+    let t = r.tensor;
+    let c = r.config;
+    mover::move_plane(t, c, source, room)
+}
+
+// What follows the record is the source, up to 16,384 bytes; the rest is not read. An input that ends within the record is
+// refused as a record.
+fn main() {
+    let mut bytes = [0u8; 131];
+    let mut source = [0u8; 16384];
+    let mut room = [0u8; 32768];
+    let n = io::read_full(STDIN_FILENO, &mut bytes);
+    let m = io::read_full(STDIN_FILENO, &mut source);
+    let a = moved(&bytes[..n], &source[..m], &mut room);
+    lines::answer(STDOUT_FILENO, a);
+    if a.status == 0 {
+        lines::bytes(STDOUT_FILENO, &room, a.need);
+    }
+}
