@@ -1,7 +1,8 @@
--- Theorems to read first: Demand2 (what an accepted move leaves), Decided (no two outcomes), Slices (a sub-tensor copied is a slice),
+-- Theorems to read first: Demand2 (what an accepted move leaves), Decided (no two outcomes), Exact (refusals), Slices (a sub-tensor copied is a slice),
 -- Laws (what the layer above may use), Examples.
 pub mod Demand2
 pub mod Decided
+pub mod Exact
 pub mod Slices
 pub mod Laws
 pub mod Examples

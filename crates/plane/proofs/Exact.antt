@@ -16,9 +16,9 @@ use Rattle.plane.specs.declared.Fault.{Fault}
 use Rattle.plane.specs.declared.Answer.{Answer}
 use Rattle.plane.specs.declared.Count.{Count}
 use Rattle.plane.specs.declared.SubTensor.{SubTensor}
-use Rattle.plane.specs.Arrays.{at, howMany}
+use Rattle.plane.specs.Arrays.{at, zeros, howMany}
 use Rattle.plane.specs.Faults.{fault}
-use Rattle.plane.specs.Planes.{badRank, badElement, badShape, shapeAt, strideAt, strideBad, span, sourceFault}
+use Rattle.plane.specs.Planes.{badRank, badElement, badShape, shapeAt, strideAt, strideBad, srcStrides, span, sourceFault, sourceOf}
 use Rattle.plane.specs.Moves.{extent, dstExtents, dstStrides, need, permBad, badOffset, badSize, badStep, badExtent, badDstOffset, configFault, placeFault, moveFault, roomFault, refused, answerOf, judgeOf, roomOf}
 use Rattle.plane.specs.Helpers.{elements, countFault, noCount, countAnswer, countOf, isUnit, excess, badSubSize, rankFault, subFault, subOf, subByte, noSub, subAnswer, subTensorOf}
 use Rattle.plane.proofs.Faults.{or-path, unless-fault, unless-none}
@@ -79,7 +79,7 @@ subRules t s srcLen =
 
 -- ---- the calls are held to their lists
 
-source-chain : (t : Tensor) → sourceFault t ≡ chain (sourceRules t)
+pub source-chain : (t : Tensor) → sourceFault t ≡ chain (sourceRules t)
 unfolding sourceFault chain
 source-chain t =
     or-path (whole-is 1 _) (or-path (whole-is 2 _) (or-path refl (sym (or-last (outside 4 (t .rank) (strideBad (t .rank) (shapeAt t) (strideAt t))) (omega arith)))))
@@ -94,7 +94,7 @@ unfolding placeFault chain
 place-chain t c =
     or-path refl (sym (or-last (upward 12 (t .rank) (λ i. badDstOffset (at (dstStrides t c) i) (at (c .«dst_offset») i))) (omega arith)))
 
-move-chain : (t : Tensor) (c : Config) (srcLen dstLen : ℕ) → moveFault t c srcLen dstLen ≡ chain (moveRules t c srcLen dstLen)
+pub move-chain : (t : Tensor) (c : Config) (srcLen dstLen : ℕ) → moveFault t c srcLen dstLen ≡ chain (moveRules t c srcLen dstLen)
 unfolding moveFault
 move-chain t c srcLen dstLen =
     let room = whole 13 (ltb dstLen (need t c)) ∷ [] in
@@ -126,7 +126,10 @@ sub-chain t s srcLen =
 
 -- every number is above 0
 
-positive-move : (t : Tensor) (c : Config) (srcLen dstLen : ℕ) → Positive (moveRules t c srcLen dstLen)
+positive-source : (t : Tensor) → Positive (sourceRules t)
+positive-source t = omega arith
+
+pub positive-move : (t : Tensor) (c : Config) (srcLen dstLen : ℕ) → Positive (moveRules t c srcLen dstLen)
 positive-move t c srcLen dstLen = omega arith
 
 positive-room : (t : Tensor) (c : Config) → Positive (roomRules t c)
@@ -161,6 +164,18 @@ unfolding subAnswer
 sub-dim f t x z = ap (λ (s : SubTensor). s .dim) (unless-fault f (noSub f) (record { status = 0; dim = 0; tensor = t; byte = x }) z)
 
 -- ---- the theorems: what each call that refuses answers is exact, and besides number and dimension it is zeros
+
+module _ (t : Tensor) where
+  pub source-exact : Exact (sourceRules t) (sourceOf t .fault .status) (sourceOf t .fault .dim)
+  unfolding sourceOf
+  source-exact = exact (sourceRules t) (positive-source t) (sourceFault t) (source-chain t) refl (λ h. refl)
+
+  pub source-zeros : (sourceOf t .fault .status ≡ 0 → ⊥) → sourceOf t ≡ record { fault = sourceOf t .fault; stride = zeros; span = 0 }
+  unfolding sourceOf
+  source-zeros h =
+      let l = unless-fault (sourceFault t) zeros (srcStrides t) h in
+      let s = unless-fault (sourceFault t) 0 (span t) h in
+      λ i. record { fault = sourceFault t; stride = l i; span = s i }
 
 module _ (t : Tensor) (c : Config) where
   pub judge-exact : (srcLen dstLen : ℕ) → Exact (moveRules t c srcLen dstLen) (judgeOf t c srcLen dstLen .status) (judgeOf t c srcLen dstLen .dim)

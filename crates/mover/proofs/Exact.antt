@@ -1,0 +1,51 @@
+-- Each refusal of a move inside one memory in its exact case and order: 20, then those of a move, then 21. Assumes nothing.
+use Prim.Native.Nat.{ℕ}
+use native.Mathlib.Omega.{arith}
+use mathlib.Core.Path.{_≡_, refl}
+use mathlib.Core.Bool.{_||_}
+use mathlib.Core.List.{List, [], _∷_, _++_}
+use lib.ListN.{length}
+use Rattle.plane.specs.Faults.{fault}
+use Rattle.plane.proofs.Faults.{unless-fault}
+use Rattle.plane.proofs.Chains.{Rule, whole, Positive, chain, Exact, exact, join, one-chain}
+use Rattle.plane.proofs.Exact.{moveRules, positive-move, move-chain}
+use Rattle.mover.specs.declared.Job.{Job}
+use Rattle.mover.specs.declared.Verdict.{Verdict}
+use Rattle.mover.specs.declared.Advanced.{Advanced}
+use Rattle.mover.specs.Within.{leaves, meets, jobFault, totalOf, verdictOf, advance, advanceOf}
+
+abbrev pub jobRules : ℕ → Job → List Rule
+jobRules n j =
+    whole 20 (leaves n (j .source) || leaves n (j .target)) ∷
+    moveRules (j .tensor) (j .config) (j .source .length) (j .target .length) ++
+    (whole 21 (meets (j .source) (j .target)) ∷ [])
+
+positive-job : (n : ℕ) (j : Job) → Positive (jobRules n j)
+positive-job n j = omega arith
+
+job-chain : (n : ℕ) (j : Job) → jobFault n j ≡ chain (jobRules n j)
+unfolding jobFault
+job-chain n j =
+    let first = whole 20 (leaves n (j .source) || leaves n (j .target)) ∷ [] in
+    let last = whole 21 (meets (j .source) (j .target)) ∷ [] in
+    let rules = moveRules (j .tensor) (j .config) (j .source .length) (j .target .length) in
+    join first (rules ++ last) (one-chain 20 _ (omega arith))
+    (join rules last (move-chain (j .tensor) (j .config) (j .source .length) (j .target .length)) (one-chain 21 _ (omega arith)))
+
+module _ (n : ℕ) (j : Job) where
+  pub job-exact : Exact (jobRules n j) (verdictOf n j .status) (verdictOf n j .dim)
+  unfolding verdictOf
+  job-exact = exact (jobRules n j) (positive-job n j) (jobFault n j) (job-chain n j) refl (λ h. refl)
+
+  pub job-zeros : (verdictOf n j .status ≡ 0 → ⊥) → verdictOf n j .total ≡ 0
+  unfolding verdictOf
+  job-zeros h = unless-fault (jobFault n j) 0 (totalOf j) h
+
+module _ (j : Job) (from budget : ℕ) (m : List ℕ) where
+  pub advance-exact : Exact (jobRules (length m) j) (advanceOf j from budget m .status) (advanceOf j from budget m .dim)
+  unfolding advanceOf
+  advance-exact = exact (jobRules (length m) j) (positive-job (length m) j) (jobFault (length m) j) (job-chain (length m) j) refl (λ h. refl)
+
+  pub advance-zeros : (advanceOf j from budget m .status ≡ 0 → ⊥) → advanceOf j from budget m .count ≡ 0
+  unfolding advanceOf
+  advance-zeros h = unless-fault (jobFault (length m) j) 0 (advance j from budget) h
