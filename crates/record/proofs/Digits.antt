@@ -2,13 +2,13 @@
 use Prim.Native.Nat.{ℕ, zero, suc, _+_, _*_, _/_, _%_, _^_, _≤_, _<_}
 use native.Mathlib.Nat.{div-lt-iff-lt-mul, pow-suc}
 use native.Mathlib.Omega.{arith}
-use mathlib.Core.Path.{_≡_, refl, sym, ap, ap₂, subst, _∙_}
+use mathlib.Core.Path.{_≡_, refl, sym, ap, ap₂, _∙_}
 use mathlib.Core.List.{List, [], _∷_, _++_}
-use lib.ListN.{length, getD, take, drop}
+use lib.ListN.{length, take, drop}
 use lib.Seq.{sets, getD-drop}
-use Rattle.plane.specs.Arrays.{at, table}
+use Rattle.plane.specs.Arrays.{at}
 use Rattle.record.specs.Layout.{little, number, part, joined, fourIn, fourBytes}
-use Rattle.record.proofs.Parts.{part-cons, length-joined, sum-const, Stored, stored-next}
+use Rattle.record.proofs.Parts.{part-cons, length-joined, sum-const, stored-next}
 
 -- every entry is a byte; past the end it is 0
 abbrev pub Bytes : List ℕ → Type 0

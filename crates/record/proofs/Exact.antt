@@ -3,17 +3,15 @@
 -- broken there, at no dimension before, and every earlier rule is kept. A refused reading is zeros besides, a refused write
 -- leaves the room as it was. Assumes nothing.
 use Prim.Native.Nat.{ℕ}
-use native.Mathlib.Decide.{ℕ-discrete}
 use native.Mathlib.Omega.{arith}
 use mathlib.Core.Path.{_≡_, refl, sym, ap, _∙_}
 use mathlib.Core.List.{List, [], _∷_}
 use lib.ListN.{length}
 use Rattle.plane.specs.declared.Tensor.{Tensor}
 use Rattle.plane.specs.declared.Config.{Config}
-use Rattle.plane.specs.declared.Fault.{Fault}
 use Rattle.plane.specs.Faults.{none, fault, when}
 use Rattle.plane.specs.Planes.{badRank}
-use Rattle.plane.proofs.Faults.{status, or-path, or-clear, or-none, when-clear, when-good, lowest-clear}
+use Rattle.plane.proofs.Faults.{or-path, or-clear, or-none}
 use Rattle.plane.proofs.Chains.{Rule, whole, upward, Positive, chain, Exact, exact, or-last, whole-is}
 use Rattle.record.specs.declared.Reading.{Reading}
 use Rattle.record.specs.Records.{tensorIn, configIn, badLength, badMark, badVersion, stray, fieldsFault, readFault, writeFault, refused, readOf, writtenRoom}

@@ -1,13 +1,13 @@
 -- Laws of lists: parts of a list, lists one after the other (`specs/Layout.antt`), and runs of stores. Assumes nothing.
 use Prim.Native.Nat.{ℕ, zero, suc, _+_, _*_, _≤_, _<_}
-use native.Mathlib.Nat.{not-suc-le-zero, le-of-suc-le-suc, eq-or-lt-of-le, add-zero, add-suc, suc-add}
+use native.Mathlib.Nat.{not-suc-le-zero, le-of-suc-le-suc, eq-or-lt-of-le}
 use native.Mathlib.Numerals.{add-one}
 use native.Mathlib.Omega.{arith}
 use mathlib.Core.Path.{_≡_, refl, sym, ap, ap₂, subst, _∙_}
 use mathlib.Core.Logic.{⊎-elim}
 use mathlib.Core.List.{List, [], _∷_, _++_, append-nil}
-use lib.ListN.{length, getD, take, drop, length-append, length-drop, drop-of-length-le}
-use lib.Seq.{sets, sets-eq, length-take-le, take-all, take-nil, drop-nil, drop-cons, take-append-le, drop-append-le, drop-append-add, drop-at, take-take, take-add, drop-drop}
+use lib.ListN.{length, take, drop, length-append, length-drop, drop-of-length-le}
+use lib.Seq.{sets, sets-eq, length-take-le, take-all, drop-cons, take-append-le, drop-append-le, drop-append-add, drop-at, take-take, take-add, drop-drop}
 use Rattle.plane.specs.Arrays.{at, sum}
 use Rattle.record.specs.Layout.{part, joined}
 

@@ -1,29 +1,29 @@
 -- What is written reads back to the same fields, and what is read and accepted writes back to the same bytes. So equal fields and
 -- equal bytes go together, and accepted bytes are the writing of exactly one tensor record and configuration. Assumes nothing.
 use Prim.Native.Nat.{ℕ, zero, suc, _+_, _*_, _^_, _≤_, _<_}
-use native.Mathlib.Nat.{not-suc-le-zero, le-of-suc-le-suc}
+use native.Mathlib.Nat.{not-suc-le-zero}
 use native.Mathlib.Decide.{ℕ-discrete}
 use native.Mathlib.Omega.{arith}
 use mathlib.Core.Path.{_≡_, refl, sym, ap, ap₂, subst, _∙_}
 use mathlib.Core.Logic.{_⊎_, inl, inr, _↔_}
-use mathlib.Core.Bool.{Bool, true, false, not}
+use mathlib.Core.Bool.{true, false}
 use mathlib.Core.List.{List, [], _∷_, _++_}
 use borrow.Author.Tests.{eqb-true, ltb-true, not-false}
-use lib.Dec.{ltb, eqb}
-use lib.ListN.{length, getD, take, drop}
+use lib.Dec.{ltb}
+use lib.ListN.{length, getD}
 use lib.Seq.{take-all, take-add}
 use Rattle.plane.specs.declared.Tensor.{Tensor}
 use Rattle.plane.specs.declared.Config.{Config}
-use Rattle.plane.specs.Arrays.{at, table, sum, some}
+use Rattle.plane.specs.Arrays.{at, sum, some}
 use Rattle.plane.specs.Faults.{when}
 use Rattle.plane.specs.ReadyMade.{configOf}
 use Rattle.plane.proofs.Bools.{either-clear}
 use Rattle.plane.proofs.Arrays.{table-at, is-table}
-use Rattle.plane.proofs.Faults.{status, is-fault, or-clear, when-clear}
+use Rattle.plane.proofs.Faults.{status, or-clear, when-clear}
 use Rattle.record.specs.declared.Reading.{Reading}
-use Rattle.record.specs.Layout.{little, number, part, joined, recordLength, mark, theVersion, versionIn, rankIn, sizeIn, headBytes, groupCount, group, width, start, fourIn, fourBytes}
-use Rattle.record.specs.Records.{groupIn, tensorIn, configIn, recordBytes, badLength, badMark, badVersion, fieldsFault, readFault, writeFault, refused, accepted, readOf, writtenRoom}
-use Rattle.record.proofs.Parts.{part-cons, length-part, part-append, part-part, sum-step, sum-const, joined-same, length-joined, part-joined, joined-parts}
+use Rattle.record.specs.Layout.{little, number, part, joined, recordLength, mark, theVersion, versionIn, rankIn, sizeIn, headBytes, groupCount, group, width, start, fourBytes}
+use Rattle.record.specs.Records.{groupIn, tensorIn, configIn, recordBytes, badLength, badMark, badVersion, fieldsFault, readFault, writeFault, accepted, readOf, writtenRoom}
+use Rattle.record.proofs.Parts.{part-cons, length-part, part-append, part-part, sum-step, sum-const, joined-same, part-joined, joined-parts}
 use Rattle.record.proofs.Digits.{Bytes, bytes-part, length-little, number-little, little-number, number-fits, number-two, length-four}
 use Rattle.record.proofs.Laying.{length-record}
 use Rattle.record.proofs.Answers.{read-fields, read-given, read-status, write-fields, room-written}

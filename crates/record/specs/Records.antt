@@ -1,7 +1,7 @@
 -- The move record: what reading bytes answers, and what writing a tensor record and a configuration does.
 use Prim.Native.Nat.{ℕ}
 use mathlib.Core.Bool.{Bool, not, _&&_}
-use mathlib.Core.List.{List, [], _∷_, _++_}
+use mathlib.Core.List.{List, _++_}
 use lib.Dec.{leb, eqb}
 use lib.ListN.{length}
 use Rattle.plane.specs.declared.Tensor.{Tensor}

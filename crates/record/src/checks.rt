@@ -4,7 +4,7 @@ use plane::Fault;
 use plane::Tensor;
 ghost use mathlib.Core.Path.{_≡_};
 ghost use mathlib.Core.Bool.{not};
-ghost use Prim.Native.Nat.{ℕ, _≤_, _<_};
+ghost use Prim.Native.Nat.{_≤_, _<_};
 ghost use lib.Dec.{eqb};
 ghost use Rattle.plane.specs.Arrays.{at, some};
 ghost use Rattle.plane.specs.Faults.{lowest};

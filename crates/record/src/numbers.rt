@@ -1,6 +1,6 @@
 // Numbers as bytes, the lowest byte first, and groups of four of them.
 ghost use mathlib.Core.Path.{_≡_};
-ghost use Prim.Native.Nat.{ℕ, _+_, _≤_, _<_};
+ghost use Prim.Native.Nat.{_+_, _≤_, _<_};
 ghost use lib.ListN.{length};
 ghost use lib.Seq.{sets};
 ghost use Rattle.record.specs.Layout.{little, number, part, fourIn, fourBytes};

@@ -21,7 +21,7 @@ returns : tie.Need-returns Inv-loop μ-loop
 returns c =
     let l = c .before .before .before .loop in
     let a = c .before .before .before .before .args in
-    searched-found (l .inv .1) (omega arith) (c .before .before .loop-test .taken)
+    searched-found (l .inv .1) (omega arith) (omega arith)
     (stray-is (a .t) (a .c) (l .d) (l .inv .0) ∙ sym (c .before .has-entry .ensures) ∙ c .if1 .taken)
 
 loop-again : tie.Need-loop-again Inv-loop μ-loop
@@ -29,12 +29,12 @@ loop-again c =
     let l = c .before .before .before .loop in
     let a = c .before .before .before .before .args in (
       omega arith,
-      searched-more (l .inv .1) (c .before .before .loop-test .taken)
+      searched-more (l .inv .1) (omega arith)
           (stray-is (a .t) (a .c) (l .d) (l .inv .0) ∙ sym (c .before .has-entry .ensures) ∙ c .if1 .left),
     )
 
 returns-2 : tie.Need-returns-2 Inv-loop μ-loop
-returns-2 c = searched-end (c .before .loop .inv .1) (c .loop-test .left) refl
+returns-2 c = searched-end (c .before .loop .inv .1) (omega arith) refl
 
 pub stray-fault-spec : {M : Type 1} → statement M
 stray-fault-spec = tie.close (tie.spec Inv-loop μ-loop loop-holds (λ c. search needs) (λ c κs. search needs) returns (λ c. search needs) (λ c. search needs) loop-again returns-2)

@@ -1,0 +1,4 @@
+-- What a reader must believe.
+pub mod Parts
+pub mod Machine
+pub mod Claims

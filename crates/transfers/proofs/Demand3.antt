@@ -1,0 +1,165 @@
+-- Demand 3 on the calls' own definitions: each accepted call is one of the crate serial's transitions, on the table as it sees it.
+-- Assumes nothing.
+use mathlib.Core.Path.{_≡_, refl, sym, subst, subst₂}
+use Prim.Native.Nat.{ℕ, zero, suc}
+use native.Mathlib.Decide.{ℕ-discrete}
+use mathlib.Core.Bool.{Bool, true, false, cond}
+use mathlib.Core.List.{List, [], _∷_}
+use lib.Dec.{eqb, leb}
+use lib.ListN.{length, getD}
+use borrow.Author.Tests.{ne-eqb}
+use Rattle.plane.specs.declared.Fault.{Fault}
+use Rattle.plane.specs.Faults.{unless}
+use Rattle.plane.proofs.Arrays.{some-clear}
+use Rattle.plane.proofs.Faults.{unless-none, unless-fault}
+use Rattle.mover.specs.declared.Job.{Job}
+use Rattle.mover.specs.Within.{advancedBy}
+use Rattle.serial.specs.Machine.{Clear, Reached}
+use Rattle.serial.specs.Machine as machine
+use Rattle.serial.proofs.Serial as serial
+use Rattle.transfers.specs.declared.Slot.{Slot}
+use Rattle.transfers.specs.declared.Table.{Table}
+use Rattle.transfers.specs.declared.FreshTable.{FreshTable}
+use Rattle.transfers.specs.declared.Prepared.{Prepared}
+use Rattle.transfers.specs.declared.Changed.{Changed}
+use Rattle.transfers.specs.declared.Stepped.{Stepped}
+use Rattle.transfers.specs.Slots.{freeSlot, freshTable, slotAt, withSlot, lowestFree, breaks, clashes, limit}
+use Rattle.transfers.specs.Calls.{freshOf, prepareFault, callFault, newSlot, prepareOf, changed, running, startOf, releaseOf, countOf, later, stepOf, stepMemory}
+use Rattle.transfers.specs.Demand3.{theMover, Log, notePrepare, noteStep, noteRelease, Course, made, prepared, started, stepped, freed, Call, prepare, start, step, release, poll, World, begin, after, run, ForCourses, ForRuns}
+use Rattle.transfers.proofs.Fours.{lowest-is}
+use Rattle.transfers.proofs.Answers.{called, preparing}
+use Rattle.transfers.proofs.Lawful.{lawful, applied-advanced, clear-of}
+use Rattle.transfers.proofs.View.{view, view-with, view-free, view-taken, shown-job, later-view, quiet-view}
+use Rattle.transfers.proofs.Midway.{in-place-each}
+
+-- ---- each call
+
+-- a fault's two cases
+pub by-fault : {A : Type 0} (P : A → Type 0) (f : Fault) {x y : A} → (f .status ≡ 0 → P x) → ((f .status ≡ 0 → ⊥) → P y) → P (unless f y x)
+by-fault P f {x} {y} go stop = elim (ℕ-discrete (f .status) 0) [
+  | yes z ↦ subst P (sym (unless-none f y x z)) (go z)
+  | no z ↦ subst P (sym (unless-fault f y x z)) (stop z)
+]
+
+by-fault₂ : {A B : Type 0} (P : A → B → Type 0) (f : Fault) {x y : A} {v w : B} → (f .status ≡ 0 → P x v) → ((f .status ≡ 0 → ⊥) → P y w)
+    → P (unless f y x) (unless f w v)
+by-fault₂ P f {x} {y} {v} {w} go stop = elim (ℕ-discrete (f .status) 0) [
+  | yes z ↦ subst₂ P (sym (unless-none f y x z)) (sym (unless-none f w v z)) (go z)
+  | no z ↦ subst₂ P (sym (unless-fault f y x z)) (sym (unless-fault f w v z)) (stop z)
+]
+
+module _ (m₀ : List ℕ) where
+  abbrev Shown : Table → List ℕ → Log → Type 0
+  Shown t m log = Reached theMover m₀ (view t) m log
+
+  module _ (t : Table) (m : List ℕ) (log : Log) (r : Shown t m log) where
+    prepare-shown : (j : Job) → Shown (prepareOf t (length m) j .table) m (notePrepare j (prepareOf t (length m) j) m log)
+    unfolding prepareOf notePrepare clashes
+    prepare-shown j =
+        by-fault (λ (a : Prepared). Shown (a .table) m (cond (eqb (a .status) 0) (machine.entered (a .handle) j m ∷ log) log))
+        (prepareFault t (length m) j) accepted (λ z. rw (ne-eqb (prepareFault t (length m) j .status) 0 z) r)
+      where
+        accepted : prepareFault t (length m) j .status ≡ 0 → Shown (withSlot t (lowestFree t) (newSlot j)) m (machine.entered (lowestFree t) j m ∷ log)
+        accepted z =
+            let p = preparing t (length m) j z in
+            let l = lowest-is t (p .room) in
+            rw (view-with t (lowestFree t) (newSlot j) (l .range))
+            (machine.prepare r (lowestFree t) (l .range) (view-free t (lowestFree t) (l .range) (l .free)) j (p .clear)
+            (λ g st i c q.
+            let x = shown-job t g st i c q in
+            subst (λ (k : Job). Clear theMover j k) (sym (x .1)) (clear-of j (slotAt t g .job) (some-clear 4 (λ k. breaks j (slotAt t k .job)) (p .apart) g (x .0)))))
+
+    start-shown : (h : ℕ) → Shown (startOf t (length m) h .table) m log
+    unfolding startOf changed
+    start-shown h =
+        by-fault (λ (a : Changed). Shown (a .table) m log) (callFault t (length m) h 1) accepted (λ z. r)
+      where
+        accepted : callFault t (length m) h 1 .status ≡ 0 → Shown (withSlot t h (running (slotAt t h))) m log
+        accepted z =
+            let w = called t (length m) h 1 z in
+            rw (view-with t h (running (slotAt t h)) (w .range)) (machine.start r h (slotAt t h .job) (slotAt t h .moved) (view-taken t h 0 (w .range) (w .state)))
+
+    release-shown : (h : ℕ) → Shown (releaseOf t (length m) h .table) m (noteRelease h (releaseOf t (length m) h) log)
+    unfolding releaseOf changed noteRelease
+    release-shown h =
+        by-fault (λ (a : Changed). Shown (a .table) m (cond (eqb (a .status) 0) (machine.edit h (machine.ended machine.released) log) log))
+        (callFault t (length m) h 3) accepted (λ z. rw (ne-eqb (callFault t (length m) h 3 .status) 0 z) r)
+      where
+        accepted : callFault t (length m) h 3 .status ≡ 0 → Shown (withSlot t h freeSlot) m (machine.edit h (machine.ended machine.released) log)
+        accepted z =
+            let w = called t (length m) h 3 z in
+            rw (view-with t h freeSlot (w .range)) (machine.release r h (slotAt t h .job) (slotAt t h .moved) (view-taken t h 2 (w .range) (w .state)))
+
+    step-shown : (h b : ℕ) → Shown (stepOf t (length m) h b .table) (stepMemory t h b m) (noteStep h (stepOf t (length m) h b) log)
+    unfolding stepOf stepMemory noteStep
+    step-shown h b =
+        by-fault₂ (λ (a : Stepped) (n : List ℕ). Shown (a .table) n (cond (eqb (a .status) 0) (machine.edit h (machine.reporting (a .count)) log) log))
+        (callFault t (length m) h 2) (accepted (slotAt t h) refl) (λ z. rw (ne-eqb (callFault t (length m) h 2 .status) 0 z) r)
+      where
+        accepted : (s : Slot) → slotAt t h ≡ s → callFault t (length m) h 2 .status ≡ 0
+            → Shown (withSlot t h (later s (countOf s b))) (advancedBy (s .job) (s .moved) (countOf s b) m) (machine.edit h (machine.reporting (countOf s b)) log)
+        accepted s e z =
+            let w = called t (length m) h 2 z in
+            rw (view-with t h (later s (countOf s b)) (w .range), later-view s (countOf s b), ← applied-advanced (s .job) (s .moved) (countOf s b) m)
+            (machine.step r h (s .job) (s .moved) (rw e at (view-taken t h 1 (w .range) (w .state))) b (countOf s b) refl)
+
+  fresh-shown : (n : ℕ) → Shown (freshOf n .table) m₀ []
+  unfolding freshOf
+  fresh-shown n = by-test (leb n limit)
+    where
+      all-free : (n h : ℕ) → getD (view (freshTable n)) h machine.free ≡ machine.free
+      all-free n zero = refl
+      all-free n (suc zero) = refl
+      all-free n (suc (suc zero)) = refl
+      all-free n (suc (suc (suc zero))) = refl
+      all-free n (suc (suc (suc (suc h)))) = refl
+
+      by-test : (b : Bool) → Shown (cond {A = FreshTable} b (record { status = 0; table = freshTable n }) (record { status = 17; table = freshTable 0 }) .table) m₀ []
+      by-test true = machine.fresh (all-free n)
+      by-test false = machine.fresh (all-free 0)
+
+  shown : {t : Table} {m : List ℕ} {log : Log} → Course m₀ t m log → Shown t m log
+  shown (made n e) = rw e (fresh-shown n)
+  shown (prepared {t = t} {m = m} {log = log} s j e) = rw e (prepare-shown t m log (shown s) j)
+  shown (started {t = t} {m = m} {log = log} s h e) = rw e (start-shown t m log (shown s) h)
+  shown (stepped {t = t} {m = m} {log = log} s h b e f) = rw (e, f) (step-shown t m log (shown s) h b)
+  shown (freed {t = t} {m = m} {log = log} s h e) = rw e (release-shown t m log (shown s) h)
+
+-- ---- a list of calls is a course of calls
+
+course-after : (m₀ : List ℕ) (c : Call) (w : World) → Course m₀ (w .table) (w .memory) (w .log)
+    → Course m₀ (after c w .table) (after c w .memory) (after c w .log)
+unfolding after
+course-after m₀ (prepare j) w s = prepared s j refl
+course-after m₀ (start h) w s = started s h refl
+course-after m₀ (step h b) w s = stepped s h b refl refl
+course-after m₀ (release h) w s = freed s h refl
+course-after m₀ (poll h) w s = s
+
+course-run : (m₀ : List ℕ) (cs : List Call) (w : World) → Course m₀ (w .table) (w .memory) (w .log)
+    → Course m₀ (run cs w .table) (run cs w .memory) (run cs w .log)
+unfolding run
+course-run m₀ [] w s = s
+course-run m₀ (c ∷ cs) w s = course-run m₀ cs (after c w) (course-after m₀ c w s)
+
+pub listed : (n : ℕ) (m₀ : List ℕ) (cs : List Call)
+    → Course m₀ (run cs (begin n m₀) .table) (run cs (begin n m₀) .memory) (run cs (begin n m₀) .log)
+unfolding begin
+listed n m₀ cs = course-run m₀ cs (begin n m₀) (made n refl)
+
+-- ---- the theorems
+
+pub demand-3 : ForCourses
+demand-3 m₀ t m log s =
+    let r = shown m₀ s in
+    let w = serial.midway theMover lawful m₀ (view t) m log r in
+    record {
+      serial = serial.serial theMover lawful m₀ (view t) m log r;
+      passed = serial.passed theMover lawful m₀ (view t) m log r .1;
+      finished = λ q. serial.settled theMover lawful m₀ (view t) m log r (quiet-view t q);
+      midway = w;
+      in-place = in-place-each m log w;
+    }
+
+pub demand-3-run : ForRuns
+demand-3-run n m₀ cs = demand-3 m₀ _ _ _ (listed n m₀ cs)

@@ -1,0 +1,273 @@
+-- Each refusal in its exact case and order. The lists below are the paper's numbers in the paper's order; the theorems at the end
+-- say that an answer has number 0 exactly if every rule of its list is kept, and a number at a dimension exactly if that rule is
+-- broken there first and every earlier rule is kept; and that a refused call hands back the table that it was given, with zeros
+-- besides, and leaves the memory as it was. Assumes nothing.
+use Prim.Native.Nat.{ℕ, _<_}
+use native.Mathlib.Decide.{ℕ-discrete}
+use native.Mathlib.Omega.{arith}
+use mathlib.Core.Path.{_≡_, refl, sym, ap, _∙_}
+use mathlib.Core.Bool.{Bool, true, false, cond, not, _||_}
+use mathlib.Core.List.{List, [], _∷_, _++_}
+use lib.Dec.{ltb, leb, eqb}
+use lib.ListN.{length}
+use Rattle.plane.specs.declared.Fault.{Fault}
+use Rattle.plane.specs.declared.Answer.{Answer}
+use Rattle.plane.specs.Faults.{none, fault, when, _orElse_, unless}
+use Rattle.plane.specs.Moves.{moveFault, judgeOf}
+use Rattle.plane.proofs.Faults.{status, or-none, or-found, unless-fault, unless-none}
+use Rattle.plane.proofs.Rules.{answer-refused}
+use Rattle.plane.proofs.Chains.{Rule, whole, Positive, chain, Exact, exact, join, one-chain}
+use Rattle.plane.proofs.Exact.{moveRules, judge-exact}
+use Rattle.mover.specs.declared.Job.{Job}
+use Rattle.mover.specs.Within.{leaves, meets, jobFault}
+use Rattle.mover.proofs.Laws.{judged}
+use Rattle.transfers.specs.declared.Slot.{Slot}
+use Rattle.transfers.specs.declared.Table.{Table}
+use Rattle.transfers.specs.declared.FreshTable.{FreshTable}
+use Rattle.transfers.specs.declared.Prepared.{Prepared}
+use Rattle.transfers.specs.declared.Changed.{Changed}
+use Rattle.transfers.specs.declared.Stepped.{Stepped}
+use Rattle.transfers.specs.Slots.{freshTable, slotAt, withSlot, isFree, lowestFree, clashes, tableSound, limit}
+use Rattle.transfers.specs.Calls.{freshOf, openFault, prepareFault, callFault, prepareOf, changed, startOf, releaseOf, stepOf, stepMemory, left, pollSlot, pollOf, pollStatus}
+use Rattle.transfers.specs.declared.Poll.{Poll}
+use Rattle.transfers.specs.declared.Poll.the-variants as poll
+
+-- ---- the rules of each call, in the paper's order
+
+abbrev pub openRules : Table → ℕ → List Rule
+openRules t n = whole 17 (not (eqb n (t .length))) ∷ whole 18 (not (tableSound t)) ∷ []
+
+abbrev pub jobRules : ℕ → Job → List Rule
+jobRules n j =
+    whole 20 (leaves n (j .source) || leaves n (j .target)) ∷
+    moveRules (j .tensor) (j .config) (j .source .length) (j .target .length) ++
+    (whole 21 (meets (j .source) (j .target)) ∷ [])
+
+abbrev pub prepareRules : Table → ℕ → Job → List Rule
+prepareRules t n j =
+    openRules t n ++ (whole 19 (eqb (lowestFree t) 4) ∷ []) ++ jobRules n j ++ (whole 22 (clashes t j 4) ∷ [])
+
+abbrev pub callRules : Table → ℕ → ℕ → ℕ → List Rule
+callRules t n h want =
+    openRules t n ++ (whole 23 (ltb 3 h || isFree t h) ∷ whole 24 (not (eqb (slotAt t h .state) want)) ∷ [])
+
+abbrev pub pollRules : Table → ℕ → List Rule
+pollRules t h = whole 18 (not (tableSound t)) ∷ whole 23 (ltb 3 h) ∷ []
+
+abbrev pub freshRules : ℕ → List Rule
+freshRules n = whole 17 (not (leb n limit)) ∷ []
+
+-- ---- two faults that say the same: the same number, and the same dimension where there is one
+
+pub record Alike (f g : Fault) : Type 0 where
+  pub number : f .status ≡ g .status
+  pub dim : (g .status ≡ 0 → ⊥) → f .dim ≡ g .dim
+
+alike : {f g : Fault} → f ≡ g → Alike f g
+alike e = record { number = status e; dim = λ h. ap (λ (x : Fault). x .dim) e }
+
+or-alike : (f g : Fault) {h k : Fault} → Alike f g → Alike h k → Alike (f orElse h) (g orElse k)
+or-alike f g {h} {k} p q = elim (ℕ-discrete (g .status) 0) [
+  | yes z ↦ rw (or-none f h (p .number ∙ z), or-none g k z) q
+  | no b ↦ rw (or-found f h (λ z. b (sym (p .number) ∙ z)), or-found g k b) p
+]
+
+-- lists put together
+joins : (rs qs : List Rule) {f g : Fault} → Alike f (chain rs) → Alike g (chain qs) → Alike (f orElse g) (chain (rs ++ qs))
+joins rs qs p q = rw (sym (join rs qs refl refl)) (or-alike _ (chain rs) p q)
+
+one : (num : ℕ) (b : Bool) → 0 < num → Alike (when num 0 b) (chain (whole num b ∷ []))
+one num b p = alike (one-chain num b p)
+
+-- two answers that are exact for one list are the same
+same : (rs : List Rule) {a b c d : ℕ} → Exact rs a b → Exact rs c d → (a ≡ c) × ((c ≡ 0 → ⊥) → b ≡ d)
+same rs {a} {b} {c} {d} x y = elim (ℕ-discrete c 0) [
+  | yes z ↦ (x .accepts .1 (y .accepts .0 z) ∙ sym z, λ h. absurd (h z))
+  | no h ↦ let w = x .gives c d (omega arith) .1 (y .gives c d (omega arith) .0 (refl, refl)) in (w .0, λ _. w .1)
+]
+
+-- ---- the calls are held to their lists
+
+open-alike : (t : Table) (n : ℕ) → Alike (openFault t n) (chain (openRules t n))
+unfolding openFault
+open-alike t n = joins (whole 17 (not (eqb n (t .length))) ∷ []) (whole 18 (not (tableSound t)) ∷ []) (one 17 _ (omega arith)) (one 18 _ (omega arith))
+
+module _ (j : Job) where
+  rules : List Rule
+  rules = moveRules (j .tensor) (j .config) (j .source .length) (j .target .length)
+
+  rules-positive : Positive rules
+  unfolding rules
+  rules-positive = omega arith
+
+  move-alike : Alike (moveFault (j .tensor) (j .config) (j .source .length) (j .target .length)) (chain rules)
+  unfolding rules judgeOf
+  move-alike =
+      let f = moveFault (j .tensor) (j .config) (j .source .length) (j .target .length) in
+      let e = judged (j .tensor) (j .config) (j .source .length) (j .target .length) in
+      let w =
+      same rules (judge-exact (j .tensor) (j .config) (j .source .length) (j .target .length))
+      (exact rules rules-positive (chain rules) refl refl (λ h. refl)) in
+      record {
+        number = sym e ∙ w .0;
+        dim = λ h.
+            ap (λ (a : Answer). a .dim) (sym (answer-refused f (j .tensor) (j .config) (λ z. h (sym (w .0) ∙ e ∙ z)))) ∙ w .1 h;
+      }
+
+  job-alike : (n : ℕ) → Alike (jobFault n j) (chain (jobRules n j))
+  unfolding jobFault rules
+  job-alike n =
+      let last = whole 21 (meets (j .source) (j .target)) ∷ [] in
+      joins (whole 20 (leaves n (j .source) || leaves n (j .target)) ∷ []) (rules ++ last) (one 20 _ (omega arith))
+      (joins rules last move-alike (one 21 _ (omega arith)))
+
+  prepare-alike : (t : Table) (n : ℕ) → Alike (prepareFault t n j) (chain (prepareRules t n j))
+  unfolding prepareFault
+  prepare-alike t n =
+      let full = whole 19 (eqb (lowestFree t) 4) ∷ [] in
+      let last = whole 22 (clashes t j 4) ∷ [] in
+      joins (openRules t n) (full ++ jobRules n j ++ last) (open-alike t n)
+      (joins full (jobRules n j ++ last) (one 19 _ (omega arith)) (joins (jobRules n j) last (job-alike n) (one 22 _ (omega arith))))
+
+  prepare-positive : (t : Table) (n : ℕ) → Positive (prepareRules t n j)
+  prepare-positive t n = omega arith
+
+call-alike : (t : Table) (n h want : ℕ) → Alike (callFault t n h want) (chain (callRules t n h want))
+unfolding callFault
+call-alike t n h want =
+    let free = whole 23 (ltb 3 h || isFree t h) ∷ [] in
+    let other = whole 24 (not (eqb (slotAt t h .state) want)) ∷ [] in
+    joins (openRules t n) (free ++ other) (open-alike t n) (joins free other (one 23 _ (omega arith)) (one 24 _ (omega arith)))
+
+-- ---- numbers and dimensions of the answers
+
+when-dim : (num : ℕ) (b : Bool) → when num 0 b .dim ≡ 0
+unfolding when
+when-dim num true = refl
+when-dim num false = refl
+
+or-dim : (f g : Fault) → f .dim ≡ 0 → g .dim ≡ 0 → (f orElse g) .dim ≡ 0
+or-dim f g p q = elim (ℕ-discrete (f .status) 0) [
+  | yes z ↦ rw (or-none f g z) q
+  | no b ↦ rw (or-found f g b) p
+]
+
+call-dim : (t : Table) (n h want : ℕ) → callFault t n h want .dim ≡ 0
+unfolding callFault openFault
+call-dim t n h want =
+    or-dim _ _ (or-dim _ _ (when-dim 17 _) (when-dim 18 _)) (or-dim _ _ (when-dim 23 _) (when-dim 24 _))
+
+-- an answer that has number 0 where there is no fault, and the fault's where there is one
+number-of : {A : Type 0} (f : Fault) (y x : A) (number : A → ℕ) → number y ≡ f .status → number x ≡ 0 → number (unless f y x) ≡ f .status
+number-of f y x number p q = elim (ℕ-discrete (f .status) 0) [
+  | yes z ↦ ap number (unless-none f y x z) ∙ q ∙ sym z
+  | no b ↦ ap number (unless-fault f y x b) ∙ p
+]
+
+-- and a call that names no dimension
+call-exact : (t : Table) (n h want : ℕ) {number : ℕ} → number ≡ callFault t n h want .status → Exact (callRules t n h want) number 0
+call-exact t n h want e =
+    let a = call-alike t n h want in
+    exact (callRules t n h want) (omega arith) (chain (callRules t n h want)) refl (e ∙ a .number)
+    (λ b. sym (call-dim t n h want) ∙ a .dim b)
+
+-- ---- the theorems
+
+module _ (n : ℕ) where
+  fresh-number : (v : Bool) → cond {A = FreshTable} v (record { status = 0; table = freshTable n }) (record { status = 17; table = freshTable 0 }) .status ≡ when 17 0 (not v) .status
+  unfolding when
+  fresh-number true = refl
+  fresh-number false = refl
+
+  pub fresh-exact : Exact (freshRules n) (freshOf n .status) 0
+  unfolding freshOf
+  fresh-exact =
+      let a = one 17 (not (leb n limit)) (omega arith) in
+      exact (freshRules n) (omega arith) (chain (freshRules n)) refl (fresh-number (leb n limit) ∙ a .number)
+      (λ b. sym (when-dim 17 (not (leb n limit))) ∙ a .dim b)
+
+module _ (t : Table) (n : ℕ) (j : Job) where
+  prepare-number : prepareOf t n j .status ≡ prepareFault t n j .status
+  unfolding prepareOf
+  prepare-number = number-of (prepareFault t n j) _ _ (λ (r : Prepared). r .status) refl refl
+
+  -- where there is a fault, the answer has its dimension, no handle, and the table that was given
+  prepare-back : (prepareFault t n j .status ≡ 0 → ⊥) → prepareOf t n j ≡ record { status = prepareFault t n j .status; dim = prepareFault t n j .dim; handle = 0; table = t }
+  unfolding prepareOf
+  prepare-back b = unless-fault (prepareFault t n j) _ _ b
+
+  pub prepare-exact : Exact (prepareRules t n j) (prepareOf t n j .status) (prepareOf t n j .dim)
+  prepare-exact =
+      let a = prepare-alike j t n in
+      exact (prepareRules t n j) (prepare-positive j t n) (chain (prepareRules t n j)) refl (prepare-number ∙ a .number)
+      (λ b. ap (λ (r : Prepared). r .dim) (prepare-back (λ z. b (sym (a .number) ∙ z))) ∙ a .dim b)
+
+  pub prepare-refused : (prepareOf t n j .status ≡ 0 → ⊥) → prepareOf t n j ≡ record { status = prepareOf t n j .status; dim = prepareOf t n j .dim; handle = 0; table = t }
+  prepare-refused b =
+      let e = prepare-back (λ z. b (prepare-number ∙ z)) in
+      e ∙ ap (λ (r : Prepared). record { status = r .status; dim = r .dim; handle = 0; table = t }) (sym e)
+
+module _ (t : Table) (n h : ℕ) where
+  change-number : (f : Fault) (s : Slot) → changed f t h s .status ≡ f .status
+  unfolding changed
+  change-number f s = number-of f _ _ (λ (r : Changed). r .status) refl refl
+
+  change-back : (f : Fault) (s : Slot) → (changed f t h s .status ≡ 0 → ⊥) → changed f t h s ≡ record { status = changed f t h s .status; table = t }
+  unfolding changed
+  change-back f s b =
+      let e = unless-fault {A = Changed} f (record { status = f .status; table = t }) (record { status = 0; table = withSlot t h s }) (λ z. b (change-number f s ∙ z)) in
+      e ∙ ap (λ (r : Changed). record { status = r .status; table = t }) (sym e)
+
+  pub start-exact : Exact (callRules t n h 1) (startOf t n h .status) 0
+  unfolding startOf
+  start-exact = call-exact t n h 1 (change-number (callFault t n h 1) _)
+
+  pub start-refused : (startOf t n h .status ≡ 0 → ⊥) → startOf t n h ≡ record { status = startOf t n h .status; table = t }
+  unfolding startOf
+  start-refused b = change-back (callFault t n h 1) _ b
+
+  pub release-exact : Exact (callRules t n h 3) (releaseOf t n h .status) 0
+  unfolding releaseOf
+  release-exact = call-exact t n h 3 (change-number (callFault t n h 3) _)
+
+  pub release-refused : (releaseOf t n h .status ≡ 0 → ⊥) → releaseOf t n h ≡ record { status = releaseOf t n h .status; table = t }
+  unfolding releaseOf
+  release-refused b = change-back (callFault t n h 3) _ b
+
+module _ (t : Table) (h budget : ℕ) where
+  step-number : (n : ℕ) → stepOf t n h budget .status ≡ callFault t n h 2 .status
+  unfolding stepOf
+  step-number n = number-of (callFault t n h 2) _ _ (λ (r : Stepped). r .status) refl refl
+
+  pub step-exact : (n : ℕ) → Exact (callRules t n h 2) (stepOf t n h budget .status) 0
+  step-exact n = call-exact t n h 2 (step-number n)
+
+  pub step-refused : (m : List ℕ) → (stepOf t (length m) h budget .status ≡ 0 → ⊥) →
+      (stepOf t (length m) h budget ≡ record { status = stepOf t (length m) h budget .status; count = 0; table = t }) ×
+      (stepMemory t h budget m ≡ m)
+  unfolding stepOf stepMemory
+  step-refused m b =
+      let d : callFault t (length m) h 2 .status ≡ 0 → ⊥ = λ z. b (step-number (length m) ∙ z) in
+      let e = unless-fault (callFault t (length m) h 2) _ _ d in
+      (e ∙ ap (λ (r : Stepped). record { status = r .status; count = 0; table = t }) (sym e), unless-fault (callFault t (length m) h 2) _ _ d)
+
+module _ (t : Table) (h : ℕ) where
+  slot-number : (a b c : Bool) (k : ℕ) → pollStatus (cond a poll.Free (cond b (poll.Prepared k) (cond c (poll.Running k) poll.Done))) ≡ 0
+  slot-number true b c k = refl
+  slot-number false true c k = refl
+  slot-number false false true k = refl
+  slot-number false false false k = refl
+
+  poll-number : (v w : Bool) (r : Poll) → pollStatus r ≡ 0 → pollStatus (cond v (cond w (poll.Refused 23) r) (poll.Refused 18)) ≡ (when 18 0 (not v) orElse when 23 0 w) .status
+  unfolding when _orElse_
+  poll-number true true r e = refl
+  poll-number true false r e = e
+  poll-number false w r e = refl
+
+  pub poll-exact : Exact (pollRules t h) (pollStatus (pollOf t h)) 0
+  unfolding pollOf pollSlot
+  poll-exact =
+      let a = joins (whole 18 (not (tableSound t)) ∷ []) (whole 23 (ltb 3 h) ∷ []) (one 18 _ (omega arith)) (one 23 _ (omega arith)) in
+      exact (pollRules t h) (omega arith) (chain (pollRules t h)) refl
+      (poll-number (tableSound t) (ltb 3 h) (pollSlot (slotAt t h)) (slot-number (isFree t h) (eqb (slotAt t h .state) 1) (eqb (slotAt t h .state) 2) (left (slotAt t h))) ∙ a .number)
+      (λ b. sym (or-dim _ _ (when-dim 18 _) (when-dim 23 _)) ∙ a .dim b)

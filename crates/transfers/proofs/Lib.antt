@@ -1,0 +1,19 @@
+-- Theorems to read first: Demand3 (serial and midway), Keeps (sound tables stay sound), Runs (18 is never given in a run), Budgets (what
+-- finishes a transfer), Decided (no two outcomes), Exact (refusals), ExampleL.
+pub mod Demand3
+pub mod Keeps
+pub mod Runs
+pub mod Budgets
+pub mod Decided
+pub mod Exact
+pub mod ExampleL
+-- Laws over plain values, which the functions' proofs cite.
+pub mod Every
+pub mod Fours
+pub mod Meeting
+pub mod Sounds
+pub mod Answers
+pub mod Steps
+pub mod Lawful
+pub mod View
+pub mod Midway

@@ -1,0 +1,153 @@
+-- Demand 3: calls, refused ones included, from a fresh table and over one memory; the log of the accepted transfers; what is claimed.
+-- The crate serial says what an entry of the log is, what moves done one by one come to (`oneByOne`), and what `Midway` is.
+use mathlib.Core.Path.{_≡_}
+use mathlib.Core.Logic.{_⊎_}
+use Prim.Native.Nat.{ℕ, _+_, _*_, _≤_, _<_}
+use mathlib.Core.Bool.{cond}
+use mathlib.Core.List.{List, [], _∷_}
+use lib.Dec.{eqb}
+use lib.ListN.{length, getD}
+use Rattle.mover.specs.declared.Part.{Part}
+use Rattle.mover.specs.declared.Job.{Job}
+use Rattle.mover.specs.Element.{place, element}
+use Rattle.mover.specs.Moved.{coordOf, moved, moveMemory}
+use Rattle.mover.specs.Within.{jobFault, totalOf, bytesOf}
+use Rattle.serial.specs.Parts as parts
+use Rattle.serial.specs.Machine.{Mover, Entry, released, entered, reporting, ended, edit}
+use Rattle.serial.specs.Claims.{Every, EveryHeld, Finished, Midway, oneByOne}
+use Rattle.transfers.specs.declared.Table.{Table}
+use Rattle.transfers.specs.declared.FreshTable.{FreshTable}
+use Rattle.transfers.specs.declared.Prepared.{Prepared}
+use Rattle.transfers.specs.declared.Changed.{Changed}
+use Rattle.transfers.specs.declared.Stepped.{Stepped}
+use Rattle.transfers.specs.declared.Poll.the-variants as says
+use Rattle.transfers.specs.Calls.{freshOf, prepareOf, startOf, stepOf, stepMemory, releaseOf, pollOf}
+
+-- ---- the mover of the crate mover, as the crate serial asks for one
+
+abbrev pub partOf : Part → parts.Part
+partOf p = record { start = p .start; length = p .length }
+
+abbrev pub theMover : Mover
+theMover = record {
+  Job = Job;
+  source = λ j. partOf (j .source);
+  target = λ j. partOf (j .target);
+  total = totalOf;
+  verdict = λ n j. jobFault n j .status;
+  move = λ j s d. moveMemory (j .tensor) (j .config) s d;
+  write = λ j n k s d. moved (j .tensor) (j .config) s n k d;
+}
+
+-- ---- what a caller writes down, from the call and its answer alone: of a refused call nothing
+
+abbrev pub Log : Type 0
+Log = List (Entry Job)
+
+-- an accepted transfer, with the memory at acceptance
+unfoldable pub notePrepare : Job → Prepared → List ℕ → Log → Log
+notePrepare j a m log = cond (eqb (a .status) 0) (entered (a .handle) j m ∷ log) log
+
+-- what the step reported
+unfoldable pub noteStep : ℕ → Stepped → Log → Log
+noteStep h a log = cond (eqb (a .status) 0) (edit h (reporting (a .count)) log) log
+
+unfoldable pub noteRelease : ℕ → Changed → Log → Log
+noteRelease h a log = cond (eqb (a .status) 0) (edit h (ended released) log) log
+
+-- ---- calls, one after another: table, memory and log that they lead to from a fresh table and the memory m₀
+
+-- each call is given the table that the one before handed back, and answers as its contract says. (A poll changes nothing.)
+pub data Course (m₀ : List ℕ) : Table → List ℕ → Log → Type 0 where
+  made : (n : ℕ) {a : FreshTable} → a ≡ freshOf n → Course m₀ (a .table) m₀ []
+  prepared : {t : Table} {m : List ℕ} {log : Log} → Course m₀ t m log → (j : Job) {a : Prepared}
+      → a ≡ prepareOf t (length m) j → Course m₀ (a .table) m (notePrepare j a m log)
+  started : {t : Table} {m : List ℕ} {log : Log} → Course m₀ t m log → (h : ℕ) {a : Changed}
+      → a ≡ startOf t (length m) h → Course m₀ (a .table) m log
+  stepped : {t : Table} {m : List ℕ} {log : Log} → Course m₀ t m log → (h budget : ℕ) {a : Stepped} {m′ : List ℕ}
+      → a ≡ stepOf t (length m) h budget → m′ ≡ stepMemory t h budget m → Course m₀ (a .table) m′ (noteStep h a log)
+  freed : {t : Table} {m : List ℕ} {log : Log} → Course m₀ t m log → (h : ℕ) {a : Changed}
+      → a ≡ releaseOf t (length m) h → Course m₀ (a .table) m (noteRelease h a log)
+
+-- the same for a list of calls
+
+pub data Call : Type 0 where
+  prepare : Job → Call
+  -- the handle
+  start : ℕ → Call
+  -- the handle and the budget
+  step : ℕ → ℕ → Call
+  release : ℕ → Call
+  poll : ℕ → Call
+
+pub record World : Type 0 where
+  pub table : Table
+  pub memory : List ℕ
+  pub log : Log
+
+unfoldable pub begin : ℕ → List ℕ → World
+begin n m = record { table = freshOf n .table; memory = m; log = [] }
+
+unfoldable pub after : Call → World → World
+after (prepare j) w =
+    let a = prepareOf (w .table) (length (w .memory)) j in
+    record { table = a .table; memory = w .memory; log = notePrepare j a (w .memory) (w .log) }
+after (start h) w =
+    record { table = startOf (w .table) (length (w .memory)) h .table; memory = w .memory; log = w .log }
+after (step h b) w =
+    let a = stepOf (w .table) (length (w .memory)) h b in
+    record { table = a .table; memory = stepMemory (w .table) h b (w .memory); log = noteStep h a (w .log) }
+after (release h) w =
+    let a = releaseOf (w .table) (length (w .memory)) h in
+    record { table = a .table; memory = w .memory; log = noteRelease h a (w .log) }
+after (poll h) w = w
+
+unfoldable pub run : List Call → World → World
+run [] w = w
+run (c ∷ cs) w = run cs (after c w)
+
+-- ---- the sentences
+
+-- the byte of the target part at which element number q of the job stands
+abbrev pub byteOf : Job → ℕ → ℕ
+byteOf j q = place (j .tensor) (j .config) (coordOf (j .tensor) (j .config) q) * j .tensor .size
+
+-- element number q of the job, as the source bytes s have it
+abbrev pub elementOf : Job → List ℕ → ℕ → List ℕ
+elementOf j s q = element (j .tensor) (j .config) s (coordOf (j .tensor) (j .config) q)
+
+-- byte by byte, what the memory m has of a transfer that is not yet released
+pub record InPlace (m : List ℕ) (e : Entry Job) : Type 0 where
+  -- its first elements, as many as its steps together reported, lie in the target part and are in place there
+  pub inside : (q : ℕ) → q < e .reported → byteOf (e .job) q + e .job .tensor .size ≤ e .job .target .length
+  pub elements : (q : ℕ) → q < e .reported → (b : ℕ) → b < e .job .tensor .size
+      → getD (bytesOf (e .job .target) m) (byteOf (e .job) q + b) 0
+      ≡ getD (elementOf (e .job) (bytesOf (e .job .source) (e .before)) q) b 0
+  -- a byte of the target part that belongs to none of these is as at acceptance
+  pub others : (k : ℕ) → ((q : ℕ) → q < e .reported → (k < byteOf (e .job) q) ⊎ (byteOf (e .job) q + e .job .tensor .size ≤ k))
+      → getD (bytesOf (e .job .target) m) k 0 ≡ getD (bytesOf (e .job .target) (e .before)) k 0
+  -- the source part is as at acceptance
+  pub source : bytesOf (e .job .source) m ≡ bytesOf (e .job .source) (e .before)
+
+-- what is claimed of a table t, a memory m and a log that calls led to from the memory m₀
+pub record Demand3 (m₀ : List ℕ) (t : Table) (m : List ℕ) (log : Log) : Type 0 where
+  -- if every accepted transfer has finished, the memory is what whole moves give when done one after another in the order of acceptance
+  pub serial : Every (Finished theMover) log → m ≡ oneByOne theMover m₀ log
+  -- and each of those whole moves is an accepted one
+  pub passed : Every (λ e. jobFault (length m₀) (e .job) .status ≡ 0) log
+  -- every accepted transfer has finished if each poll says free or done
+  pub finished : ((h : ℕ) → h < 4 → (pollOf t h ≡ says.Free) ⊎ (pollOf t h ≡ says.Done)) → Every (Finished theMover) log
+  -- midway, the target part of each transfer not yet released is what the mover leaves after as many elements as its steps reported
+  pub midway : EveryHeld (Midway theMover m) log
+  -- so its first elements are in place, and the part's other bytes, and the source part, are as at acceptance
+  pub in-place : EveryHeld (InPlace m) log
+
+-- for callers whose calls are no list
+abbrev pub ForCourses : Type 0
+ForCourses = (m₀ : List ℕ) (t : Table) (m : List ℕ) (log : Log) → Course m₀ t m log → Demand3 m₀ t m log
+
+-- for every list of calls
+abbrev pub ForRuns : Type 0
+ForRuns =
+    (n : ℕ) (m₀ : List ℕ) (cs : List Call)
+    → Demand3 m₀ (run cs (begin n m₀) .table) (run cs (begin n m₀) .memory) (run cs (begin n m₀) .log)

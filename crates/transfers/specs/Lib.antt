@@ -1,0 +1,4 @@
+-- What a reader must believe.
+pub mod Slots
+pub mod Calls
+pub mod Demand3
