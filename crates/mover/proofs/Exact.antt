@@ -20,10 +20,10 @@ jobRules n j =
     moveRules (j .tensor) (j .config) (j .source .length) (j .target .length) ++
     (whole 21 (meets (j .source) (j .target)) ∷ [])
 
-positive-job : (n : ℕ) (j : Job) → Positive (jobRules n j)
+pub positive-job : (n : ℕ) (j : Job) → Positive (jobRules n j)
 positive-job n j = omega arith
 
-job-chain : (n : ℕ) (j : Job) → jobFault n j ≡ chain (jobRules n j)
+pub job-chain : (n : ℕ) (j : Job) → jobFault n j ≡ chain (jobRules n j)
 unfolding jobFault
 job-chain n j =
     let first = whole 20 (leaves n (j .source) || leaves n (j .target)) ∷ [] in

@@ -2,7 +2,7 @@
 -- say that an answer has number 0 exactly if every rule of its list is kept, and a number at a dimension exactly if that rule is
 -- broken there first and every earlier rule is kept; and that a refused call hands back the table that it was given, with zeros
 -- besides, and leaves the memory as it was. Assumes nothing.
-use Prim.Native.Nat.{ℕ, _<_}
+use Prim.Native.Nat.{ℕ}
 use native.Mathlib.Decide.{ℕ-discrete}
 use native.Mathlib.Omega.{arith}
 use mathlib.Core.Path.{_≡_, refl, sym, ap, _∙_}
@@ -11,16 +11,11 @@ use mathlib.Core.List.{List, [], _∷_, _++_}
 use lib.Dec.{ltb, leb, eqb}
 use lib.ListN.{length}
 use Rattle.plane.specs.declared.Fault.{Fault}
-use Rattle.plane.specs.declared.Answer.{Answer}
-use Rattle.plane.specs.Faults.{none, fault, when, _orElse_, unless}
-use Rattle.plane.specs.Moves.{moveFault, judgeOf}
-use Rattle.plane.proofs.Faults.{status, or-none, or-found, unless-fault, unless-none}
-use Rattle.plane.proofs.Rules.{answer-refused}
+use Rattle.plane.specs.Faults.{when, _orElse_, unless}
+use Rattle.plane.proofs.Faults.{or-none, or-found, unless-fault, unless-none}
 use Rattle.plane.proofs.Chains.{Rule, whole, Positive, chain, Exact, exact, join, one-chain}
-use Rattle.plane.proofs.Exact.{moveRules, judge-exact}
 use Rattle.mover.specs.declared.Job.{Job}
-use Rattle.mover.specs.Within.{leaves, meets, jobFault}
-use Rattle.mover.proofs.Laws.{judged}
+use Rattle.mover.proofs.Exact.{jobRules, job-chain}
 use Rattle.transfers.specs.declared.Slot.{Slot}
 use Rattle.transfers.specs.declared.Table.{Table}
 use Rattle.transfers.specs.declared.FreshTable.{FreshTable}
@@ -37,12 +32,6 @@ use Rattle.transfers.specs.declared.Poll.the-variants as poll
 abbrev pub openRules : Table → ℕ → List Rule
 openRules t n = whole 17 (not (eqb n (t .length))) ∷ whole 18 (not (tableSound t)) ∷ []
 
-abbrev pub jobRules : ℕ → Job → List Rule
-jobRules n j =
-    whole 20 (leaves n (j .source) || leaves n (j .target)) ∷
-    moveRules (j .tensor) (j .config) (j .source .length) (j .target .length) ++
-    (whole 21 (meets (j .source) (j .target)) ∷ [])
-
 abbrev pub prepareRules : Table → ℕ → Job → List Rule
 prepareRules t n j =
     openRules t n ++ (whole 19 (eqb (lowestFree t) 4) ∷ []) ++ jobRules n j ++ (whole 22 (clashes t j 4) ∷ [])
@@ -57,87 +46,30 @@ pollRules t h = whole 18 (not (tableSound t)) ∷ whole 23 (ltb 3 h) ∷ []
 abbrev pub freshRules : ℕ → List Rule
 freshRules n = whole 17 (not (leb n limit)) ∷ []
 
--- ---- two faults that say the same: the same number, and the same dimension where there is one
-
-pub record Alike (f g : Fault) : Type 0 where
-  pub number : f .status ≡ g .status
-  pub dim : (g .status ≡ 0 → ⊥) → f .dim ≡ g .dim
-
-alike : {f g : Fault} → f ≡ g → Alike f g
-alike e = record { number = status e; dim = λ h. ap (λ (x : Fault). x .dim) e }
-
-or-alike : (f g : Fault) {h k : Fault} → Alike f g → Alike h k → Alike (f orElse h) (g orElse k)
-or-alike f g {h} {k} p q = elim (ℕ-discrete (g .status) 0) [
-  | yes z ↦ rw (or-none f h (p .number ∙ z), or-none g k z) q
-  | no b ↦ rw (or-found f h (λ z. b (sym (p .number) ∙ z)), or-found g k b) p
-]
-
--- lists put together
-joins : (rs qs : List Rule) {f g : Fault} → Alike f (chain rs) → Alike g (chain qs) → Alike (f orElse g) (chain (rs ++ qs))
-joins rs qs p q = rw (sym (join rs qs refl refl)) (or-alike _ (chain rs) p q)
-
-one : (num : ℕ) (b : Bool) → 0 < num → Alike (when num 0 b) (chain (whole num b ∷ []))
-one num b p = alike (one-chain num b p)
-
--- two answers that are exact for one list are the same
-same : (rs : List Rule) {a b c d : ℕ} → Exact rs a b → Exact rs c d → (a ≡ c) × ((c ≡ 0 → ⊥) → b ≡ d)
-same rs {a} {b} {c} {d} x y = elim (ℕ-discrete c 0) [
-  | yes z ↦ (x .accepts .1 (y .accepts .0 z) ∙ sym z, λ h. absurd (h z))
-  | no h ↦ let w = x .gives c d (omega arith) .1 (y .gives c d (omega arith) .0 (refl, refl)) in (w .0, λ _. w .1)
-]
-
 -- ---- the calls are held to their lists
 
-open-alike : (t : Table) (n : ℕ) → Alike (openFault t n) (chain (openRules t n))
+open-chain : (t : Table) (n : ℕ) → openFault t n ≡ chain (openRules t n)
 unfolding openFault
-open-alike t n = joins (whole 17 (not (eqb n (t .length))) ∷ []) (whole 18 (not (tableSound t)) ∷ []) (one 17 _ (omega arith)) (one 18 _ (omega arith))
+open-chain t n =
+    join (whole 17 (not (eqb n (t .length))) ∷ []) (whole 18 (not (tableSound t)) ∷ []) (one-chain 17 _ (omega arith)) (one-chain 18 _ (omega arith))
 
-module _ (j : Job) where
-  rules : List Rule
-  rules = moveRules (j .tensor) (j .config) (j .source .length) (j .target .length)
+prepare-chain : (t : Table) (n : ℕ) (j : Job) → prepareFault t n j ≡ chain (prepareRules t n j)
+unfolding prepareFault
+prepare-chain t n j =
+    let full = whole 19 (eqb (lowestFree t) 4) ∷ [] in
+    let last = whole 22 (clashes t j 4) ∷ [] in
+    join (openRules t n) (full ++ jobRules n j ++ last) (open-chain t n)
+    (join full (jobRules n j ++ last) (one-chain 19 _ (omega arith)) (join (jobRules n j) last (job-chain n j) (one-chain 22 _ (omega arith))))
 
-  rules-positive : Positive rules
-  unfolding rules
-  rules-positive = omega arith
+prepare-positive : (t : Table) (n : ℕ) (j : Job) → Positive (prepareRules t n j)
+prepare-positive t n j = omega arith
 
-  move-alike : Alike (moveFault (j .tensor) (j .config) (j .source .length) (j .target .length)) (chain rules)
-  unfolding rules judgeOf
-  move-alike =
-      let f = moveFault (j .tensor) (j .config) (j .source .length) (j .target .length) in
-      let e = judged (j .tensor) (j .config) (j .source .length) (j .target .length) in
-      let w =
-      same rules (judge-exact (j .tensor) (j .config) (j .source .length) (j .target .length))
-      (exact rules rules-positive (chain rules) refl refl (λ h. refl)) in
-      record {
-        number = sym e ∙ w .0;
-        dim = λ h.
-            ap (λ (a : Answer). a .dim) (sym (answer-refused f (j .tensor) (j .config) (λ z. h (sym (w .0) ∙ e ∙ z)))) ∙ w .1 h;
-      }
-
-  job-alike : (n : ℕ) → Alike (jobFault n j) (chain (jobRules n j))
-  unfolding jobFault rules
-  job-alike n =
-      let last = whole 21 (meets (j .source) (j .target)) ∷ [] in
-      joins (whole 20 (leaves n (j .source) || leaves n (j .target)) ∷ []) (rules ++ last) (one 20 _ (omega arith))
-      (joins rules last move-alike (one 21 _ (omega arith)))
-
-  prepare-alike : (t : Table) (n : ℕ) → Alike (prepareFault t n j) (chain (prepareRules t n j))
-  unfolding prepareFault
-  prepare-alike t n =
-      let full = whole 19 (eqb (lowestFree t) 4) ∷ [] in
-      let last = whole 22 (clashes t j 4) ∷ [] in
-      joins (openRules t n) (full ++ jobRules n j ++ last) (open-alike t n)
-      (joins full (jobRules n j ++ last) (one 19 _ (omega arith)) (joins (jobRules n j) last (job-alike n) (one 22 _ (omega arith))))
-
-  prepare-positive : (t : Table) (n : ℕ) → Positive (prepareRules t n j)
-  prepare-positive t n = omega arith
-
-call-alike : (t : Table) (n h want : ℕ) → Alike (callFault t n h want) (chain (callRules t n h want))
+call-chain : (t : Table) (n h want : ℕ) → callFault t n h want ≡ chain (callRules t n h want)
 unfolding callFault
-call-alike t n h want =
+call-chain t n h want =
     let free = whole 23 (ltb 3 h || isFree t h) ∷ [] in
     let other = whole 24 (not (eqb (slotAt t h .state) want)) ∷ [] in
-    joins (openRules t n) (free ++ other) (open-alike t n) (joins free other (one 23 _ (omega arith)) (one 24 _ (omega arith)))
+    join (openRules t n) (free ++ other) (open-chain t n) (join free other (one-chain 23 _ (omega arith)) (one-chain 24 _ (omega arith)))
 
 -- ---- numbers and dimensions of the answers
 
@@ -167,9 +99,7 @@ number-of f y x number p q = elim (ℕ-discrete (f .status) 0) [
 -- and a call that names no dimension
 call-exact : (t : Table) (n h want : ℕ) {number : ℕ} → number ≡ callFault t n h want .status → Exact (callRules t n h want) number 0
 call-exact t n h want e =
-    let a = call-alike t n h want in
-    exact (callRules t n h want) (omega arith) (chain (callRules t n h want)) refl (e ∙ a .number)
-    (λ b. sym (call-dim t n h want) ∙ a .dim b)
+    exact (callRules t n h want) (omega arith) (callFault t n h want) (call-chain t n h want) e (λ b. sym (call-dim t n h want))
 
 -- ---- the theorems
 
@@ -182,9 +112,8 @@ module _ (n : ℕ) where
   pub fresh-exact : Exact (freshRules n) (freshOf n .status) 0
   unfolding freshOf
   fresh-exact =
-      let a = one 17 (not (leb n limit)) (omega arith) in
-      exact (freshRules n) (omega arith) (chain (freshRules n)) refl (fresh-number (leb n limit) ∙ a .number)
-      (λ b. sym (when-dim 17 (not (leb n limit))) ∙ a .dim b)
+      exact (freshRules n) (omega arith) (when 17 0 (not (leb n limit))) (one-chain 17 _ (omega arith)) (fresh-number (leb n limit))
+      (λ b. sym (when-dim 17 (not (leb n limit))))
 
 module _ (t : Table) (n : ℕ) (j : Job) where
   prepare-number : prepareOf t n j .status ≡ prepareFault t n j .status
@@ -198,9 +127,8 @@ module _ (t : Table) (n : ℕ) (j : Job) where
 
   pub prepare-exact : Exact (prepareRules t n j) (prepareOf t n j .status) (prepareOf t n j .dim)
   prepare-exact =
-      let a = prepare-alike j t n in
-      exact (prepareRules t n j) (prepare-positive j t n) (chain (prepareRules t n j)) refl (prepare-number ∙ a .number)
-      (λ b. ap (λ (r : Prepared). r .dim) (prepare-back (λ z. b (sym (a .number) ∙ z))) ∙ a .dim b)
+      exact (prepareRules t n j) (prepare-positive t n j) (prepareFault t n j) (prepare-chain t n j) prepare-number
+      (λ b. ap (λ (r : Prepared). r .dim) (prepare-back b))
 
   pub prepare-refused : (prepareOf t n j .status ≡ 0 → ⊥) → prepareOf t n j ≡ record { status = prepareOf t n j .status; dim = prepareOf t n j .dim; handle = 0; table = t }
   prepare-refused b =
@@ -267,7 +195,8 @@ module _ (t : Table) (h : ℕ) where
   pub poll-exact : Exact (pollRules t h) (pollStatus (pollOf t h)) 0
   unfolding pollOf pollSlot
   poll-exact =
-      let a = joins (whole 18 (not (tableSound t)) ∷ []) (whole 23 (ltb 3 h) ∷ []) (one 18 _ (omega arith)) (one 23 _ (omega arith)) in
-      exact (pollRules t h) (omega arith) (chain (pollRules t h)) refl
-      (poll-number (tableSound t) (ltb 3 h) (pollSlot (slotAt t h)) (slot-number (isFree t h) (eqb (slotAt t h .state) 1) (eqb (slotAt t h .state) 2) (left (slotAt t h))) ∙ a .number)
-      (λ b. sym (or-dim _ _ (when-dim 18 _) (when-dim 23 _)) ∙ a .dim b)
+      exact (pollRules t h) (omega arith) (when 18 0 (not (tableSound t)) orElse when 23 0 (ltb 3 h))
+      (join (whole 18 (not (tableSound t)) ∷ []) (whole 23 (ltb 3 h) ∷ []) (one-chain 18 _ (omega arith)) (one-chain 23 _ (omega arith)))
+      (poll-number (tableSound t) (ltb 3 h) (pollSlot (slotAt t h))
+      (slot-number (isFree t h) (eqb (slotAt t h .state) 1) (eqb (slotAt t h .state) 2) (left (slotAt t h))))
+      (λ b. sym (or-dim _ _ (when-dim 18 _) (when-dim 23 _)))
