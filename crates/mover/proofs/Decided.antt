@@ -6,12 +6,16 @@ use mathlib.Core.List.{List}
 use Rattle.plane.proofs.Decided.{Decided}
 use Rattle.mover.proofs.moves.move_plane.Reads as move-plane
 use Rattle.mover.proofs.within.judge_job.Reads as judge-job
+use Rattle.mover.proofs.within.meets.Reads as meets
 use Rattle.mover.proofs.within.advance.Reads as advance
 use Rattle.mover.proofs.sub.sub_part.Reads as sub-part
 
 -- bytes that are read off the result or off what was lent, at the exit: two outcomes that the contract allows have the same
 pub record OneBytes {K : Type 0} {A R E : K → Type 0} (post : (κ : K) → A κ → R κ → E κ → Type 0) (bytes : (κ : K) → R κ → E κ → List ℕ) : Type 0 where
   pub one : (κ : K) (a : A κ) (x y : R κ) (s t : E κ) → post κ a x s → post κ a y t → bytes κ x s ≡ bytes κ y t
+
+pub meets-decided : Decided meets.Pre meets.Post
+meets-decided = record { free = λ κ a. tt; one = λ κ a x y s t p q. p ∙ sym q }
 
 pub judge-job-decided : Decided judge-job.Pre judge-job.Post
 judge-job-decided = record { free = λ κ a. tt; one = λ κ a x y s t p q. p ∙ sym q }

@@ -21,3 +21,4 @@ pub mod Planned
 pub mod Making
 pub mod Judged
 pub mod SubParts
+pub mod Meeting

@@ -14,6 +14,7 @@ pub use plane::Tensor;
 pub use sub::sub_part;
 pub use within::advance;
 pub use within::judge_job;
+pub use within::meets;
 
 // A part of a memory: length bytes from the byte start on.
 pub struct Part {

@@ -8,8 +8,6 @@ use crate::plan::plan_of;
 use crate::plan::total;
 use plane::Answer;
 ghost use mathlib.Core.Path.{_≡_};
-ghost use mathlib.Core.Bool.{false};
-ghost use Prim.Native.Nat.{max, min};
 ghost use Rattle.plane.specs.Faults.{fault};
 ghost use Rattle.plane.specs.Moves.{refused, answerOf};
 ghost use Rattle.mover.specs.Within.{leaves, meets, jobFault, verdictOf, advanceOf, advanceMemory};
@@ -25,26 +23,14 @@ fn leaves(len: usize, p: Part) -> bool
     n - p.start < p.length
 }
 
-fn larger(a: u64, b: u64) -> u64
-    ensures { λ r. ⌜ r ≡ max a b ⌝ }
-{
-    if a < b { b } else { a }
-}
-
-fn smaller(a: u64, b: u64) -> u64
-    ensures { λ r. ⌜ r ≡ min a b ⌝ }
-{
-    if a < b { a } else { b }
-}
-
-// 21: whether two parts of a memory of len bytes share a byte.
-fn meets(len: usize, p: Part, q: Part) -> bool
-    requires { ⌜ (leaves len p ≡ false) × (leaves len q ≡ false) ⌝ }
+// Whether two parts share a byte: the one that starts later starts within the other, and is not empty.
+pub fn meets(p: Part, q: Part) -> bool
     ensures { λ r. ⌜ r ≡ meets p q ⌝ }
 {
-    let p_end = p.start + p.length;
-    let q_end = q.start + q.length;
-    larger(p.start, q.start) < smaller(p_end, q_end)
+    if p.start <= q.start {
+        return (q.start - p.start < p.length) & (0 < q.length);
+    }
+    (p.start - q.start < q.length) & (0 < p.length)
 }
 
 fn refused(status: u8) -> Answer
@@ -80,7 +66,7 @@ fn answer(len: usize, job: Job) -> Answer
     if a.status != 0 {
         return a;
     }
-    if meets(len, job.source, job.target) {
+    if meets(job.source, job.target) {
         return refused(21);
     }
     a

@@ -1,21 +1,19 @@
 -- The answers of the calls: what each check of the code tells, in the paper's order. Assumes nothing.
-use Prim.Native.Nat.{ℕ, _+_, _-_, _≤_, _<_}
+use Prim.Native.Nat.{ℕ, _-_, _≤_, _<_}
 use native.Mathlib.Omega.{arith}
 use mathlib.Core.Path.{_≡_, refl, sym, ap, _∙_}
 use mathlib.Core.Bool.{Bool, true, false, not, _||_}
 use borrow.Author.Tests.{eq-eqb, ne-eqb, eqb-true, eqb-false, lt-ltb, le-ltb, ltb-false, not-false}
 use lib.Dec.{ltb, eqb}
 use Rattle.plane.specs.declared.Fault.{Fault}
-use Rattle.plane.specs.Faults.{fault, when, _orElse_, unless}
+use Rattle.plane.specs.Faults.{fault, when, _orElse_}
 use Rattle.plane.proofs.Bools.{either-clear, either-first, either-second, neither}
 use Rattle.plane.proofs.Faults.{status, or-none, or-found, or-clear, unless-fault, unless-none, when-bad, when-clear, when-zero, given, spared}
 use Rattle.mover.specs.declared.Job.{Job}
 use Rattle.mover.specs.declared.Verdict.{Verdict}
-use Rattle.mover.specs.Within.{jobFault, totalOf, verdictOf}
+use Rattle.mover.specs.Within.{jobFault, verdictOf}
 use Rattle.transfers.specs.declared.Slot.{Slot}
 use Rattle.transfers.specs.declared.Table.{Table}
-use Rattle.transfers.specs.declared.Prepared.{Prepared}
-use Rattle.transfers.specs.declared.Changed.{Changed}
 use Rattle.transfers.specs.Slots.{slotAt, withSlot, isFree, lowestFree, clashes, tableSound}
 use Rattle.transfers.specs.Calls.{openFault, prepareFault, callFault, newSlot, prepareOf, changed}
 

@@ -1,10 +1,10 @@
 -- The four slots of a table: reading one, putting one in its place, and the lowest that is free. Assumes nothing.
-use Prim.Native.Nat.{ℕ, zero, suc, _+_, _≤_, _<_}
+use Prim.Native.Nat.{ℕ, zero, suc, _+_, _<_}
 use native.Mathlib.Nat.{le-of-suc-le-suc}
 use native.Mathlib.Decide.{ℕ-discrete}
 use native.Mathlib.Omega.{arith}
 use mathlib.Core.Path.{_≡_, refl, sym, ap, subst, _∙_}
-use mathlib.Core.Bool.{Bool, true, false, cond}
+use mathlib.Core.Bool.{cond}
 use mathlib.Core.List.{List, [], _∷_}
 use borrow.Author.Count.{below-more}
 use borrow.Author.Tests.{eq-eqb, ne-eqb}
@@ -13,7 +13,7 @@ use lib.ListN.{length, getD, set}
 use Rattle.plane.specs.Arrays.{table}
 use Rattle.transfers.specs.declared.Slot.{Slot}
 use Rattle.transfers.specs.declared.Table.{Table}
-use Rattle.transfers.specs.Slots.{freeSlot, slotAt, withSlot, isFree, lowestFree}
+use Rattle.transfers.specs.Slots.{freeSlot, slotAt, withSlot, lowestFree}
 
 -- what the code's read of an element stands for past the end of an array of slots
 abbrev pub past : Slot

@@ -2,16 +2,16 @@
 use Prim.Native.Nat.{ℕ, zero, suc, _+_, _≤_, _<_}
 use native.Mathlib.Decide.{ℕ-discrete}
 use native.Mathlib.Omega.{arith}
-use mathlib.Core.Path.{_≡_, refl, sym, ap, subst, _∙_}
+use mathlib.Core.Path.{_≡_, refl, sym, subst, _∙_}
 use mathlib.Core.Bool.{Bool, true, false, cond}
-use borrow.Author.Tests.{eq-eqb, ne-eqb, eqb-true, eqb-false, leb-true, lt-ltb, le-leb}
-use lib.Dec.{leb, eqb, ltb}
+use borrow.Author.Tests.{eqb-true, eqb-false, leb-true, lt-ltb}
+use lib.Dec.{leb, eqb}
 use Rattle.plane.specs.declared.Fault.{Fault}
 use Rattle.plane.specs.Faults.{unless}
 use Rattle.plane.proofs.Arrays.{some-clear}
 use Rattle.plane.proofs.Faults.{unless-fault, unless-none}
 use Rattle.mover.specs.declared.Job.{Job}
-use Rattle.mover.specs.Within.{jobFault, totalOf}
+use Rattle.mover.specs.Within.{totalOf}
 use Rattle.mover.proofs.Laws.{job-total}
 use Rattle.transfers.specs.declared.Slot.{Slot}
 use Rattle.transfers.specs.declared.Table.{Table}

@@ -1,11 +1,12 @@
 -- Theorems to read first: Demand3 (serial and midway), Keeps (sound tables stay sound), Runs (18 is never given in a run), Budgets (what
--- finishes a transfer), Decided (no two outcomes), Exact (refusals), ExampleL.
+-- finishes a transfer), Decided (no two outcomes), Exact (refusals), AllZero (a free slot is all zero), ExampleL.
 pub mod Demand3
 pub mod Keeps
 pub mod Runs
 pub mod Budgets
 pub mod Decided
 pub mod Exact
+pub mod AllZero
 pub mod ExampleL
 -- Laws over plain values, which the functions' proofs cite.
 pub mod Every

@@ -12,7 +12,7 @@ use Rattle.plane.proofs.Bools.{either-clear}
 use Rattle.plane.proofs.Chains.{Rule, whole, Given, Exact}
 use Rattle.mover.specs.declared.Job.{Job}
 use Rattle.transfers.specs.declared.Table.{Table}
-use Rattle.transfers.specs.Slots.{freshTable, tableSound, limit}
+use Rattle.transfers.specs.Slots.{freshTable, limit}
 use Rattle.transfers.specs.Calls.{prepareOf, startOf, releaseOf, stepOf, pollOf, pollStatus}
 use Rattle.transfers.proofs.Keeps.{Kept, free-table, prepare-keeps, start-keeps, step-keeps, release-keeps}
 use Rattle.transfers.proofs.Exact.{openRules, prepare-exact, start-exact, step-exact, release-exact, poll-exact}

@@ -1,13 +1,11 @@
 -- What a sound table tells: of its length, of each slot, and of any two slots. Assumes nothing.
-use Prim.Native.Nat.{ℕ, zero, suc, _+_, _≤_, _<_}
+use Prim.Native.Nat.{ℕ, _+_, _≤_, _<_}
 use native.Mathlib.Decide.{decLt, ℕ-discrete}
 use native.Mathlib.Omega.{arith}
-use mathlib.Core.Path.{_≡_, refl, sym, ap, _∙_}
-use mathlib.Core.Logic.{⊎-elim}
-use mathlib.Core.Bool.{Bool, true, false, cond, not, _&&_, true≢false}
-use borrow.Author.Tests.{eq-eqb, ne-eqb, eqb-true, ltb-true, lt-ltb, leb-true, le-leb, lt-leb, not-true}
+use mathlib.Core.Path.{_≡_, sym, ap, _∙_}
+use mathlib.Core.Bool.{Bool, true, false, not, _&&_, true≢false}
+use borrow.Author.Tests.{eq-eqb, ne-eqb, eqb-true, ltb-true, leb-true, le-leb, lt-leb, not-true}
 use lib.Dec.{ltb, leb, eqb}
-use Rattle.plane.specs.Arrays.{some}
 use Rattle.plane.proofs.Arrays.{some-clear, some-none}
 use Rattle.mover.specs.declared.Job.{Job}
 use Rattle.mover.specs.declared.Verdict.{Verdict}
@@ -16,7 +14,7 @@ use Rattle.transfers.specs.declared.Slot.{Slot}
 use Rattle.transfers.specs.declared.Table.{Table}
 use Rattle.mover.specs.Element.{every}
 use Rattle.transfers.specs.Slots.{slotAt, breaks, clashes, noPart, noTensor, noConfig, noJob, movedRight, slotSound, soundAt, tableSound, limit}
-use Rattle.transfers.proofs.Every.{both, both-first, both-second, not-first, not-second, every-at, every-all, every-start, every-more, every-missed, every-end}
+use Rattle.transfers.proofs.Every.{both, both-first, both-second, not-first, not-second, every-at, every-all, every-more, every-missed, every-end}
 use Rattle.transfers.proofs.Meeting.{breaks-either, empty-breaks}
 
 -- ---- moved and the state

@@ -1,20 +1,18 @@
 -- A step, and a poll: what they know of the slot, and what they answer. Assumes nothing.
-use Prim.Native.Nat.{ℕ, _+_, _-_, _≤_, _<_, min}
+use Prim.Native.Nat.{ℕ, _+_, _-_, _≤_, _<_}
 use native.Mathlib.Omega.{arith}
-use mathlib.Core.Path.{_≡_, refl, sym, ap, subst, _∙_}
-use mathlib.Core.Bool.{Bool, true, false, cond}
+use mathlib.Core.Path.{_≡_, sym, ap, subst, _∙_}
+use mathlib.Core.Bool.{true, false}
 use mathlib.Core.List.{List}
-use borrow.Author.Tests.{eq-eqb, ne-eqb, ltb-true, lt-ltb, le-ltb}
-use lib.Dec.{eqb}
+use borrow.Author.Tests.{ne-eqb, ltb-true, lt-ltb, le-ltb}
 use lib.ListN.{length}
 use Rattle.plane.proofs.Faults.{unless-fault, unless-none}
 use Rattle.mover.specs.declared.Advanced.{Advanced}
-use Rattle.mover.specs.Within.{jobFault, totalOf, advance, advancedBy, advanceOf, advanceMemory}
+use Rattle.mover.specs.Within.{jobFault, totalOf, advancedBy, advanceOf, advanceMemory}
 use Rattle.transfers.specs.declared.Slot.{Slot}
 use Rattle.transfers.specs.declared.Table.{Table}
-use Rattle.transfers.specs.declared.Poll.{Poll}
 use Rattle.transfers.specs.declared.Poll.the-variants as poll
-use Rattle.transfers.specs.Slots.{slotAt, withSlot, movedRight, tableSound}
+use Rattle.transfers.specs.Slots.{slotAt, withSlot, tableSound}
 use Rattle.transfers.specs.Calls.{callFault, countOf, later, stepOf, stepMemory, left, pollSlot, pollOf}
 use Rattle.transfers.proofs.Sounds.{Busy, busy, right-2, right-most, sound-tells}
 use Rattle.transfers.proofs.Answers.{called}

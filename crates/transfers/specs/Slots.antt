@@ -1,7 +1,7 @@
 -- Four transfers over one memory: the slots, and when a table is sound.
 use Prim.Native.Nat.{ℕ}
 use mathlib.Core.Bool.{Bool, cond, not, _&&_, _||_}
-use mathlib.Core.List.{List, [], _∷_}
+use mathlib.Core.List.{List}
 use lib.Dec.{ltb, leb, eqb}
 use lib.ListN.{getD}
 use Rattle.plane.specs.declared.Tensor.{Tensor}

@@ -4,21 +4,10 @@ use crate::Table;
 use crate::slots::slot_at;
 use crate::zeros::no_job;
 use mover::Job;
-use mover::Part;
+use mover::meets;
 ghost use mathlib.Core.Path.{_≡_};
 ghost use Prim.Native.Nat.{_≤_};
-ghost use Rattle.mover.specs.Within.{meets};
 ghost use Rattle.transfers.specs.Slots.{breaks, clashes, movedRight, slotSound, tableSound};
-
-// Whether two parts share a byte: the one that starts later starts within the other, and is not empty.
-fn meets(p: Part, q: Part) -> bool
-    ensures { λ r. ⌜ r ≡ meets p q ⌝ }
-{
-    if p.start <= q.start {
-        return (q.start - p.start < p.length) & (0 < q.length);
-    }
-    (p.start - q.start < q.length) & (0 < p.length)
-}
 
 // Whether a destination part of the one meets a part of the other.
 fn breaks(j: Job, k: Job) -> bool

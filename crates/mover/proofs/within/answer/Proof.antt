@@ -61,7 +61,7 @@ answer-spec =
     returns-2
     (λ c κs. search needs)
     returns-3
-    (λ c κs. stays (c .before .before .before))
+    (λ c κs. search needs)
     (λ c κs. search needs)
     returns-4
     returns-5)

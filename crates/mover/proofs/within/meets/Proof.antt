@@ -1,18 +1,20 @@
--- `mover::within::meets` compares the later start with the earlier end. Assumes nothing.
-use native.Mathlib.Omega.{arith}
+-- `mover::within::meets` asks whether the later start lies within the other part. Assumes nothing.
 use borrow.Author.Needs.{needs}
-use Rattle.mover.proofs.Laws.{part-fits}
+use Rattle.mover.proofs.Meeting.{first-meets, second-meets}
 use Rattle.mover.proofs.within.meets.Statement.{statement}
 use Rattle.mover.proofs.within.meets.Tie as tie
 
-add-p-end : tie.Need-add-p-end
-add-p-end c = let s = c .before in omega (arith, part-fits (s .args .len) (s .args .p) (s .pre .0), s .good)
-
-add-q-end : tie.Need-add-q-end
-add-q-end c = let s = c .before .before in omega (arith, part-fits (s .args .len) (s .args .q) (s .pre .1), s .good)
-
 returns : tie.Need-returns
-returns c = rw (c .smaller .ensures, c .before .larger .ensures)
+returns c =
+    let i = c .before .before .before .before in
+    let a = i .before .before .before .args in
+    first-meets (a .p) (a .q) (i .if1 .taken)
+
+returns-2 : tie.Need-returns-2
+returns-2 c =
+    let i = c .before .before .before .before in
+    let a = i .before .before .before .args in
+    second-meets (a .p) (a .q) (i .if1 .left)
 
 pub meets-spec : {M : Type 1} → statement M
-meets-spec = tie.close (tie.spec add-p-end add-q-end (λ c κs. search needs) (λ c κs. search needs) returns)
+meets-spec = tie.close (tie.spec returns (λ c. search needs) returns-2)
