@@ -43,9 +43,9 @@ examples =
     -- B
     moves (compact 2 1 (two 3 4)) (withSize (withOffset defaults (two 1 1)) (two 2 2)) (1 ∷ 2 ∷ 3 ∷ 4 ∷ 5 ∷ 6 ∷ 7 ∷ 8 ∷ 9 ∷ 10 ∷ 11 ∷ 12 ∷ []) (0 ∷ 0 ∷ 0 ∷ 0 ∷ []) (6 ∷ 7 ∷ 10 ∷ 11 ∷ []) ∷
     -- C
-    moves (compact 1 1 (one 7)) (withStep defaults (one 3)) (1 ∷ 2 ∷ 3 ∷ 4 ∷ 5 ∷ 6 ∷ 7 ∷ []) (0 ∷ 0 ∷ 0 ∷ []) (1 ∷ 4 ∷ 7 ∷ []) ∷
-    moves (compact 1 1 (one 7)) (withSize (withStep defaults (one 3)) (one 6)) (1 ∷ 2 ∷ 3 ∷ 4 ∷ 5 ∷ 6 ∷ 7 ∷ []) (0 ∷ 0 ∷ 0 ∷ []) (1 ∷ 4 ∷ 0 ∷ []) ∷
-    moves (compact 1 1 (one 7)) (withStep defaults (one 9)) (1 ∷ 2 ∷ 3 ∷ 4 ∷ 5 ∷ 6 ∷ 7 ∷ []) (0 ∷ 0 ∷ 0 ∷ []) (1 ∷ 0 ∷ 0 ∷ []) ∷
+    moves (compact 1 1 (one 7)) (withStep defaults (one 3)) (1 ∷ 2 ∷ 3 ∷ 4 ∷ 5 ∷ 6 ∷ 7 ∷ []) (9 ∷ 9 ∷ 9 ∷ []) (1 ∷ 4 ∷ 7 ∷ []) ∷
+    moves (compact 1 1 (one 7)) (withSize (withStep defaults (one 3)) (one 6)) (1 ∷ 2 ∷ 3 ∷ 4 ∷ 5 ∷ 6 ∷ 7 ∷ []) (9 ∷ 9 ∷ 9 ∷ []) (1 ∷ 4 ∷ 9 ∷ []) ∷
+    moves (compact 1 1 (one 7)) (withStep defaults (one 9)) (1 ∷ 2 ∷ 3 ∷ 4 ∷ 5 ∷ 6 ∷ 7 ∷ []) (9 ∷ 9 ∷ 9 ∷ []) (1 ∷ 9 ∷ 9 ∷ []) ∷
     -- D
     moves (compact 2 1 (two 1 2)) (withPost (withPre defaults (two 1 0)) (two 0 1)) (5 ∷ 6 ∷ []) (9 ∷ 9 ∷ 9 ∷ 9 ∷ 9 ∷ 9 ∷ []) (0 ∷ 0 ∷ 0 ∷ 5 ∷ 6 ∷ 0 ∷ []) ∷
     -- E

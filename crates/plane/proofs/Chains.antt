@@ -221,3 +221,13 @@ join rs qs p q = or-path p q ∙ sym (chain-append rs qs)
 pub one-chain : (num : ℕ) (b : Bool) → 0 < num → when num 0 b ≡ chain (whole num b ∷ [])
 unfolding chain
 one-chain num b p = whole-is num b ∙ sym (or-last (whole num b) p)
+
+-- a number that no rule of the list has is never given
+abbrev pub Without : ℕ → List Rule → Type 0
+Without num [] = Unit
+Without num (r ∷ rs) = (num ≡ r .number → ⊥) × Without num rs
+
+pub never-given : (rs : List Rule) (num d : ℕ) → Without num rs → Given rs num d → ⊥
+never-given [] num d w g = g
+never-given (r ∷ rs) num d w (inl g) = w .0 (g .0)
+never-given (r ∷ rs) num d w (inr g) = never-given rs num d (w .1) (g .1)

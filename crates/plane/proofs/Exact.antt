@@ -2,11 +2,12 @@
 -- end say that an answer has number 0 exactly if every rule of its list is kept; that it has a number at a dimension exactly if
 -- that rule is broken there, at none of its dimensions met before, and every earlier rule is kept; and that a refused answer
 -- is zeros besides. Assumes nothing.
-use Prim.Native.Nat.{ℕ, _^_}
+use Prim.Native.Nat.{ℕ, _^_, _≤_}
 use native.Mathlib.Decide.{ℕ-discrete}
 use native.Mathlib.Omega.{arith}
 use mathlib.Core.Path.{_≡_, refl, sym, ap, _∙_}
-use mathlib.Core.Bool.{_||_}
+use mathlib.Core.Bool.{true, false, _||_}
+use borrow.Author.Tests.{le-ltb}
 use mathlib.Core.List.{List, [], _∷_, _++_}
 use lib.Dec.{ltb, leb, eqb}
 use Rattle.plane.specs.declared.Tensor.{Tensor}
@@ -17,14 +18,15 @@ use Rattle.plane.specs.declared.Answer.{Answer}
 use Rattle.plane.specs.declared.Count.{Count}
 use Rattle.plane.specs.declared.SubTensor.{SubTensor}
 use Rattle.plane.specs.Arrays.{at, zeros, howMany}
-use Rattle.plane.specs.Faults.{fault}
+use Rattle.plane.specs.Faults.{fault, when, _orElse_}
 use Rattle.plane.specs.Planes.{badRank, badElement, badShape, shapeAt, strideAt, strideBad, srcStrides, span, sourceFault, sourceOf}
 use Rattle.plane.specs.Moves.{extent, dstExtents, dstStrides, need, permBad, badOffset, badSize, badStep, badExtent, badDstOffset, configFault, placeFault, moveFault, roomFault, refused, answerOf, judgeOf, roomOf}
+use Rattle.plane.specs.ReadyMade.{allZero, cutTo, madeFor}
 use Rattle.plane.specs.Helpers.{elements, countFault, noCount, countAnswer, countOf, isUnit, excess, badSubSize, rankFault, subFault, subOf, subByte, noSub, subAnswer, subTensorOf}
-use Rattle.plane.proofs.Faults.{or-path, unless-fault, unless-none}
-use Rattle.plane.proofs.Rules.{answer-refused, answer-status}
+use Rattle.plane.proofs.Faults.{status, or-path, or-none, or-found, or-assoc, spared, when-zero, unless-fault, unless-none}
+use Rattle.plane.proofs.Rules.{answer-refused, answer-given, answer-status}
 use Rattle.plane.proofs.SubAnswers.{sub-status}
-use Rattle.plane.proofs.Chains.{Rule, whole, upward, outside, Positive, chain, Exact, exact, or-last, whole-is, join, one-chain}
+use Rattle.plane.proofs.Chains.{Rule, whole, upward, outside, Positive, Without, chain, Exact, exact, never-given, or-last, whole-is, join, one-chain}
 
 -- ---- the rules of each call, in the paper's order
 
@@ -124,7 +126,7 @@ sub-chain t s srcLen =
     [])
     (source-chain t) (or-path (whole-is 5 _) (or-path refl (or-path refl (or-path (whole-is 14 _) (one-chain 15 _ (omega arith))))))
 
--- every number is above 0
+-- every number is above 0, and a room question has no 5 and no 13
 
 positive-source : (t : Tensor) → Positive (sourceRules t)
 positive-source t = omega arith
@@ -140,6 +142,12 @@ positive-count t start = omega arith
 
 positive-sub : (t : Tensor) (s : SubConfig) (srcLen : ℕ) → Positive (subRules t s srcLen)
 positive-sub t s srcLen = omega arith
+
+without-5 : (t : Tensor) (c : Config) → Without 5 (roomRules t c)
+without-5 t c = (λ e. omega arith, (λ e. omega arith, (λ e. omega arith, (λ e. omega arith, (λ e. omega arith, (λ e. omega arith, (λ e. omega arith, (λ e. omega arith, (λ e. omega arith, (λ e. omega arith, (λ e. omega arith, tt)))))))))))
+
+without-13 : (t : Tensor) (c : Config) → Without 13 (roomRules t c)
+without-13 t c = (λ e. omega arith, (λ e. omega arith, (λ e. omega arith, (λ e. omega arith, (λ e. omega arith, (λ e. omega arith, (λ e. omega arith, (λ e. omega arith, (λ e. omega arith, (λ e. omega arith, (λ e. omega arith, tt)))))))))))
 
 -- an answer's number and dimension are its fault's
 
@@ -201,6 +209,27 @@ module _ (t : Tensor) (c : Config) where
       let s = unless-fault (roomFault t c) 0 (span t) (λ z. h (answer-status _ t c ∙ z)) in
       λ i. record { answer = a i; span = s i }
 
+  -- a room question never gives 5 or 13
+  pub room-never-5 : roomOf t c .answer .status ≡ 5 → ⊥
+  room-never-5 e = never-given (roomRules t c) 5 _ (without-5 t c) (room-exact .gives 5 _ (omega arith) .0 (e, refl))
+
+  pub room-never-13 : roomOf t c .answer .status ≡ 13 → ⊥
+  room-never-13 e = never-given (roomRules t c) 13 _ (without-13 t c) (room-exact .gives 13 _ (omega arith) .0 (e, refl))
+
+  -- and else gives what a move gives that is lent enough
+  pub room-is-judge : (srcLen dstLen : ℕ) → span t ≤ srcLen → need t c ≤ dstLen → judgeOf t c srcLen dstLen ≡ roomOf t c .answer
+  unfolding judgeOf roomOf moveFault roomFault
+  room-is-judge srcLen dstLen p q =
+      let last = when 13 0 (ltb dstLen (need t c)) in
+      let none-5 = spared 5 0 (ltb srcLen (span t)) (configFault t c orElse placeFault t c orElse last) (le-ltb srcLen (span t) p) in
+      let none-13 = when-zero 13 0 (ltb dstLen (need t c)) (le-ltb dstLen (need t c) q) in
+      let e : moveFault t c srcLen dstLen ≡ (roomFault t c orElse last) =
+      or-path refl none-5 ∙ or-path refl (sym (or-assoc _ _ _)) ∙ sym (or-assoc _ _ _) in
+      elim (ℕ-discrete (roomFault t c .status) 0) [
+        | yes z ↦ answer-given (moveFault t c srcLen dstLen) t c (status e ∙ status (or-none (roomFault t c) last z) ∙ none-13) ∙ sym (answer-given (roomFault t c) t c z)
+        | no z ↦ ap (λ (f : Fault). answerOf f t c) (e ∙ or-found (roomFault t c) last z)
+      ]
+
 module _ (t : Tensor) (start : ℕ) where
   pub count-exact : Exact (countRules t start) (countOf t start .status) (countOf t start .dim)
   unfolding countOf
@@ -224,3 +253,13 @@ module _ (t : Tensor) (s : SubConfig) (srcLen : ℕ) where
       let f = subFault t s srcLen in
       let e = unless-fault f (noSub f) (record { status = 0; dim = 0; tensor = subOf t s; byte = subByte t s }) (λ z. h (sub-status f (subOf t s) (subByte t s) ∙ z)) in
       e ∙ ap (λ (x : SubTensor). noSub (fault (x .status) (x .dim))) (sym e)
+
+-- a configuration is refused for a wrong rank alone, and then all its fields are 0
+module _ (n : ℕ) (c : Config) where
+  pub made-given : badRank n ≡ false → madeFor n c ≡ record { status = 0; config = cutTo n c }
+  unfolding madeFor
+  made-given e = simp e
+
+  pub made-refused : badRank n ≡ true → madeFor n c ≡ record { status = 1; config = allZero }
+  unfolding madeFor
+  made-refused e = simp e

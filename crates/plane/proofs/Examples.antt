@@ -15,8 +15,6 @@ use Rattle.plane.specs.Moves.{count, extent, dstExtents, need, configFau
 use Rattle.plane.specs.ReadyMade.{defaults, withOffset, withSize, withStep, withDstStride, withPerm, withPre}
 use Rattle.plane.specs.Helpers.{elements, countFault, noCount, countAnswer, countOf, staying, rankFault, subFault, subOf, subByte, subAnswer, subTensorOf}
 
--- entries past the rank are 9, which nobody looks at
-
 -- entries at and past the rank, which nobody looks at, are 9
 abbrev one : ℕ → List ℕ
 one a = a ∷ 9 ∷ 9 ∷ 9 ∷ []
@@ -84,7 +82,7 @@ too-long : roomOf (compact 1 1 (one 65535)) (withPre (withSize defaults (one 652
 unfolding roomOf roomFault sourceFault when _orElse_ lowest first outward answerOf configFault placeFault need sum some firsts strideBad resolved inner extent count dstExtents
 too-long = refl
 
--- C: seven, one in three, makes three; of six, two; one in nine, one
+-- C: seven, one in three, makes three: rounded up
 rounded : roomOf (compact 1 1 (one 7)) (withStep defaults (one 3)) .answer .extent ≡ 3 ∷ 0 ∷ 0 ∷ 0 ∷ []
 unfolding roomOf roomFault sourceFault when _orElse_ lowest first outward answerOf configFault placeFault need sum some firsts strideBad resolved inner extent count dstExtents
 rounded = refl

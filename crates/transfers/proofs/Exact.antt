@@ -115,6 +115,14 @@ module _ (n : ℕ) where
       exact (freshRules n) (omega arith) (when 17 0 (not (leb n limit))) (one-chain 17 _ (omega arith)) (fresh-number (leb n limit))
       (λ b. sym (when-dim 17 (not (leb n limit))))
 
+  pub fresh-refused : (freshOf n .status ≡ 0 → ⊥) → freshOf n ≡ record { status = 17; table = freshTable 0 }
+  unfolding freshOf
+  fresh-refused h = by-test (leb n limit) h
+    where
+      by-test : (v : Bool) → (cond {A = FreshTable} v (record { status = 0; table = freshTable n }) (record { status = 17; table = freshTable 0 }) .status ≡ 0 → ⊥) → cond {A = FreshTable} v (record { status = 0; table = freshTable n }) (record { status = 17; table = freshTable 0 }) ≡ record { status = 17; table = freshTable 0 }
+      by-test true h = absurd (h refl)
+      by-test false h = refl
+
 module _ (t : Table) (n : ℕ) (j : Job) where
   prepare-number : prepareOf t n j .status ≡ prepareFault t n j .status
   unfolding prepareOf

@@ -7,6 +7,7 @@ pub mod Budgets
 pub mod Decided
 pub mod Exact
 pub mod AllZero
+pub mod Polls
 pub mod ExampleL
 -- Laws over plain values, which the functions' proofs cite.
 pub mod Every
