@@ -5,13 +5,10 @@ use mathlib.Core.Path.{_≡_, refl}
 use mathlib.Core.Bool.{_||_}
 use mathlib.Core.List.{List, [], _∷_, _++_}
 use lib.ListN.{length}
-use Rattle.plane.specs.Faults.{fault}
 use Rattle.plane.proofs.Faults.{unless-fault}
 use Rattle.plane.proofs.Chains.{Rule, whole, Positive, chain, Exact, exact, join, one-chain}
-use Rattle.plane.proofs.Exact.{moveRules, positive-move, move-chain}
+use Rattle.plane.proofs.Exact.{moveRules, move-chain}
 use Rattle.mover.specs.declared.Job.{Job}
-use Rattle.mover.specs.declared.Verdict.{Verdict}
-use Rattle.mover.specs.declared.Advanced.{Advanced}
 use Rattle.mover.specs.Within.{leaves, meets, jobFault, totalOf, verdictOf, advance, advanceOf}
 
 abbrev pub jobRules : ℕ → Job → List Rule

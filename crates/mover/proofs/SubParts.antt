@@ -1,14 +1,13 @@
 -- Laws of the part of a source at which a sub-tensor starts. Assumes nothing.
-use Prim.Native.Nat.{ℕ, _+_, _-_, _≤_}
+use Prim.Native.Nat.{ℕ, _-_, _≤_}
 use native.Mathlib.Omega.{arith}
-use mathlib.Core.Path.{_≡_, refl, sym, ap, ap₂, _∙_}
+use mathlib.Core.Path.{_≡_, sym, ap, _∙_}
 use mathlib.Core.List.{List, []}
 use lib.ListN.{length, take, drop, length-drop}
 use lib.Seq.{take-length}
 use Rattle.plane.specs.declared.Tensor.{Tensor}
 use Rattle.plane.specs.declared.SubConfig.{SubConfig}
 use Rattle.plane.specs.declared.SubTensor.{SubTensor}
-use Rattle.plane.specs.Planes.{span}
 use Rattle.plane.specs.Helpers.{subFault, subOf, subByte, subTensorOf}
 use Rattle.plane.proofs.Faults.{unless-fault, unless-none}
 use Rattle.plane.proofs.SubAnswers.{sub-status}

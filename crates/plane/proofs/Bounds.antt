@@ -3,8 +3,8 @@
 use Prim.Native.Nat.{ℕ, zero, suc, _+_, _-_, _*_, _^_, _≤_, _<_}
 use native.Mathlib.Nat.{mul-le-mul, suc-mul, pow-suc, not-suc-le-zero, le-of-suc-le-suc}
 use native.Mathlib.Omega.{arith}
-use mathlib.Core.Path.{_≡_, refl, sym, ap, subst, _∙_}
-use mathlib.Core.Bool.{Bool, true, false, _||_, true≢false}
+use mathlib.Core.Path.{_≡_, refl, subst}
+use mathlib.Core.Bool.{Bool, true, false, _||_}
 use mathlib.Core.Logic.{⊎-elim}
 use borrow.Author.Tests.{eqb-true}
 use lib.Dec.{eqb}
@@ -15,7 +15,6 @@ use Rattle.plane.specs.Planes.{elementSize, shapeAt, strideAt, inner, re
 use Rattle.plane.specs.Moves.{dstExtents, dstStrides, need}
 use Rattle.plane.proofs.Bools.{either-cases}
 use Rattle.plane.proofs.Arrays.{firsts-at}
-use Rattle.plane.proofs.Resolving.{inner-out}
 use Rattle.plane.proofs.Good.{GoodStrides, GoodSource, GoodConfig, GoodPlace}
 use Rattle.plane.proofs.Rules.{dst-extent}
 

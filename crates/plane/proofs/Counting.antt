@@ -1,18 +1,16 @@
 -- Laws of the element count, and of the loop that multiplies shapes. Assumes nothing.
 use Prim.Native.Nat.{ℕ, zero, suc, _+_, _-_, _*_, _/_, _^_, _≤_, _<_}
-use native.Mathlib.Nat.{le-div-iff-mul-le, div-lt-iff-lt-mul, mul-le-mul, mul-le-mul-left, mul-one, le-of-suc-le-suc, eq-or-lt-of-le, not-suc-le-zero}
-use native.Mathlib.Decide.{decLe}
+use native.Mathlib.Nat.{le-div-iff-mul-le, div-lt-iff-lt-mul, mul-le-mul-left, mul-one, le-of-suc-le-suc, eq-or-lt-of-le}
 use native.Mathlib.Omega.{arith}
-use mathlib.Core.Path.{_≡_, refl, sym, ap, ap₂, subst, _∙_}
+use mathlib.Core.Path.{_≡_, sym, ap, ap₂, _∙_}
 use mathlib.Core.Logic.{⊎-elim}
-use mathlib.Core.Bool.{true, false}
 use borrow.Author.Tests.{le-leb, lt-leb}
 use lib.Dec.{leb}
 use Rattle.plane.specs.declared.Tensor.{Tensor}
 use Rattle.plane.specs.declared.Count.{Count}
 use Rattle.plane.specs.declared.Fault.{Fault}
 use Rattle.plane.specs.Arrays.{product}
-use Rattle.plane.specs.Faults.{none, fault, when}
+use Rattle.plane.specs.Faults.{fault}
 use Rattle.plane.specs.Helpers.{elements, countFault, noCount, countAnswer, countOf}
 use Rattle.plane.specs.Private.{productOf}
 use Rattle.plane.proofs.Faults.{is-fault, when-bad, when-good, unless-fault, unless-none}

@@ -3,16 +3,11 @@ use Prim.Native.Nat.{ℕ}
 use mathlib.Core.Path.{_≡_, refl}
 use mathlib.Core.List.{List, [], _∷_}
 use Rattle.plane.specs.declared.Tensor.{Tensor}
-use Rattle.plane.specs.declared.Config.{Config}
-use Rattle.plane.specs.declared.SubConfig.{SubConfig}
-use Rattle.plane.specs.declared.Answer.{Answer}
-use Rattle.plane.specs.declared.Count.{Count}
-use Rattle.plane.specs.declared.SubTensor.{SubTensor}
 use Rattle.plane.specs.Arrays.{zeros, firsts, sum, product, howMany, some}
 use Rattle.plane.specs.Faults.{fault, when, _orElse_, first, lowest, outward}
 use Rattle.plane.specs.Planes.{inner, resolved, strideBad, span, sourceFault}
 use Rattle.plane.specs.Moves.{count, extent, dstExtents, need, configFault, placeFault, moveFault, roomFault, refused, answerOf, judgeOf, roomOf}
-use Rattle.plane.specs.ReadyMade.{defaults, withOffset, withSize, withStep, withDstStride, withPerm, withPre}
+use Rattle.plane.specs.ReadyMade.{defaults, withSize, withStep, withDstStride, withPerm, withPre}
 use Rattle.plane.specs.Helpers.{elements, countFault, noCount, countAnswer, countOf, staying, rankFault, subFault, subOf, subByte, subAnswer, subTensorOf}
 
 -- entries at and past the rank, which nobody looks at, are 9

@@ -1,18 +1,17 @@
 -- What acceptance tells: the paper's conditions as plain inequalities, a record for each stretch of the numbers of refusal, and
 -- that a stretch gives no number exactly if its conditions hold. Assumes nothing.
-use Prim.Native.Nat.{ℕ, zero, suc, _+_, _-_, _*_, _/_, _≤_, _<_}
+use Prim.Native.Nat.{ℕ, zero, suc, _+_, _-_, _≤_, _<_}
 use native.Mathlib.Omega.{arith}
-use mathlib.Core.Path.{_≡_, refl, sym, ap, subst, _∙_}
-use mathlib.Core.Bool.{Bool, true, false, _||_}
+use mathlib.Core.Path.{_≡_, refl}
+use mathlib.Core.Bool.{false}
 use borrow.Author.Tests.{eqb-false, ne-eqb, leb-false, lt-leb, ltb-false, le-ltb}
 use lib.Dec.{leb, ltb, eqb}
 use Rattle.plane.specs.declared.Tensor.{Tensor}
 use Rattle.plane.specs.declared.Config.{Config}
-use Rattle.plane.specs.declared.Fault.{Fault}
 use Rattle.plane.specs.Arrays.{at, some}
-use Rattle.plane.specs.Faults.{when, _orElse_, lowest, outward}
-use Rattle.plane.specs.Planes.{badRank, elementSize, badElement, badShape, badStride, shapeAt, strideAt, inner, resolved, strideBad, span, sourceFault}
-use Rattle.plane.specs.Moves.{extent, dstExtents, dstStrides, need, permBad, badOffset, badSize, badStep, badExtent, badDstOffset, configFault, placeFault, moveFault, roomFault}
+use Rattle.plane.specs.Faults.{lowest, outward}
+use Rattle.plane.specs.Planes.{badRank, elementSize, badElement, badShape, shapeAt, strideAt, inner, resolved, strideBad, span, sourceFault}
+use Rattle.plane.specs.Moves.{extent, dstExtents, dstStrides, need, permBad, badOffset, badSize, badStep, badExtent, badDstOffset, configFault, placeFault, moveFault}
 use Rattle.plane.proofs.Bools.{either-clear, neither, in-range}
 use Rattle.plane.proofs.Arrays.{some-clear, some-none}
 use Rattle.plane.proofs.Faults.{or-clear, or-zero, when-clear, when-zero, lowest-clear, lowest-zero, outward-clear, outward-zero}

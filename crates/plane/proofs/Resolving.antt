@@ -1,5 +1,5 @@
 -- Laws of strides resolved outward (`specs/Planes.antt`), and of the loop that resolves them. Assumes nothing.
-use Prim.Native.Nat.{ℕ, zero, suc, _+_, _-_, _*_, _≤_, _<_}
+use Prim.Native.Nat.{ℕ, suc, _-_, _*_, _≤_, _<_}
 use native.Mathlib.Decide.{ℕ-discrete, decLe}
 use native.Mathlib.Omega.{arith}
 use mathlib.Core.Path.{_≡_, refl, sym, ap, ap₂, subst, _∙_}
@@ -11,7 +11,7 @@ use lib.ListN.{getD, set, length, length-set}
 use lib.Seq.{getD-set-same, getD-set-other}
 use Rattle.plane.specs.declared.Fault.{Fault}
 use Rattle.plane.specs.declared.strides.Strides.{Strides}
-use Rattle.plane.specs.Arrays.{at, below, firsts, zeros, or0}
+use Rattle.plane.specs.Arrays.{below, firsts, zeros, or0}
 use Rattle.plane.specs.Faults.{none, fault, when, first, outward, unless}
 use Rattle.plane.specs.Planes.{badStride, inner, resolved, strideBad, strides}
 use Rattle.plane.specs.Private.{stridesOf}

@@ -1,30 +1,28 @@
 -- From what the code's checks answer, in their order, to the definitions of the answers. Assumes nothing.
-use Prim.Native.Nat.{ℕ, zero, suc, _+_, _-_, _*_, _/_, _≤_, _<_}
+use Prim.Native.Nat.{ℕ, _+_, _-_, _*_, _≤_, _<_}
 use native.Mathlib.Nat.{add-div-right}
 use native.Mathlib.Decide.{ℕ-discrete}
 use native.Mathlib.Omega.{arith}
-use mathlib.Core.Path.{_≡_, refl, sym, ap, ap₂, subst, _∙_}
-use mathlib.Core.Bool.{Bool, true, false, cond}
+use mathlib.Core.Path.{_≡_, refl, sym, ap, ap₂, _∙_}
 use mathlib.Core.List.{List}
 use borrow.Author.Tests.{eq-eqb, ne-eqb, lt-ltb, le-ltb, ltb-false}
-use lib.Dec.{ltb, leb, eqb}
+use lib.Dec.{ltb, leb}
 use Rattle.plane.specs.declared.Tensor.{Tensor}
 use Rattle.plane.specs.declared.Config.{Config}
 use Rattle.plane.specs.declared.Fault.{Fault}
 use Rattle.plane.specs.declared.Answer.{Answer}
-use Rattle.plane.specs.declared.RoomAnswer.{RoomAnswer}
 use Rattle.plane.specs.declared.Source.{Source}
 use Rattle.plane.specs.declared.strides.Strides.{Strides}
-use Rattle.plane.specs.Arrays.{at, zeros, sum, or0}
-use Rattle.plane.specs.Faults.{none, fault, when, _orElse_, lowest, outward, unless}
-use Rattle.plane.specs.Planes.{badRank, badElement, badShape, shapeAt, strideAt, strideBad, srcStrides, span, sourceFault, sourceOf}
+use Rattle.plane.specs.Arrays.{at, zeros}
+use Rattle.plane.specs.Faults.{none, fault, when, _orElse_, lowest, unless}
+use Rattle.plane.specs.Planes.{badShape, shapeAt, srcStrides, span, sourceFault, sourceOf}
 use Rattle.plane.specs.Moves.{upward, taken, count, extent, dstExtents, dstStrides, need, badDstOffset, configFault, placeFault, moveFault, roomFault, refused, accepted, answerOf, judgeOf, roomOf}
 use Rattle.plane.specs.Private.{stridesOf, reach}
 use Rattle.plane.proofs.Bools.{either-clear, in-range}
 use Rattle.plane.proofs.Arrays.{zeros-at, sum-same, firsts-at}
-use Rattle.plane.proofs.Faults.{status, is-fault, or-none, or-found, or-path, or-assoc, passed, stopped, unless-fault, unless-none, given, spared, when-bad, when-good, lowest-clear}
+use Rattle.plane.proofs.Faults.{status, or-none, or-found, or-assoc, passed, stopped, unless-fault, unless-none, given, spared, when-bad, when-good, lowest-clear}
 use Rattle.plane.proofs.Resolving.{strides-fault, strides-ok}
-use Rattle.plane.proofs.Good.{GoodSource, GoodConfig, GoodPlace, positive, source-good, config-good}
+use Rattle.plane.proofs.Good.{GoodSource, GoodConfig, positive, source-good}
 
 -- ---- a tensor record by itself
 

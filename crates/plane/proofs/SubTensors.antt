@@ -9,7 +9,6 @@ use lib.Dec.{ltb, eqb}
 use lib.ListN.{length}
 use Rattle.plane.specs.declared.Tensor.{Tensor}
 use Rattle.plane.specs.declared.SubConfig.{SubConfig}
-use Rattle.plane.specs.declared.SubTensor.{SubTensor}
 use Rattle.plane.specs.Arrays.{at, sum, howMany}
 use Rattle.plane.specs.Planes.{shapeAt, strideAt, resolved, srcStrides, span, sourceFault}
 use Rattle.plane.specs.Moves.{badOffset}

@@ -1,24 +1,23 @@
 -- Entries at or past the rank are not looked at: records and configurations that agree below the rank have the same answers.
 -- Assumes nothing.
-use Prim.Native.Nat.{ℕ, zero, suc, _+_, _-_, _*_, _/_, _^_, _≤_, _<_}
+use Prim.Native.Nat.{ℕ, zero, suc, _+_, _-_, _*_, _^_, _≤_, _<_}
 use native.Mathlib.Decide.{ℕ-discrete}
 use native.Mathlib.Omega.{arith}
-use mathlib.Core.Path.{_≡_, refl, sym, ap, ap₂, subst, _∙_}
+use mathlib.Core.Path.{_≡_, refl, sym, ap, ap₂, _∙_}
 use mathlib.Core.Bool.{Bool, cond, _||_, _&&_}
 use mathlib.Core.List.{List, [], _∷_, _++_}
 use lib.Dec.{leb, ltb, eqb}
-use lib.ListN.{length}
 use Rattle.plane.specs.declared.Tensor.{Tensor}
 use Rattle.plane.specs.declared.Config.{Config}
 use Rattle.plane.specs.declared.SubConfig.{SubConfig}
 use Rattle.plane.specs.declared.Fault.{Fault}
 use Rattle.plane.specs.declared.SubTensor.{SubTensor}
-use Rattle.plane.specs.Arrays.{at, firsts, sum, product, some, howMany, or0}
-use Rattle.plane.specs.Faults.{none, when, _orElse_, lowest, outward, unless}
+use Rattle.plane.specs.Arrays.{at, or0}
+use Rattle.plane.specs.Faults.{when, _orElse_, lowest, unless}
 use Rattle.plane.specs.Planes.{badRank, badShape, badStride, shapeAt, strideAt, inner, resolved, strideBad, strides, srcStrides, span, sourceFault}
-use Rattle.plane.specs.Moves.{upward, count, extent, dstExtents, dstStrides, need, permBad, badOffset, badSize, badStep, badExtent, badDstOffset, configFault, placeFault, moveFault, roomFault, accepted, answerOf, judgeOf, roomOf}
+use Rattle.plane.specs.Moves.{upward, count, extent, dstExtents, dstStrides, need, permBad, badOffset, badStep, badExtent, badDstOffset, configFault, placeFault, moveFault, roomFault, accepted, answerOf, judgeOf, roomOf}
 use Rattle.plane.specs.ReadyMade.{configOf, allZero, cutTo, madeFor}
-use Rattle.plane.specs.Helpers.{elements, countFault, countAnswer, countOf, isUnit, staying, subDim, badSubSize, rankFault, subFault, subOf, subByte, noSub, subAnswer, subTensorOf}
+use Rattle.plane.specs.Helpers.{elements, countFault, countAnswer, countOf, isUnit, staying, subDim, rankFault, subFault, subOf, subByte, noSub, subAnswer, subTensorOf}
 use Rattle.plane.proofs.Arrays.{firsts-same, sum-same, product-same, howMany-same, some-same}
 use Rattle.plane.proofs.Faults.{status, or-path, or-found, or-clear, lowest-same, outward-same, unless-fault, unless-none}
 use Rattle.plane.proofs.Good.{config-good}

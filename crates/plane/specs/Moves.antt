@@ -1,6 +1,6 @@
 -- The move: kept counts, extents, destination strides and need; the numbers of refusal 5 to 13; the answers.
 use Prim.Native.Nat.{ℕ, _+_, _-_, _*_, _/_}
-use mathlib.Core.Bool.{Bool, cond, _||_}
+use mathlib.Core.Bool.{Bool, _||_}
 use mathlib.Core.List.{List}
 use lib.Dec.{ltb, leb, eqb}
 use Rattle.plane.specs.declared.Tensor.{Tensor}

@@ -3,7 +3,7 @@ use crate::Config;
 use crate::Made;
 use crate::refusals::rank_is_bad;
 ghost use mathlib.Core.Path.{_≡_};
-ghost use Prim.Native.Nat.{ℕ, _≤_};
+ghost use Prim.Native.Nat.{_≤_};
 ghost use Rattle.plane.specs.Arrays.{at, firsts};
 ghost use Rattle.plane.specs.ReadyMade.{allZero, defaults, cutTo, madeFor, copyOf, sliceOf, concatenateOf, subsampleOf, permuteOf, padChwOf, padHwcOf, allOf};
 

@@ -1,8 +1,8 @@
 // The rules that name the lowest dimension at fault, a function each. n is the rank; entries at or past it are not read.
 use crate::Fault;
 ghost use mathlib.Core.Path.{_≡_};
-ghost use Prim.Native.Nat.{ℕ, _+_, _≤_, _<_};
-ghost use lib.Dec.{ltb, leb, eqb};
+ghost use Prim.Native.Nat.{_+_, _≤_, _<_};
+ghost use lib.Dec.{eqb};
 ghost use Rattle.plane.specs.Arrays.{at, some};
 ghost use Rattle.plane.specs.Faults.{none, lowest};
 ghost use Rattle.plane.specs.Planes.{badRank, badShape};

@@ -1,5 +1,4 @@
 -- When two jobs break the rule. Assumes nothing.
-use Prim.Native.Nat.{ℕ}
 use mathlib.Core.Path.{_≡_, refl}
 use mathlib.Core.Bool.{Bool, true, false, _||_, or-comm}
 use Rattle.mover.specs.declared.Job.{Job}

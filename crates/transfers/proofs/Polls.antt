@@ -1,16 +1,15 @@
 -- What a poll tells, in the paper's numbers: the slot's state, what is left of a prepared or running transfer, and zeros besides a
 -- refusal. Assumes nothing.
-use Prim.Native.Nat.{ℕ, _-_, _≤_, _<_}
+use Prim.Native.Nat.{ℕ, _-_, _<_}
 use native.Mathlib.Decide.{ℕ-discrete}
 use native.Mathlib.Omega.{arith}
 use mathlib.Core.Path.{_≡_, refl, sym, ap, _∙_}
 use mathlib.Core.Logic.{_⊎_, inl, inr}
-use mathlib.Core.Bool.{Bool, true, false, true≢false}
+use mathlib.Core.Bool.{true, false, true≢false}
 use Rattle.transfers.specs.declared.Table.{Table}
-use Rattle.transfers.specs.declared.Poll.{Poll}
 use Rattle.transfers.specs.Slots.{slotAt, tableSound}
 use Rattle.transfers.specs.Calls.{left, pollOf, pollStatus, pollState, pollLeft}
-use Rattle.transfers.proofs.Sounds.{Busy, busy, right-none, sound-tells}
+use Rattle.transfers.proofs.Sounds.{busy, right-none, sound-tells}
 use Rattle.transfers.proofs.Steps.{poll-18, poll-23, poll-free, poll-prepared, poll-running, poll-done}
 
 module _ (t : Table) (h : ℕ) where

@@ -1,4 +1,5 @@
-use Prim.Native.Nat.{ℕ, _≤_, _-_}
+-- `examples::print_bytes` meets its contract. Assumes nothing.
+use Prim.Native.Nat.{_≤_, _-_}
 use mathlib.Core.Path.{_≡_}
 use borrow.Author.Needs.{needs}
 use lib.ListN.{length}

@@ -1,4 +1,4 @@
-use native.Mathlib.Omega.{arith}
+-- `mover::sub::sub_part` meets its contract. Assumes nothing.
 use borrow.Author.Needs.{needs}
 use Rattle.mover.proofs.SubParts.{part-refused, part-within, part-given}
 use Rattle.mover.proofs.sub.sub_part.Statement.{statement}

@@ -1,10 +1,8 @@
-use Prim.Native.Nat.{ℕ, _≤_, _<_}
-use mathlib.Core.Path.{_≡_, refl, sym, ap, subst, _∙_}
-use mathlib.Core.List.{List}
+-- `plane::destination::destination` meets its contract. Assumes nothing.
+use mathlib.Core.Path.{sym, ap, _∙_}
 use native.Mathlib.Omega.{arith}
 use borrow.Author.Needs.{needs}
 use Rattle.plane.specs.declared.Fault.{Fault}
-use Rattle.plane.specs.Arrays.{at}
 use Rattle.plane.specs.Moves.{answerOf, placeFault}
 use Rattle.plane.proofs.Faults.{status, passed, stopped}
 use Rattle.plane.proofs.Good.{GoodConfig, config-good}

@@ -1,13 +1,9 @@
-use Prim.Native.Nat.{ℕ, _+_, _≤_, _<_}
-use mathlib.Core.Path.{_≡_, refl, sym, ap, _∙_}
-use mathlib.Core.List.{List}
+-- `plane::destination::place` meets its contract. Assumes nothing.
+use mathlib.Core.Path.{_∙_}
 use native.Mathlib.Omega.{arith}
 use borrow.Author.Needs.{needs}
-use Rattle.plane.specs.declared.Fault.{Fault}
-use Rattle.plane.specs.Arrays.{at}
-use Rattle.plane.specs.Moves.{dstExtents, placeFault}
-use Rattle.plane.proofs.Faults.{status, passed, stopped}
-use Rattle.plane.proofs.Resolving.{strides-fault, strides-ok}
+use Rattle.plane.specs.Moves.{placeFault}
+use Rattle.plane.proofs.Faults.{status}
 use Rattle.plane.proofs.Rules.{refuses, accepts, place-stopped, place-strides, place-offsets, place-offset-small}
 use Rattle.plane.proofs.destination.place.Statement.{statement}
 use Rattle.plane.proofs.destination.place.Tie as tie

@@ -1,3 +1,4 @@
+-- `plane::extents::extent_at` meets its contract. Assumes nothing.
 use borrow.Author.Needs.{needs}
 use Rattle.plane.specs.Moves.{extent, count}
 use Rattle.plane.proofs.extents.extent_at.Statement.{statement}

@@ -1,4 +1,5 @@
-use Prim.Native.Nat.{ℕ, _+_, _-_, _/_}
+-- `plane::extents::kept` meets its contract. Assumes nothing.
+use Prim.Native.Nat.{_+_, _-_}
 use mathlib.Core.Path.{refl}
 use native.Mathlib.Omega.{arith}
 use native.Mathlib.Nat.{div-le-self}

@@ -1,3 +1,4 @@
+-- `plane::extents::taken` meets its contract. Assumes nothing.
 use borrow.Author.Tests.{eq-eqb, ne-eqb}
 use borrow.Author.Needs.{needs}
 use Rattle.plane.proofs.extents.taken.Statement.{statement}

@@ -1,3 +1,4 @@
+-- `plane::helpers::element_size` meets its contract. Assumes nothing.
 use Rattle.plane.proofs.helpers.element_size.Statement.{statement}
 use Rattle.plane.proofs.helpers.element_size.Tie as tie
 

@@ -1,3 +1,4 @@
+-- `plane::ready_made::concatenate` meets its contract. Assumes nothing.
 use borrow.Author.Needs.{needs}
 use Rattle.plane.proofs.ready_made.concatenate.Statement.{statement}
 use Rattle.plane.proofs.ready_made.concatenate.Tie as tie

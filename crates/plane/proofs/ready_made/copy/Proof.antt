@@ -1,3 +1,4 @@
+-- `plane::ready_made::copy` meets its contract. Assumes nothing.
 use borrow.Author.Needs.{needs}
 use Rattle.plane.proofs.ready_made.copy.Statement.{statement}
 use Rattle.plane.proofs.ready_made.copy.Tie as tie

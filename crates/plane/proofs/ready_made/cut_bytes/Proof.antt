@@ -1,6 +1,6 @@
-use Prim.Native.Nat.{ℕ, _≤_, _-_}
+-- `plane::ready_made::cut_bytes` meets its contract. Assumes nothing.
+use Prim.Native.Nat.{_-_}
 use mathlib.Core.Path.{refl}
-use native.Mathlib.Omega.{arith}
 use borrow.Author.Needs.{needs}
 use Rattle.plane.specs.Arrays.{at}
 use Rattle.plane.proofs.Arrays.{Filled, filled-start, filled-more, filled-end}

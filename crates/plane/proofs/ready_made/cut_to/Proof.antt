@@ -1,3 +1,4 @@
+-- `plane::ready_made::cut_to` meets its contract. Assumes nothing.
 use Rattle.plane.specs.ReadyMade.{cutTo}
 use borrow.Author.Needs.{needs}
 use Rattle.plane.proofs.ready_made.cut_to.Statement.{statement}

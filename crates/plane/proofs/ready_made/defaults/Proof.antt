@@ -1,3 +1,4 @@
+-- `plane::ready_made::defaults` meets its contract. Assumes nothing.
 use borrow.Author.Needs.{needs}
 use Rattle.plane.proofs.ready_made.defaults.Statement.{statement}
 use Rattle.plane.proofs.ready_made.defaults.Tie as tie

@@ -1,4 +1,5 @@
-use mathlib.Core.Path.{_≡_, sym, _∙_}
+-- `plane::ready_made::made_for` meets its contract. Assumes nothing.
+use mathlib.Core.Path.{sym, _∙_}
 use Rattle.plane.specs.ReadyMade.{madeFor}
 use Rattle.plane.proofs.Bools.{in-range}
 use borrow.Author.Needs.{needs}

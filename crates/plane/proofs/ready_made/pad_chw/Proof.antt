@@ -1,3 +1,4 @@
+-- `plane::ready_made::pad_chw` meets its contract. Assumes nothing.
 use borrow.Author.Needs.{needs}
 use Rattle.plane.proofs.ready_made.pad_chw.Statement.{statement}
 use Rattle.plane.proofs.ready_made.pad_chw.Tie as tie

@@ -1,3 +1,4 @@
+-- `plane::ready_made::pad_hwc` meets its contract. Assumes nothing.
 use borrow.Author.Needs.{needs}
 use Rattle.plane.proofs.ready_made.pad_hwc.Statement.{statement}
 use Rattle.plane.proofs.ready_made.pad_hwc.Tie as tie

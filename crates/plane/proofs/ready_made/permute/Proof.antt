@@ -1,3 +1,4 @@
+-- `plane::ready_made::permute` meets its contract. Assumes nothing.
 use borrow.Author.Needs.{needs}
 use Rattle.plane.proofs.ready_made.permute.Statement.{statement}
 use Rattle.plane.proofs.ready_made.permute.Tie as tie

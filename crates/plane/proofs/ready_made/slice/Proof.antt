@@ -1,3 +1,4 @@
+-- `plane::ready_made::slice` meets its contract. Assumes nothing.
 use borrow.Author.Needs.{needs}
 use Rattle.plane.proofs.ready_made.slice.Statement.{statement}
 use Rattle.plane.proofs.ready_made.slice.Tie as tie

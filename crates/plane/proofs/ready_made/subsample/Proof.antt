@@ -1,3 +1,4 @@
+-- `plane::ready_made::subsample` meets its contract. Assumes nothing.
 use borrow.Author.Needs.{needs}
 use Rattle.plane.proofs.ready_made.subsample.Statement.{statement}
 use Rattle.plane.proofs.ready_made.subsample.Tie as tie

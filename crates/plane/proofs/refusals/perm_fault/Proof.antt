@@ -1,9 +1,7 @@
-use Prim.Native.Nat.{ℕ, _-_}
-use mathlib.Core.Path.{_≡_, sym, ap, _∙_}
-use mathlib.Core.Bool.{Bool, _||_}
+-- `plane::refusals::perm_fault` meets its contract. Assumes nothing.
+use Prim.Native.Nat.{_-_}
 use native.Mathlib.Omega.{arith}
 use borrow.Author.Needs.{needs}
-use lib.Dec.{leb}
 use Rattle.plane.specs.Arrays.{at}
 use Rattle.plane.specs.Moves.{permBad}
 use Rattle.plane.proofs.Faults.{Searched, searched-start, searched-more, searched-found, searched-end}

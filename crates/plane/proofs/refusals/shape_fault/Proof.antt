@@ -1,3 +1,4 @@
+-- `plane::refusals::shape_fault` meets its contract. Assumes nothing.
 use Prim.Native.Nat.{ℕ, _-_}
 use native.Mathlib.Omega.{arith}
 use borrow.Author.Needs.{needs}

@@ -1,10 +1,11 @@
+-- `plane::strides::bytes` meets its contract. Assumes nothing.
 use Prim.Native.Nat.{ℕ, _+_, _-_, _*_, _≤_, _<_}
-use mathlib.Core.Path.{_≡_, ap, ap₂, _∙_}
+use mathlib.Core.Path.{_≡_, ap, _∙_}
 use mathlib.Core.List.{List}
 use native.Mathlib.Omega.{arith}
 use native.Mathlib.Nat.{mul-le-mul}
 use borrow.Author.Needs.{needs}
-use Rattle.plane.specs.Arrays.{at, firsts}
+use Rattle.plane.specs.Arrays.{at}
 use Rattle.plane.proofs.Arrays.{firsts-at, sum-same}
 use Rattle.plane.proofs.strides.bytes.Statement.{statement}
 use Rattle.plane.proofs.strides.bytes.Tie as tie

@@ -1,8 +1,8 @@
-use Prim.Native.Nat.{ℕ, _+_, _-_, _*_, _≤_}
-use mathlib.Core.Path.{_≡_, refl, ap₂, _∙_}
+-- `plane::strides::distance` meets its contract. Assumes nothing.
+use Prim.Native.Nat.{ℕ, _-_, _*_, _≤_}
 use native.Mathlib.Omega.{arith}
 use borrow.Author.Needs.{needs}
-use Rattle.plane.specs.Arrays.{at, sum}
+use Rattle.plane.specs.Arrays.{at}
 use Rattle.plane.proofs.Arrays.{Summed, summed-start, summed-more, summed-end}
 use Rattle.plane.proofs.strides.distance.Statement.{statement}
 use Rattle.plane.proofs.strides.distance.Tie as tie

@@ -1,8 +1,8 @@
-use Prim.Native.Nat.{ℕ, suc, _≤_, _<_, _-_, _*_}
-use mathlib.Core.Path.{_≡_, refl, _∙_}
+-- `plane::strides::resolve` meets its contract. Assumes nothing.
+use Prim.Native.Nat.{_-_}
 use native.Mathlib.Omega.{arith}
 use borrow.Author.Needs.{needs}
-use Rattle.plane.specs.Arrays.{at, or0}
+use Rattle.plane.specs.Arrays.{at}
 use Rattle.plane.proofs.Bools.{in-range}
 use Rattle.plane.proofs.Resolving.{Walked, walked-start, walked-more, walked-bad, walked-end}
 use Rattle.plane.proofs.strides.resolve.Statement.{statement}

@@ -1,5 +1,5 @@
+-- `plane::strides::resolved` meets its contract. Assumes nothing.
 use borrow.Author.Tests.{eq-eqb, ne-eqb}
-use borrow.Author.Needs.{needs}
 use Rattle.plane.proofs.strides.resolved.Statement.{statement}
 use Rattle.plane.proofs.strides.resolved.Tie as tie
 

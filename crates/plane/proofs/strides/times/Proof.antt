@@ -1,4 +1,5 @@
-use Prim.Native.Nat.{ℕ, _≤_}
+-- `plane::strides::times` meets its contract. Assumes nothing.
+use Prim.Native.Nat.{_≤_}
 use mathlib.Core.Path.{refl}
 use native.Mathlib.Omega.{arith}
 use native.Mathlib.Nat.{mul-le-mul, mul-le-mul-left}

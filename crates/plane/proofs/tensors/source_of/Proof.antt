@@ -1,9 +1,8 @@
-use Prim.Native.Nat.{ℕ, _≤_}
-use mathlib.Core.Path.{_≡_, refl, sym, _∙_}
+-- `plane::tensors::source_of` meets its contract. Assumes nothing.
+use mathlib.Core.Path.{sym, _∙_}
 use native.Mathlib.Omega.{arith}
 use borrow.Author.Needs.{needs}
 use borrow.Author.Tests.{eq-eqb, ne-eqb}
-use Rattle.plane.specs.Faults.{_orElse_}
 use Rattle.plane.specs.Planes.{sourceFault}
 use Rattle.plane.proofs.Bools.{in-range}
 use Rattle.plane.proofs.Faults.{status, given, spared, passed, stopped}

@@ -1,3 +1,4 @@
+-- `plane::verdict::judge` meets its contract. Assumes nothing.
 use borrow.Author.Needs.{needs}
 use Rattle.plane.proofs.Rules.{its-good, judge-source, judge-short, judge-refused, judge-small, judge-given}
 use Rattle.plane.proofs.verdict.judge.Statement.{statement}

@@ -1,3 +1,4 @@
+-- `plane::verdict::room` meets its contract. Assumes nothing.
 use borrow.Author.Needs.{needs}
 use Rattle.plane.proofs.Rules.{its-good, room-source, room-refused, room-given}
 use Rattle.plane.proofs.verdict.room.Statement.{statement}

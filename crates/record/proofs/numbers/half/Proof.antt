@@ -1,3 +1,4 @@
+-- `record::numbers::half` meets its contract. Assumes nothing.
 use native.Mathlib.Omega.{arith}
 use borrow.Author.Needs.{needs}
 use Rattle.record.proofs.Digits.{number-two}

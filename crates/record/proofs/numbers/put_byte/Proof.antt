@@ -1,3 +1,4 @@
+-- `record::numbers::put_byte` meets its contract. Assumes nothing.
 use Prim.Native.Nat.{_%_}
 use mathlib.Core.Path.{_≡_}
 use native.Mathlib.Omega.{arith}

@@ -1,3 +1,4 @@
+-- `record::numbers::put_singles` meets its contract. Assumes nothing.
 use borrow.Author.Needs.{needs}
 use Rattle.record.proofs.Digits.{four-stored}
 use Rattle.record.proofs.numbers.put_singles.Statement.{statement}

@@ -1,3 +1,4 @@
+-- `record::numbers::put_word` meets its contract. Assumes nothing.
 use borrow.Author.Needs.{needs}
 use Rattle.record.proofs.Digits.{two-halves}
 use Rattle.record.proofs.numbers.put_word.Statement.{statement}

@@ -1,3 +1,4 @@
+-- `record::numbers::words` meets its contract. Assumes nothing.
 use borrow.Author.Needs.{needs}
 use Rattle.record.proofs.Digits.{four-read}
 use Rattle.record.proofs.numbers.words.Statement.{statement}

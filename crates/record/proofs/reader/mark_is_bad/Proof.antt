@@ -1,3 +1,4 @@
+-- `record::reader::mark_is_bad` meets its contract. Assumes nothing.
 use mathlib.Core.Path.{refl}
 use borrow.Author.Needs.{needs}
 use Rattle.plane.specs.Arrays.{some}

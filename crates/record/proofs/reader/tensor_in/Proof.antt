@@ -1,3 +1,4 @@
+-- `record::reader::tensor_in` meets its contract. Assumes nothing.
 use borrow.Author.Needs.{needs}
 use Rattle.plane.specs.Arrays.{sum}
 use Rattle.record.specs.Layout.{start}

@@ -1,3 +1,4 @@
+-- `record::reader::version_is_bad` meets its contract. Assumes nothing.
 use borrow.Author.Needs.{needs}
 use Rattle.record.proofs.reader.version_is_bad.Statement.{statement}
 use Rattle.record.proofs.reader.version_is_bad.Tie as tie

@@ -1,3 +1,4 @@
+-- `record::writer::put_config` meets its contract. Assumes nothing.
 use borrow.Author.Needs.{needs}
 use Rattle.record.proofs.Laying.{config-laid}
 use Rattle.record.proofs.writer.put_config.Statement.{statement}

@@ -1,3 +1,4 @@
+-- `record::writer::put_tensor` meets its contract. Assumes nothing.
 use borrow.Author.Needs.{needs}
 use Rattle.record.proofs.Laying.{tensor-laid}
 use Rattle.record.proofs.writer.put_tensor.Statement.{statement}

@@ -1,3 +1,4 @@
+-- `record::writer::write` meets its contract. Assumes nothing.
 use borrow.Author.Needs.{needs}
 use Rattle.record.proofs.Answers.{write-short, write-refused, write-given}
 use Rattle.record.proofs.writer.write.Statement.{statement}

@@ -1,4 +1,5 @@
-use Prim.Native.Nat.{ℕ, _≤_, _-_}
+-- `rmvshow::lines::row` meets its contract. Assumes nothing.
+use Prim.Native.Nat.{_≤_, _-_}
 use mathlib.Core.Path.{_≡_, sym}
 use lib.Seq.{length-take-le}
 use native.Mathlib.Omega.{arith}

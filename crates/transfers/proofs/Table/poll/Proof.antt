@@ -1,9 +1,8 @@
 -- `transfers::Table::poll` tells what a slot is. Assumes nothing.
 use borrow.Author.Needs.{needs}
 use native.Mathlib.Omega.{arith}
-use mathlib.Core.Path.{_≡_, sym, ap, _∙_}
+use mathlib.Core.Path.{sym, _∙_}
 use borrow.Author.Tests.{not-true, not-false}
-use Rattle.transfers.specs.declared.Slot.{Slot}
 use Rattle.transfers.proofs.Steps.{poll-18, poll-23, poll-free, poll-fits, poll-prepared, poll-running, poll-done}
 use Rattle.transfers.proofs.Table.poll.Statement.{statement}
 use Rattle.transfers.proofs.Table.poll.Tie as tie

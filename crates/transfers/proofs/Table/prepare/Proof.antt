@@ -1,11 +1,9 @@
 -- `transfers::Table::prepare` takes the lowest free slot, or refuses by the first rule that holds. Assumes nothing.
 use borrow.Author.Needs.{needs}
 use native.Mathlib.Omega.{arith}
-use Prim.Native.Nat.{_<_}
-use mathlib.Core.Path.{_≡_, sym, ap, _∙_}
+use mathlib.Core.Path.{sym, _∙_}
 use denote.Ref.{now}
 use lib.ListN.{length}
-use Rattle.transfers.specs.Slots.{lowestFree}
 use Rattle.transfers.proofs.Fours.{lowest-is}
 use Rattle.transfers.proofs.Answers.{prepare-closed, prepare-19, prepare-job, prepare-22, prepare-given}
 use Rattle.transfers.proofs.Table.prepare.Statement.{statement}

@@ -1,9 +1,8 @@
 -- `transfers::Table::release` frees a slot that is done. Assumes nothing.
 use borrow.Author.Needs.{needs}
-use mathlib.Core.Path.{_≡_, sym, ap, _∙_}
+use mathlib.Core.Path.{sym, ap, _∙_}
 use denote.Ref.{now}
 use lib.ListN.{length}
-use Rattle.transfers.specs.declared.Slot.{Slot}
 use Rattle.transfers.specs.Slots.{freeSlot, withSlot}
 use Rattle.transfers.specs.Calls.{callFault, releaseOf}
 use Rattle.transfers.proofs.Answers.{change-refused, change-given, called}

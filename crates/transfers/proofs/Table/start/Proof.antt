@@ -1,6 +1,6 @@
 -- `transfers::Table::start` makes a prepared slot running. Assumes nothing.
 use borrow.Author.Needs.{needs}
-use mathlib.Core.Path.{_≡_, sym, ap, _∙_}
+use mathlib.Core.Path.{sym, ap, _∙_}
 use denote.Ref.{now}
 use lib.ListN.{length}
 use Rattle.transfers.specs.declared.Slot.{Slot}

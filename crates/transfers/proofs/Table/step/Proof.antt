@@ -1,9 +1,7 @@
 -- `transfers::Table::step` moves what its budget allows, and says how much. Assumes nothing.
 use borrow.Author.Needs.{needs}
-use native.Mathlib.Omega.{arith}
-use mathlib.Core.Path.{_≡_, sym, ap, _∙_}
+use mathlib.Core.Path.{sym, _∙_}
 use denote.Ref.{now}
-use lib.ListN.{length}
 use Rattle.transfers.proofs.Steps.{step-refused, step-range, step-fits, step-answer, step-memory}
 use Rattle.transfers.proofs.Table.step.Statement.{statement}
 use Rattle.transfers.proofs.Table.step.Tie as tie

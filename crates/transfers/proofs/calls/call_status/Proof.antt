@@ -1,7 +1,7 @@
 -- `transfers::calls::call_status` gives the first of 17, 18, 23 and 24 that holds, else 0. Assumes nothing.
 use borrow.Author.Needs.{needs}
 use native.Mathlib.Omega.{arith}
-use mathlib.Core.Path.{_≡_, sym, ap, _∙_}
+use mathlib.Core.Path.{sym, ap, _∙_}
 use Rattle.transfers.specs.declared.Slot.{Slot}
 use Rattle.transfers.proofs.Answers.{call-closed, call-high, call-free, call-24, call-0}
 use Rattle.transfers.proofs.calls.call_status.Statement.{statement}

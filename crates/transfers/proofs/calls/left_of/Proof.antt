@@ -1,9 +1,6 @@
 -- `transfers::calls::left_of` counts what a slot has left. Assumes nothing.
-use Prim.Native.Nat.{_≤_}
 use native.Mathlib.Omega.{arith}
-use mathlib.Core.Path.{_≡_, _∙_}
 use borrow.Author.Needs.{needs}
-use Rattle.mover.specs.Within.{totalOf}
 use Rattle.transfers.proofs.Sounds.{verdict-total}
 use Rattle.transfers.proofs.calls.left_of.Statement.{statement}
 use Rattle.transfers.proofs.calls.left_of.Tie as tie

@@ -1,6 +1,5 @@
 -- `transfers::slots::fresh_table` makes a table of four free slots. Assumes nothing.
 use borrow.Author.Needs.{needs}
-use mathlib.Core.Path.{refl}
 use Rattle.transfers.proofs.slots.fresh_table.Statement.{statement}
 use Rattle.transfers.proofs.slots.fresh_table.Tie as tie
 

@@ -1,6 +1,5 @@
 -- `transfers::slots::with_slot` puts a slot in its place. Assumes nothing.
 use borrow.Author.Needs.{needs}
-use native.Mathlib.Omega.{arith}
 use mathlib.Core.Path.{_≡_}
 use lib.ListN.{length, length-map}
 use Rattle.transfers.proofs.Fours.{slot-put}

@@ -1,5 +1,5 @@
 -- `transfers::sound::clashes` tells whether a job breaks the rule with one of the first n slots. The loop: it breaks it with none below the handle. Assumes nothing.
-use Prim.Native.Nat.{ℕ, _-_, _≤_, _<_}
+use Prim.Native.Nat.{ℕ, _-_, _≤_}
 use native.Mathlib.Omega.{arith}
 use mathlib.Core.Path.{_≡_, sym, ap, _∙_}
 use mathlib.Core.Bool.{false}

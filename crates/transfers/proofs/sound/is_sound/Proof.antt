@@ -1,5 +1,5 @@
 -- `transfers::sound::is_sound` tells whether a table is sound. The loop: every slot below the handle is sound, and apart from those before it. Assumes nothing.
-use Prim.Native.Nat.{ℕ, _-_, _≤_, _<_}
+use Prim.Native.Nat.{_-_, _≤_}
 use native.Mathlib.Omega.{arith}
 use mathlib.Core.Path.{_≡_, sym, ap, _∙_}
 use mathlib.Core.Bool.{Bool, true, false}

@@ -1,5 +1,4 @@
 -- `transfers::sound::moved_is_right` tells whether the count is right for the state. Assumes nothing.
-use borrow.Author.Needs.{needs}
 use Rattle.transfers.proofs.Sounds.{right-1, right-2, right-3, right-none}
 use Rattle.transfers.proofs.sound.moved_is_right.Statement.{statement}
 use Rattle.transfers.proofs.sound.moved_is_right.Tie as tie

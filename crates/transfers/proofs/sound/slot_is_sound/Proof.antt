@@ -1,7 +1,4 @@
 -- `transfers::sound::slot_is_sound` tells whether a slot by itself is sound. Assumes nothing.
-use Prim.Native.Nat.{_≤_}
-use native.Mathlib.Omega.{arith}
-use mathlib.Core.Path.{_≡_, _∙_}
 use borrow.Author.Needs.{needs}
 use Rattle.transfers.proofs.Sounds.{zero-sound, refused-unsound, judged-sound}
 use Rattle.transfers.proofs.sound.slot_is_sound.Statement.{statement}
