@@ -1,8 +1,15 @@
-// Runs the paper's examples A to I through the public calls, and prints each answer with the destination's bytes after it.
+// Runs the paper's examples through the public calls, and prints what each answers: A to I (moves), K (a sub-tensor), L (two
+// transfers), and those that the paper only runs.
 use libc::STDOUT_FILENO;
 use plane::Config;
+use plane::SubConfig;
 use plane::Tensor;
 use plane::ready_made;
+use transfers::Job;
+use transfers::Part;
+use transfers::Table;
+
+const TWELVE: [u8; 12] = [1, 2, 3, 4, 5, 6, 7, 8, 9, 10, 11, 12];
 
 // A compact plane.
 fn compact(rank: u8, size: u8, shape: [u32; 4]) -> Tensor {
@@ -19,9 +26,22 @@ fn copy_of(rank: u8) -> Config {
     made.config
 }
 
-fn print_byte(b: u8) {
+fn print(name: &[u8], number: u64) {
+    io::write_all(STDOUT_FILENO, name);
     io::write_all(STDOUT_FILENO, b" ");
-    io::print_decimal(STDOUT_FILENO, b as u64);
+    io::print_decimal(STDOUT_FILENO, number);
+}
+
+fn print_entry(name: &[u8], x: u32) {
+    print(name, x as u64);
+}
+
+fn end_line() {
+    io::write_all(STDOUT_FILENO, b"\n");
+}
+
+fn print_byte(b: u8) {
+    print(b"", b as u64);
 }
 
 fn print_bytes(bytes: &[u8]) {
@@ -30,28 +50,24 @@ fn print_bytes(bytes: &[u8]) {
     }
 }
 
-// One example: its name, the number of the answer, and the destination.
+// A move: its name, the number and dimension of the answer, and the destination.
 fn run(name: &[u8], t: Tensor, c: Config, src: &[u8], dst: &mut [u8]) {
     let a = mover::move_plane(t, c, src, dst);
-    io::write_all(STDOUT_FILENO, name);
-    io::write_all(STDOUT_FILENO, b" ");
-    io::print_decimal(STDOUT_FILENO, a.status as u64);
+    print(name, a.status as u64);
+    print(b"", a.dim as u64);
     io::write_all(STDOUT_FILENO, b":");
     print_bytes(dst);
-    io::write_all(STDOUT_FILENO, b"\n");
+    end_line();
 }
 
-// A: turned. B: cut. C: thinned, rounded up.
-fn cut_and_thin() {
-    let twelve = [1u8, 2, 3, 4, 5, 6, 7, 8, 9, 10, 11, 12];
+// A: turned, and with a permutation that is none. B: cut.
+fn turn_and_cut() {
+    let twelve = TWELVE;
+    let t = compact(2, 1, [2, 3, 0, 0]);
     let turn = ready_made::permute(2, [1, 0, 0, 0]);
-    run(
-        b"A",
-        compact(2, 1, [2, 3, 0, 0]),
-        turn.config,
-        &twelve[..6],
-        &mut [0u8; 6],
-    );
+    run(b"A", t, turn.config, &twelve[..6], &mut [0u8; 6]);
+    let repeated = ready_made::permute(2, [0, 0, 0, 0]);
+    run(b"A", t, repeated.config, &twelve[..6], &mut [7u8; 6]);
     let cut = copy_of(2).with_offset([1, 1, 0, 0]).with_size([2, 2, 0, 0]);
     run(
         b"B",
@@ -60,81 +76,55 @@ fn cut_and_thin() {
         &twelve,
         &mut [0u8; 4],
     );
-    let thin = copy_of(1).with_step([3, 0, 0, 0]);
+}
+
+// C: thinned, rounded up.
+fn thin() {
+    let twelve = TWELVE;
+    let t = compact(1, 1, [7, 0, 0, 0]);
+    let c = copy_of(1).with_step([3, 0, 0, 0]);
+    run(b"C", t, c, &twelve[..7], &mut [9u8; 3]);
     run(
         b"C",
-        compact(1, 1, [7, 0, 0, 0]),
-        thin,
+        t,
+        c.with_size([6, 0, 0, 0]),
         &twelve[..7],
-        &mut [0u8; 3],
+        &mut [9u8; 3],
     );
-    let six = thin.with_size([6, 0, 0, 0]);
     run(
         b"C",
-        compact(1, 1, [7, 0, 0, 0]),
-        six,
+        t,
+        c.with_step([9, 0, 0, 0]),
         &twelve[..7],
-        &mut [0u8; 2],
-    );
-    let nine = thin.with_step([9, 0, 0, 0]);
-    run(
-        b"C",
-        compact(1, 1, [7, 0, 0, 0]),
-        nine,
-        &twelve[..7],
-        &mut [0u8; 1],
+        &mut [9u8; 3],
     );
 }
 
-// D: padded. E: set into a larger plane. F: rows with a gap, which stays. G: padding counts by source dimension.
-fn pad_and_place() {
-    let pad = copy_of(2).with_pre([1, 0, 0, 0]);
-    run(
-        b"D",
-        compact(2, 1, [1, 2, 0, 0]),
-        pad.with_post([0, 1, 0, 0]),
-        &[5u8, 6],
-        &mut [9u8; 6],
-    );
-    let set_in = ready_made::concatenate(2, [1, 0, 0, 0], [2, 1, 0, 0]);
-    run(
-        b"E",
-        compact(2, 1, [1, 2, 0, 0]),
-        set_in.config,
-        &[8u8, 9],
-        &mut [1u8; 4],
-    );
-    let rows = copy_of(2).with_dst_stride([3, 1, 0, 0]);
-    run(
-        b"F",
-        compact(2, 1, [2, 2, 0, 0]),
-        rows,
-        &[1u8, 2, 3, 4],
-        &mut [7u8; 5],
-    );
-    run(
-        b"F",
-        compact(2, 1, [2, 2, 0, 0]),
-        rows,
-        &[1u8, 2, 3, 4],
-        &mut [7u8; 4],
-    );
-    run(
-        b"G",
-        compact(2, 1, [1, 2, 0, 0]),
-        pad.with_perm([1, 0, 0, 0]),
-        &[5u8, 6],
-        &mut [9u8; 4],
-    );
+// D: padded. G: padding counts by source dimension.
+fn pad() {
+    let t = compact(2, 1, [1, 2, 0, 0]);
+    let c = copy_of(2).with_pre([1, 0, 0, 0]);
+    run(b"D", t, c.with_post([0, 1, 0, 0]), &[5u8, 6], &mut [9u8; 6]);
+    run(b"G", t, c.with_perm([1, 0, 0, 0]), &[5u8, 6], &mut [9u8; 4]);
 }
 
-// H: all at once. I: elements of two bytes. And a plane of rank 3 turned by (2,0,1).
-fn turn_and_wide() {
-    let twelve = [1u8, 2, 3, 4, 5, 6, 7, 8, 9, 10, 11, 12];
+// E: set into a larger plane. F: rows with a gap, which stays.
+fn set_in() {
+    let larger = ready_made::concatenate(2, [1, 0, 0, 0], [2, 1, 0, 0]);
+    let row = compact(2, 1, [1, 2, 0, 0]);
+    run(b"E", row, larger.config, &[8u8, 9], &mut [1u8; 4]);
+    let t = compact(2, 1, [2, 2, 0, 0]);
+    let c = copy_of(2).with_dst_stride([3, 1, 0, 0]);
+    run(b"F", t, c, &[1u8, 2, 3, 4], &mut [7u8; 5]);
+    run(b"F", t, c, &[1u8, 2, 3, 4], &mut [7u8; 4]);
+}
+
+// H: all at once. I: elements of two bytes. J: refused for its element size, before its shape. And a plane of rank 3 turned.
+fn more() {
+    let twelve = TWELVE;
     let turn = ready_made::permute(2, [1, 0, 0, 0]);
-    let some = turn.config
-        .with_offset([0, 1, 0, 0])
-        .with_step([2, 2, 0, 0]);
+    let c = turn.config;
+    let some = c.with_offset([0, 1, 0, 0]).with_step([2, 2, 0, 0]);
     run(
         b"H",
         compact(2, 1, [3, 4, 0, 0]),
@@ -150,6 +140,13 @@ fn turn_and_wide() {
         &twelve[..6],
         &mut [0u8; 4],
     );
+    run(
+        b"J",
+        compact(2, 3, [0, 70000, 0, 0]),
+        copy_of(2),
+        &twelve,
+        &mut [0u8; 2],
+    );
     let deep = ready_made::permute(3, [2, 0, 1, 0]);
     run(
         b"turned",
@@ -160,8 +157,83 @@ fn turn_and_wide() {
     );
 }
 
+// K: a row of a plane as a tensor of its own, and the part of the source at which it starts.
+fn sub() {
+    let twelve = TWELVE;
+    let t = compact(2, 1, [3, 4, 0, 0]);
+    let row = SubConfig {
+        offset: [1, 2, 0, 0],
+        size: [1, 2, 0, 0],
+        rank: 1,
+    };
+    let k = plane::sub_tensor(t, row, twelve.len());
+    print(b"K", k.status as u64);
+    let tensor = k.tensor;
+    print_entry(b" shape", tensor.shape[0]);
+    print_entry(b" stride", tensor.stride[0]);
+    print(b" byte", k.byte);
+    io::write_all(STDOUT_FILENO, b":");
+    print_bytes(mover::sub_part(t, row, &twelve));
+    end_line();
+}
+
+// Run only: the count of (2,4,8) from 1; sizes 65,280 and 65,281 with 255 zeros before.
+fn run_only() {
+    let n = plane::element_count(compact(3, 1, [2, 4, 8, 0]), 1);
+    print(b"count", n.count);
+    end_line();
+    let t = compact(1, 1, [65535, 0, 0, 0]);
+    let c = copy_of(1).with_pre([255, 0, 0, 0]);
+    let fits = plane::room(t, c.with_size([65280, 0, 0, 0]));
+    let over = plane::room(t, c.with_size([65281, 0, 0, 0]));
+    print(b"room", fits.answer.status as u64);
+    print(b"", over.answer.status as u64);
+    end_line();
+}
+
+// n elements of one byte each.
+fn job(n: u64, from: u64, to: u64) -> Job {
+    Job {
+        source: Part {
+            start: from,
+            length: n,
+        },
+        target: Part {
+            start: to,
+            length: n,
+        },
+        tensor: compact(1, 1, [(n % 256) as u32, 0, 0, 0]),
+        config: copy_of(1),
+    }
+}
+
+// L: two transfers, stepped by turns, the second first; and a third that would write where one of them reads.
+fn four_at_once() {
+    let mut mem = [1u8, 2, 3, 4, 0, 0, 0, 0];
+    let made = Table::fresh(8);
+    let a = made.table.prepare(&mem, job(2, 0, 4));
+    let b = a.table.prepare(&mem, job(2, 2, 6));
+    let c = b.table.start(&mem, a.handle);
+    let d = c.table.start(&mem, b.handle);
+    let e = d.table.step(&mut mem, b.handle, 1);
+    let f = e.table.step(&mut mem, a.handle, 1);
+    let g = f.table.step(&mut mem, b.handle, 1);
+    let h = g.table.step(&mut mem, a.handle, 1);
+    let third = h.table.prepare(&mem, job(1, 2, 0));
+    print(b"L", h.status as u64);
+    io::write_all(STDOUT_FILENO, b":");
+    print_bytes(&mem);
+    print(b" third", third.status as u64);
+    end_line();
+}
+
 fn main() {
-    cut_and_thin();
-    pad_and_place();
-    turn_and_wide();
+    turn_and_cut();
+    thin();
+    pad();
+    set_in();
+    more();
+    sub();
+    run_only();
+    four_at_once();
 }

@@ -12,11 +12,13 @@ use Rattle.plane.specs.Arrays.{at, zeros}
 use Rattle.mover.specs.declared.Part.{Part}
 use Rattle.mover.specs.declared.Job.{Job}
 use Rattle.transfers.specs.declared.Slot.{Slot}
-use Rattle.transfers.specs.Slots.{zeroPart, zeroTensor, zeroConfig, zeroJob, freeSlot, noEntry, noPart, noTensor, noConfig, noJob, slotSound}
+use Rattle.plane.specs.ReadyMade.{allZero}
+use Rattle.plane.specs.Helpers.{noTensor}
+use Rattle.transfers.specs.Slots.{zeroPart, zeroJob, freeSlot, isZeroArray, isZeroPart, isZeroTensor, isZeroConfig, isZeroJob, slotSound}
 use Rattle.transfers.proofs.Every.{both-first, both-second, every-at}
 use Rattle.transfers.proofs.Sounds.{zero-sound}
 
-no-entry : (xs : List ℕ) → length xs ≡ 4 → noEntry xs ≡ true → xs ≡ zeros
+no-entry : (xs : List ℕ) → length xs ≡ 4 → isZeroArray xs ≡ true → xs ≡ zeros
 no-entry [] h e = absurd (omega arith)
 no-entry (a ∷ []) h e = absurd (omega arith)
 no-entry (a ∷ b ∷ []) h e = absurd (omega arith)
@@ -26,7 +28,7 @@ no-entry (a ∷ b ∷ c ∷ d ∷ []) h e =
     rw (eqb-true a 0 (p 0 (omega arith)), eqb-true b 0 (p 1 (omega arith)), eqb-true c 0 (p 2 (omega arith)), eqb-true d 0 (p 3 (omega arith)))
 no-entry (a ∷ b ∷ c ∷ d ∷ x ∷ xs) h e = absurd (omega arith)
 
-no-part : (p : Part) → noPart p ≡ true → p ≡ zeroPart
+no-part : (p : Part) → isZeroPart p ≡ true → p ≡ zeroPart
 no-part p e =
     let a = eqb-true (p .start) 0 (both-first _ (eqb (p .length) 0) e) in
     let b = eqb-true (p .length) 0 (both-second (eqb (p .start) 0) _ e) in
@@ -46,45 +48,45 @@ pub record Fours (j : Job) : Type 0 where
   pub post : length (j .config .post) ≡ 4
 
 module _ (j : Job) (f : Fours j) where
-  no-tensor : noTensor (j .tensor) ≡ true → j .tensor ≡ zeroTensor
-  unfolding noTensor
+  no-tensor : isZeroTensor (j .tensor) ≡ true → j .tensor ≡ noTensor
+  unfolding isZeroTensor
   no-tensor e =
       let t = j .tensor in
       let ends = eqb (t .rank) 0 && eqb (t .size) 0 in
-      let x = both-first (ends && noEntry (t .shape)) (noEntry (t .stride)) e in
-      let y = both-first ends (noEntry (t .shape)) x in
+      let x = both-first (ends && isZeroArray (t .shape)) (isZeroArray (t .stride)) e in
+      let y = both-first ends (isZeroArray (t .shape)) x in
       let rank = eqb-true (t .rank) 0 (both-first _ (eqb (t .size) 0) y) in
       let size = eqb-true (t .size) 0 (both-second (eqb (t .rank) 0) _ y) in
-      let shape = no-entry (t .shape) (f .shape) (both-second ends (noEntry (t .shape)) x) in
-      let stride = no-entry (t .stride) (f .stride) (both-second (ends && noEntry (t .shape)) (noEntry (t .stride)) e) in
+      let shape = no-entry (t .shape) (f .shape) (both-second ends (isZeroArray (t .shape)) x) in
+      let stride = no-entry (t .stride) (f .stride) (both-second (ends && isZeroArray (t .shape)) (isZeroArray (t .stride)) e) in
       λ i. record { rank = rank i; size = size i; shape = shape i; stride = stride i }
 
-  no-config : noConfig (j .config) ≡ true → j .config ≡ zeroConfig
-  unfolding noConfig
+  no-config : isZeroConfig (j .config) ≡ true → j .config ≡ allZero
+  unfolding isZeroConfig
   no-config e =
       let c = j .config in
-      let a1 = noEntry (c .offset) in
-      let a2 = a1 && noEntry (c .size) in
-      let a3 = a2 && noEntry (c .step) in
-      let a4 = a3 && noEntry (c .«dst_offset») in
-      let a5 = a4 && noEntry (c .«dst_stride») in
-      let a6 = a5 && noEntry (c .perm) in
-      let a7 = a6 && noEntry (c .pre) in
-      let e7 = both-first a7 (noEntry (c .post)) e in
-      let e6 = both-first a6 (noEntry (c .pre)) e7 in
-      let e5 = both-first a5 (noEntry (c .perm)) e6 in
-      let e4 = both-first a4 (noEntry (c .«dst_stride»)) e5 in
-      let e3 = both-first a3 (noEntry (c .«dst_offset»)) e4 in
-      let e2 = both-first a2 (noEntry (c .step)) e3 in
-      let e1 = both-first a1 (noEntry (c .size)) e2 in
+      let a1 = isZeroArray (c .offset) in
+      let a2 = a1 && isZeroArray (c .size) in
+      let a3 = a2 && isZeroArray (c .step) in
+      let a4 = a3 && isZeroArray (c .«dst_offset») in
+      let a5 = a4 && isZeroArray (c .«dst_stride») in
+      let a6 = a5 && isZeroArray (c .perm) in
+      let a7 = a6 && isZeroArray (c .pre) in
+      let e7 = both-first a7 (isZeroArray (c .post)) e in
+      let e6 = both-first a6 (isZeroArray (c .pre)) e7 in
+      let e5 = both-first a5 (isZeroArray (c .perm)) e6 in
+      let e4 = both-first a4 (isZeroArray (c .«dst_stride»)) e5 in
+      let e3 = both-first a3 (isZeroArray (c .«dst_offset»)) e4 in
+      let e2 = both-first a2 (isZeroArray (c .step)) e3 in
+      let e1 = both-first a1 (isZeroArray (c .size)) e2 in
       let offset = no-entry (c .offset) (f .offset) e1 in
-      let size = no-entry (c .size) (f .size) (both-second a1 (noEntry (c .size)) e2) in
-      let step = no-entry (c .step) (f .step) (both-second a2 (noEntry (c .step)) e3) in
-      let dst-offset = no-entry (c .«dst_offset») (f .dst-offset) (both-second a3 (noEntry (c .«dst_offset»)) e4) in
-      let dst-stride = no-entry (c .«dst_stride») (f .dst-stride) (both-second a4 (noEntry (c .«dst_stride»)) e5) in
-      let perm = no-entry (c .perm) (f .perm) (both-second a5 (noEntry (c .perm)) e6) in
-      let pre = no-entry (c .pre) (f .pre) (both-second a6 (noEntry (c .pre)) e7) in
-      let post = no-entry (c .post) (f .post) (both-second a7 (noEntry (c .post)) e) in
+      let size = no-entry (c .size) (f .size) (both-second a1 (isZeroArray (c .size)) e2) in
+      let step = no-entry (c .step) (f .step) (both-second a2 (isZeroArray (c .step)) e3) in
+      let dst-offset = no-entry (c .«dst_offset») (f .dst-offset) (both-second a3 (isZeroArray (c .«dst_offset»)) e4) in
+      let dst-stride = no-entry (c .«dst_stride») (f .dst-stride) (both-second a4 (isZeroArray (c .«dst_stride»)) e5) in
+      let perm = no-entry (c .perm) (f .perm) (both-second a5 (isZeroArray (c .perm)) e6) in
+      let pre = no-entry (c .pre) (f .pre) (both-second a6 (isZeroArray (c .pre)) e7) in
+      let post = no-entry (c .post) (f .post) (both-second a7 (isZeroArray (c .post)) e) in
       λ i. record {
         offset = offset i;
         size = size i;
@@ -96,21 +98,21 @@ module _ (j : Job) (f : Fours j) where
         post = post i;
       }
 
-  pub no-job : noJob j ≡ true → j ≡ zeroJob
-  unfolding noJob
+  pub no-job : isZeroJob j ≡ true → j ≡ zeroJob
+  unfolding isZeroJob
   no-job e =
-      let parts = noPart (j .source) && noPart (j .target) in
-      let x = both-first (parts && noTensor (j .tensor)) (noConfig (j .config)) e in
-      let y = both-first parts (noTensor (j .tensor)) x in
-      let source = no-part (j .source) (both-first _ (noPart (j .target)) y) in
-      let target = no-part (j .target) (both-second (noPart (j .source)) _ y) in
-      let tensor = no-tensor (both-second parts (noTensor (j .tensor)) x) in
-      let config = no-config (both-second (parts && noTensor (j .tensor)) (noConfig (j .config)) e) in
+      let parts = isZeroPart (j .source) && isZeroPart (j .target) in
+      let x = both-first (parts && isZeroTensor (j .tensor)) (isZeroConfig (j .config)) e in
+      let y = both-first parts (isZeroTensor (j .tensor)) x in
+      let source = no-part (j .source) (both-first _ (isZeroPart (j .target)) y) in
+      let target = no-part (j .target) (both-second (isZeroPart (j .source)) _ y) in
+      let tensor = no-tensor (both-second parts (isZeroTensor (j .tensor)) x) in
+      let config = no-config (both-second (parts && isZeroTensor (j .tensor)) (isZeroConfig (j .config)) e) in
       λ i. record { source = source i; target = target i; tensor = tensor i; config = config i }
 
 pub free-is-zero : (n : ℕ) (s : Slot) → Fours (s .job) → slotSound n s ≡ true → s .state ≡ 0 → s ≡ freeSlot
 free-is-zero n s f p z =
     let e = zero-sound n s z ∙ p in
     let job = no-job (s .job) f (both-first _ (eqb (s .moved) 0) e) in
-    let moved = eqb-true (s .moved) 0 (both-second (noJob (s .job)) _ e) in
+    let moved = eqb-true (s .moved) 0 (both-second (isZeroJob (s .job)) _ e) in
     λ i. record { state = z i; job = job i; moved = moved i }

@@ -14,7 +14,7 @@ use Rattle.mover.specs.Moved.{total, perStep, coordOf, stored, moved}
 use Rattle.mover.specs.Within.{jobFault, advancedBy}
 use Rattle.serial.specs.Machine.{has, edit, reporting}
 use Rattle.transfers.specs.declared.Poll.the-variants as says
-use Rattle.transfers.specs.Slots.{withSlot, lowestFree, breaks, clashes, noTensor, noConfig, noJob, movedRight, slotSound, soundAt, tableSound}
+use Rattle.transfers.specs.Slots.{withSlot, lowestFree, breaks, clashes, isZeroTensor, isZeroConfig, isZeroJob, movedRight, slotSound, soundAt, tableSound}
 use Rattle.transfers.specs.Calls.{freshOf, openFault, prepareFault, callFault, prepareOf, changed, startOf, later, stepOf, stepMemory, pollSlot, pollOf}
 use Rattle.transfers.specs.Demand3.{notePrepare, noteStep, Call, prepare, start, step, World, begin, after, run}
 
@@ -51,5 +51,5 @@ pub record ExampleL : Type 0 where
   pub third : prepareOf (end .table) (length (end .memory)) (transfer 1 2 0) ≡ record { status = 22; dim = 0; handle = 0; table = end .table }
 
 pub example-l : ExampleL
-unfolding end calls run after begin notePrepare noteStep edit has reporting freshOf openFault prepareFault callFault prepareOf changed startOf later stepOf stepMemory withSlot lowestFree breaks clashes noTensor noConfig noJob movedRight slotSound soundAt tableSound jobFault advancedBy moved stored coordOf perStep total element place sourcePlace areKept isKept every moveFault sourceFault when _orElse_ lowest first outward configFault placeFault span need sum product some firsts strideBad resolved inner extent count dstExtents pollOf pollSlot
+unfolding end calls run after begin notePrepare noteStep edit has reporting freshOf openFault prepareFault callFault prepareOf changed startOf later stepOf stepMemory withSlot lowestFree breaks clashes isZeroTensor isZeroConfig isZeroJob movedRight slotSound soundAt tableSound jobFault advancedBy moved stored coordOf perStep total element place sourcePlace areKept isKept every moveFault sourceFault when _orElse_ lowest first outward configFault placeFault span need sum product some firsts strideBad resolved inner extent count dstExtents pollOf pollSlot
 example-l = record { memory = refl; first-done = refl; second-done = refl; third = refl }

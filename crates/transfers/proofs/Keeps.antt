@@ -20,7 +20,7 @@ use Rattle.transfers.specs.declared.Prepared.{Prepared}
 use Rattle.transfers.specs.declared.Changed.{Changed}
 use Rattle.transfers.specs.declared.Stepped.{Stepped}
 use Rattle.mover.specs.Element.{every}
-use Rattle.transfers.specs.Slots.{freeSlot, freshTable, slotAt, withSlot, breaks, clashes, noTensor, noConfig, noJob, movedRight, slotSound, tableSound, limit}
+use Rattle.transfers.specs.Slots.{freeSlot, freshTable, slotAt, withSlot, breaks, clashes, isZeroTensor, isZeroConfig, isZeroJob, movedRight, slotSound, tableSound, limit}
 use Rattle.transfers.specs.Calls.{freshOf, prepareFault, callFault, newSlot, prepareOf, changed, running, startOf, releaseOf, countOf, later, stepOf}
 use Rattle.transfers.proofs.Fours.{slot-same, slot-other, with-length, lowest-is}
 use Rattle.transfers.proofs.Meeting.{breaks-either, empty-breaks}
@@ -36,7 +36,7 @@ pub record Kept (n : ℕ) (t : Table) : Type 0 where
 -- ---- a fresh table
 
 free-sound : (n : ℕ) → slotSound n freeSlot ≡ true
-unfolding slotSound noJob noTensor noConfig every
+unfolding slotSound isZeroJob isZeroTensor isZeroConfig every
 free-sound n = refl
 
 fresh-slot : (n i : ℕ) → slotAt (freshTable n) i ≡ freeSlot

@@ -1,5 +1,6 @@
--- Theorems to read first: Demand3 (serial and midway), Keeps (sound tables stay sound), Runs (18 is never given in a run), Budgets (what
--- finishes a transfer), Decided (no two outcomes), Exact (refusals), AllZero (a free slot is all zero), ExampleL.
+-- Theorems to read first: Demand3 (serial and midway), Keeps (sound tables stay sound), Runs (neither 17 nor 18 is given in a run), Budgets (what
+-- finishes a transfer), Decided (no two outcomes), Exact (refusals), AllZero (a free slot is all zero),
+-- Polls (what a poll tells), ExampleL.
 pub mod Demand3
 pub mod Keeps
 pub mod Runs

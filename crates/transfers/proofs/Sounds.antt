@@ -13,7 +13,7 @@ use Rattle.mover.specs.Within.{jobFault, totalOf, verdictOf}
 use Rattle.transfers.specs.declared.Slot.{Slot}
 use Rattle.transfers.specs.declared.Table.{Table}
 use Rattle.mover.specs.Element.{every}
-use Rattle.transfers.specs.Slots.{slotAt, breaks, clashes, noPart, noTensor, noConfig, noJob, movedRight, slotSound, soundAt, tableSound, limit}
+use Rattle.transfers.specs.Slots.{slotAt, breaks, clashes, isZeroPart, isZeroTensor, isZeroConfig, isZeroJob, movedRight, slotSound, soundAt, tableSound, limit}
 use Rattle.transfers.proofs.Every.{both, both-first, both-second, not-first, not-second, every-at, every-all, every-more, every-missed, every-end}
 use Rattle.transfers.proofs.Meeting.{breaks-either, empty-breaks}
 
@@ -56,7 +56,7 @@ pub record Busy (n : ℕ) (s : Slot) : Type 0 where
   pub right : movedRight (s .state) (s .moved) (totalOf (s .job)) ≡ true
 
 module _ (n : ℕ) (s : Slot) where
-  pub zero-sound : s .state ≡ 0 → (noJob (s .job) && eqb (s .moved) 0) ≡ slotSound n s
+  pub zero-sound : s .state ≡ 0 → (isZeroJob (s .job) && eqb (s .moved) 0) ≡ slotSound n s
   unfolding slotSound
   zero-sound e = simp (eq-eqb (s .state) 0 e)
 
@@ -173,12 +173,12 @@ module _ (t : Table) where
 
 -- in a sound table it breaks the rule with none: its parts are empty
 pub free-breaks-none : (n : ℕ) (s : Slot) (j : Job) → slotSound n s ≡ true → s .state ≡ 0 → breaks (s .job) j ≡ false
-unfolding noJob
+unfolding isZeroJob
 free-breaks-none n s j p e =
-    let z = both-first (noJob (s .job)) (eqb (s .moved) 0) (zero-sound n s e ∙ p) in
-    let w = both-first _ (noTensor (s .job .tensor)) (both-first _ (noConfig (s .job .config)) z) in
-    let source = both-first (noPart (s .job .source)) (noPart (s .job .target)) w in
-    let target = both-second (noPart (s .job .source)) (noPart (s .job .target)) w in
+    let z = both-first (isZeroJob (s .job)) (eqb (s .moved) 0) (zero-sound n s e ∙ p) in
+    let w = both-first _ (isZeroTensor (s .job .tensor)) (both-first _ (isZeroConfig (s .job .config)) z) in
+    let source = both-first (isZeroPart (s .job .source)) (isZeroPart (s .job .target)) w in
+    let target = both-second (isZeroPart (s .job .source)) (isZeroPart (s .job .target)) w in
     empty-breaks (s .job) j
     (eqb-true (s .job .source .length) 0 (both-second (eqb (s .job .source .start) 0) _ source))
     (eqb-true (s .job .target .length) 0 (both-second (eqb (s .job .target .start) 0) _ target))

@@ -6,6 +6,8 @@ use lib.Dec.{ltb, leb, eqb}
 use lib.ListN.{getD}
 use Rattle.plane.specs.declared.Tensor.{Tensor}
 use Rattle.plane.specs.declared.Config.{Config}
+use Rattle.plane.specs.ReadyMade.{allZero}
+use Rattle.plane.specs.Helpers.{noTensor}
 use Rattle.plane.specs.Arrays.{at, table, zeros, some}
 use Rattle.mover.specs.declared.Part.{Part}
 use Rattle.mover.specs.declared.Job.{Job}
@@ -19,23 +21,8 @@ use Rattle.transfers.specs.declared.Table.{Table}
 abbrev pub zeroPart : Part
 zeroPart = record { start = 0; length = 0 }
 
-abbrev pub zeroTensor : Tensor
-zeroTensor = record { rank = 0; size = 0; shape = zeros; stride = zeros }
-
-abbrev pub zeroConfig : Config
-zeroConfig = record {
-  offset = zeros;
-  size = zeros;
-  step = zeros;
-  «dst_offset» = zeros;
-  «dst_stride» = zeros;
-  perm = zeros;
-  pre = zeros;
-  post = zeros;
-}
-
 abbrev pub zeroJob : Job
-zeroJob = record { source = zeroPart; target = zeroPart; tensor = zeroTensor; config = zeroConfig }
+zeroJob = record { source = zeroPart; target = zeroPart; tensor = noTensor; config = allZero }
 
 -- state 0 is free, 1 prepared, 2 running, 3 done
 abbrev pub freeSlot : Slot
@@ -65,7 +52,7 @@ lowestFree t =
 
 -- ---- the rule between two slots
 
--- a destination part of the one meets a part of the other. The parts of a free slot are empty, and an empty part meets none
+-- a target part of the one meets a part of the other. The parts of a free slot are empty, and an empty part meets none
 unfoldable pub breaks : Job → Job → Bool
 breaks j k = meets (j .target) (k .target) || meets (j .target) (k .source) || meets (j .source) (k .target)
 
@@ -76,23 +63,23 @@ clashes t j n = some n (λ k. breaks j (slotAt t k .job))
 -- ---- when a table is sound
 
 -- an array of zeros
-abbrev pub noEntry : List ℕ → Bool
-noEntry xs = every 4 (λ i. eqb (at xs i) 0)
+abbrev pub isZeroArray : List ℕ → Bool
+isZeroArray xs = every 4 (λ i. eqb (at xs i) 0)
 
-abbrev pub noPart : Part → Bool
-noPart p = eqb (p .start) 0 && eqb (p .length) 0
+abbrev pub isZeroPart : Part → Bool
+isZeroPart p = eqb (p .start) 0 && eqb (p .length) 0
 
-unfoldable pub noTensor : Tensor → Bool
-noTensor t = eqb (t .rank) 0 && eqb (t .size) 0 && noEntry (t .shape) && noEntry (t .stride)
+unfoldable pub isZeroTensor : Tensor → Bool
+isZeroTensor t = eqb (t .rank) 0 && eqb (t .size) 0 && isZeroArray (t .shape) && isZeroArray (t .stride)
 
-unfoldable pub noConfig : Config → Bool
-noConfig c =
-    noEntry (c .offset) && noEntry (c .size) && noEntry (c .step) && noEntry (c .«dst_offset») && noEntry (c .«dst_stride») &&
-    noEntry (c .perm) && noEntry (c .pre) && noEntry (c .post)
+unfoldable pub isZeroConfig : Config → Bool
+isZeroConfig c =
+    isZeroArray (c .offset) && isZeroArray (c .size) && isZeroArray (c .step) && isZeroArray (c .«dst_offset») && isZeroArray (c .«dst_stride») &&
+    isZeroArray (c .perm) && isZeroArray (c .pre) && isZeroArray (c .post)
 
 -- a job that is all zero
-unfoldable pub noJob : Job → Bool
-noJob j = noPart (j .source) && noPart (j .target) && noTensor (j .tensor) && noConfig (j .config)
+unfoldable pub isZeroJob : Job → Bool
+isZeroJob j = isZeroPart (j .source) && isZeroPart (j .target) && isZeroTensor (j .tensor) && isZeroConfig (j .config)
 
 -- moved is 0 when prepared, below the total when running, the total when done
 unfoldable pub movedRight : ℕ → ℕ → ℕ → Bool
@@ -103,7 +90,7 @@ movedRight state moved total =
 unfoldable pub slotSound : ℕ → Slot → Bool
 slotSound n s =
     cond (eqb (s .state) 0)
-    (noJob (s .job) && eqb (s .moved) 0)
+    (isZeroJob (s .job) && eqb (s .moved) 0)
     (eqb (jobFault n (s .job) .status) 0 && movedRight (s .state) (s .moved) (totalOf (s .job)))
 
 -- the longest memory

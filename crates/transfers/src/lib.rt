@@ -24,11 +24,13 @@ pub struct Table {
     pub slots: [Slot; 4],
 }
 
+// What fresh answers.
 pub struct FreshTable {
     pub status: u8,
     pub table: Table,
 }
 
+// What prepare answers: the slot's number as the handle, and the next table.
 pub struct Prepared {
     pub status: u8,
     pub dim: u8,
@@ -42,6 +44,7 @@ pub struct Changed {
     pub table: Table,
 }
 
+// What a step answers: how many elements it moved, and the next table.
 pub struct Stepped {
     pub status: u8,
     pub count: u64,

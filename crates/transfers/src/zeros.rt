@@ -4,28 +4,28 @@ use mover::Job;
 use mover::Part;
 use mover::Tensor;
 ghost use mathlib.Core.Path.{_≡_};
-ghost use Rattle.transfers.specs.Slots.{noEntry, noPart, noTensor, noConfig, noJob};
+ghost use Rattle.transfers.specs.Slots.{isZeroArray, isZeroPart, isZeroTensor, isZeroConfig, isZeroJob};
 
 fn no_number(a: [u32; 4]) -> bool
-    ensures { λ r. ⌜ r ≡ noEntry a ⌝ }
+    ensures { λ r. ⌜ r ≡ isZeroArray a ⌝ }
 {
     (a[0] == 0) & (a[1] == 0) & (a[2] == 0) & (a[3] == 0)
 }
 
 fn no_byte(a: [u8; 4]) -> bool
-    ensures { λ r. ⌜ r ≡ noEntry a ⌝ }
+    ensures { λ r. ⌜ r ≡ isZeroArray a ⌝ }
 {
     (a[0] == 0) & (a[1] == 0) & (a[2] == 0) & (a[3] == 0)
 }
 
 fn no_part(p: Part) -> bool
-    ensures { λ r. ⌜ r ≡ noPart p ⌝ }
+    ensures { λ r. ⌜ r ≡ isZeroPart p ⌝ }
 {
     (p.start == 0) & (p.length == 0)
 }
 
 fn no_tensor(t: Tensor) -> bool
-    ensures { λ r. ⌜ r ≡ noTensor t ⌝ }
+    ensures { λ r. ⌜ r ≡ isZeroTensor t ⌝ }
 {
     let shape = t.shape;
     let stride = t.stride;
@@ -33,7 +33,7 @@ fn no_tensor(t: Tensor) -> bool
 }
 
 fn no_config(c: Config) -> bool
-    ensures { λ r. ⌜ r ≡ noConfig c ⌝ }
+    ensures { λ r. ⌜ r ≡ isZeroConfig c ⌝ }
 {
     let offset = c.offset;
     let size = c.size;
@@ -54,7 +54,7 @@ fn no_config(c: Config) -> bool
 }
 
 pub(crate) fn no_job(j: Job) -> bool
-    ensures { λ r. ⌜ r ≡ noJob j ⌝ }
+    ensures { λ r. ⌜ r ≡ isZeroJob j ⌝ }
 {
     no_part(j.source) & no_part(j.target) & no_tensor(j.tensor) & no_config(j.config)
 }

@@ -1,11 +1,11 @@
 -- `transfers::zeros::no_config` tells whether a configuration is all zero. Assumes nothing.
 use borrow.Author.Needs.{needs}
-use Rattle.transfers.specs.Slots.{noConfig}
+use Rattle.transfers.specs.Slots.{isZeroConfig}
 use Rattle.transfers.proofs.zeros.no_config.Statement.{statement}
 use Rattle.transfers.proofs.zeros.no_config.Tie as tie
 
 returns : tie.Need-returns
-unfolding noConfig
+unfolding isZeroConfig
 returns c =
     let d = c .before .before .before in
     let e = d .before .before in

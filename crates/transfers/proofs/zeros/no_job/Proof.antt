@@ -1,11 +1,11 @@
 -- `transfers::zeros::no_job` tells whether a job is all zero. Assumes nothing.
 use borrow.Author.Needs.{needs}
-use Rattle.transfers.specs.Slots.{noJob}
+use Rattle.transfers.specs.Slots.{isZeroJob}
 use Rattle.transfers.proofs.zeros.no_job.Statement.{statement}
 use Rattle.transfers.proofs.zeros.no_job.Tie as tie
 
 returns : tie.Need-returns
-unfolding noJob
+unfolding isZeroJob
 returns c =
     rw (
       c .no-config .ensures,
