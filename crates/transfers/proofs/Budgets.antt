@@ -1,4 +1,4 @@
--- Budgets that add up to what was left finish a transfer, whatever other calls come between. Assumes nothing.
+-- Budgets that add up to what a running transfer has left finish it, whatever other calls come between but a release of it. Assumes nothing.
 use mathlib.Core.Path.{_≡_, refl, sym, subst, _∙_}
 use mathlib.Core.Logic.{_⊎_, ⊎-elim, inl, inr}
 use Prim.Native.Nat.{ℕ, _+_, _-_, _≤_, _<_, min}
