@@ -1,4 +1,4 @@
--- Budgets that add up to what a running transfer has left finish it, whatever other calls come between but a release of it. Assumes nothing.
+-- Budgets that add up to what a running transfer has left finish it, whatever other calls come between, as long as none releases it. Assumes nothing.
 use mathlib.Core.Path.{_≡_, refl, sym, subst, _∙_}
 use mathlib.Core.Logic.{_⊎_, ⊎-elim, inl, inr}
 use Prim.Native.Nat.{ℕ, _+_, _-_, _≤_, _<_, min}
@@ -87,22 +87,19 @@ module _ (h : ℕ) (q : h < 4) (t : Table) (n : ℕ) (most : AtMost (slotAt t h)
       at-most-other t h (lowestFree t) n (newSlot j) q (λ e. at-most-taken (slotAt t h) n 0 (omega arith) most (rw e (l .free))) most)
       (λ z. most)
 
-  -- start and release of another slot
-  change-most : (m g want : ℕ) (s : Slot) → (callFault t m g want .status ≡ 0 → h ≡ g → ⊥) → AtMost (slotAt (changed (callFault t m g want) t g s .table) h) n
-  unfolding changed
-  change-most m g want s other =
-      by-fault (λ (a : Changed). AtMost (slotAt (a .table) h) n) (callFault t m g want)
-      (λ z. at-most-other t h g n s q (other z) most) (λ z. most)
-
   start-most : (m g : ℕ) → AtMost (slotAt (startOf t m g .table) h) n
-  unfolding startOf
+  unfolding startOf changed
   start-most m g =
-      change-most m g 1 (running (slotAt t g))
-      (λ z e. at-most-taken (slotAt t h) n 1 (omega arith) most (rw e (called t m g 1 z .state)))
+      by-fault (λ (a : Changed). AtMost (slotAt (a .table) h) n) (callFault t m g 1)
+      (λ z. at-most-other t h g n (running (slotAt t g)) q (λ e. at-most-taken (slotAt t h) n 1 (omega arith) most (rw e (called t m g 1 z .state))) most)
+      (λ z. most)
 
-  release-most : (m g : ℕ) → (h ≡ g → ⊥) → AtMost (slotAt (releaseOf t m g .table) h) n
-  unfolding releaseOf
-  release-most m g d = change-most m g 3 freeSlot (λ z e. d e)
+  -- a release of another slot, or one that is refused
+  release-most : (m g : ℕ) → (releaseOf t m g .status ≡ 0 → h ≡ g → ⊥) → AtMost (slotAt (releaseOf t m g .table) h) n
+  unfolding releaseOf changed
+  release-most m g =
+      by-fault (λ (a : Changed). (a .status ≡ 0 → h ≡ g → ⊥) → AtMost (slotAt (a .table) h) n) (callFault t m g 3)
+      (λ z u. at-most-other t h g n freeSlot q (u refl) most) (λ z u. most)
 
   -- a step of another slot
   step-other : (m g b : ℕ) → (h ≡ g → ⊥) → AtMost (slotAt (stepOf t m g b .table) h) n
@@ -143,17 +140,18 @@ step-long t g b m =
 
 -- ---- a list of calls
 
--- none of the calls is a release of h
-abbrev pub Unreleased : ℕ → List Call → Type 0
-Unreleased h [] = Unit {0}
-Unreleased h (prepare j ∷ cs) = Unreleased h cs
-Unreleased h (start g ∷ cs) = Unreleased h cs
-Unreleased h (step g b ∷ cs) = Unreleased h cs
-Unreleased h (release g ∷ cs) = (h ≡ g → ⊥) × Unreleased h cs
-Unreleased h (poll g ∷ cs) = Unreleased h cs
+-- none of the calls releases h: a release of it may be asked for, and is refused
+abbrev pub Unreleased : ℕ → List Call → World → Type 0
+Unreleased h [] w = Unit {0}
+Unreleased h (prepare j ∷ cs) w = Unreleased h cs (after (prepare j) w)
+Unreleased h (start g ∷ cs) w = Unreleased h cs (after (start g) w)
+Unreleased h (step g b ∷ cs) w = Unreleased h cs (after (step g b) w)
+Unreleased h (release g ∷ cs) w =
+    (releaseOf (w .table) (length (w .memory)) g .status ≡ 0 → h ≡ g → ⊥) × Unreleased h cs (after (release g) w)
+Unreleased h (poll g ∷ cs) w = Unreleased h cs (after (poll g) w)
 
 module _ (h : ℕ) (q : h < 4) where
-  pub going : (cs : List Call) (w : World) → Unreleased h cs → Going h (spend h cs) w → Going h 0 (run cs w)
+  pub going : (cs : List Call) (w : World) → Unreleased h cs w → Going h (spend h cs) w → Going h 0 (run cs w)
   unfolding run after spend spends
   going [] w u g = g
   going (prepare j ∷ cs) w u g =
@@ -219,7 +217,7 @@ tells t h n =
 
 -- a poll says running with n left; the budgets of the steps that follow add up to n or more: then a poll says done
 pub budgets-finish : (h n : ℕ) (w : World) (cs : List Call) → length (w .memory) ≡ w .table .length
-    → pollOf (w .table) h ≡ says.Running n → Unreleased h cs → n ≤ spend h cs → pollOf (run cs w .table) h ≡ says.Done
+    → pollOf (w .table) h ≡ says.Running n → Unreleased h cs w → n ≤ spend h cs → pollOf (run cs w .table) h ≡ says.Done
 budgets-finish h n w cs l r u b =
     let k = tells (w .table) h n r in
     let g = going h (k .range) cs w u (record { sound = k .sound; long = l; most = inr (k .state, rw (k .rest) b) }) in
