@@ -1,0 +1,138 @@
+// What an answer's bytes are. Each function puts its value from byte p on and tells where the next goes; a byte that has no
+// place is left out.
+use plane::Answer;
+use plane::Config;
+use plane::Fault;
+use plane::Made;
+use plane::Tensor;
+use transfers::Job;
+use transfers::Part;
+use transfers::Slot;
+use transfers::Table;
+
+pub(crate) fn byte(out: &mut [u8], p: usize, x: u8) -> usize {
+    if p < out.len() {
+        out[p] = x;
+        return p + 1;
+    }
+    p
+}
+
+pub(crate) fn word(out: &mut [u8], p: usize, x: u32) -> usize {
+    let p1 = byte(out, p, (x % 256) as u8);
+    let p2 = byte(out, p1, (x / 256 % 256) as u8);
+    let p3 = byte(out, p2, (x / 65536 % 256) as u8);
+    byte(out, p3, (x / 16777216) as u8)
+}
+
+pub(crate) fn long(out: &mut [u8], p: usize, x: u64) -> usize {
+    let p4 = word(out, p, (x % 4294967296) as u32);
+    word(out, p4, (x / 4294967296) as u32)
+}
+
+pub(crate) fn words(out: &mut [u8], p: usize, a: [u32; 4]) -> usize {
+    let p1 = word(out, p, a[0]);
+    let p2 = word(out, p1, a[1]);
+    let p3 = word(out, p2, a[2]);
+    word(out, p3, a[3])
+}
+
+fn bytes(out: &mut [u8], p: usize, a: [u8; 4]) -> usize {
+    let p1 = byte(out, p, a[0]);
+    let p2 = byte(out, p1, a[1]);
+    let p3 = byte(out, p2, a[2]);
+    byte(out, p3, a[3])
+}
+
+// A memory, whole.
+pub(crate) fn memory(out: &mut [u8], p: usize, mem: &[u8]) -> usize {
+    let mut end = p;
+    for i in 0..mem.len() {
+        end = byte(out, end, mem[i]);
+    }
+    end
+}
+
+pub(crate) fn fault(out: &mut [u8], p: usize, f: Fault) -> usize {
+    let p1 = byte(out, p, f.status);
+    byte(out, p1, f.dim)
+}
+
+pub(crate) fn tensor(out: &mut [u8], p: usize, t: Tensor) -> usize {
+    let shape = t.shape;
+    let stride = t.stride;
+    let p1 = byte(out, p, t.rank);
+    let p2 = byte(out, p1, t.size);
+    let p3 = words(out, p2, shape);
+    words(out, p3, stride)
+}
+
+pub(crate) fn config(out: &mut [u8], p: usize, c: Config) -> usize {
+    let offset = c.offset;
+    let size = c.size;
+    let step = c.step;
+    let dst_offset = c.dst_offset;
+    let dst_stride = c.dst_stride;
+    let perm = c.perm;
+    let pre = c.pre;
+    let post = c.post;
+    let p1 = words(out, p, offset);
+    let p2 = words(out, p1, size);
+    let p3 = words(out, p2, step);
+    let p4 = words(out, p3, dst_offset);
+    let p5 = words(out, p4, dst_stride);
+    let p6 = bytes(out, p5, perm);
+    let p7 = bytes(out, p6, pre);
+    bytes(out, p7, post)
+}
+
+pub(crate) fn answer(out: &mut [u8], p: usize, a: Answer) -> usize {
+    let extent = a.extent;
+    let stride = a.stride;
+    let p1 = byte(out, p, a.status);
+    let p2 = byte(out, p1, a.dim);
+    let p3 = byte(out, p2, a.rank);
+    let p4 = byte(out, p3, a.size);
+    let p5 = words(out, p4, extent);
+    let p6 = words(out, p5, stride);
+    long(out, p6, a.need)
+}
+
+pub(crate) fn made(out: &mut [u8], p: usize, m: Made) -> usize {
+    let p1 = byte(out, p, m.status);
+    config(out, p1, m.config)
+}
+
+// A number of refusal with its dimension, and how many.
+pub(crate) fn counted(out: &mut [u8], p: usize, status: u8, dim: u8, count: u64) -> usize {
+    let p1 = byte(out, p, status);
+    let p2 = byte(out, p1, dim);
+    long(out, p2, count)
+}
+
+fn part(out: &mut [u8], p: usize, x: Part) -> usize {
+    let p1 = long(out, p, x.start);
+    long(out, p1, x.length)
+}
+
+fn job(out: &mut [u8], p: usize, j: Job) -> usize {
+    let p1 = part(out, p, j.source);
+    let p2 = part(out, p1, j.target);
+    let p3 = tensor(out, p2, j.tensor);
+    config(out, p3, j.config)
+}
+
+fn slot(out: &mut [u8], p: usize, s: Slot) -> usize {
+    let p1 = byte(out, p, s.state);
+    let p2 = job(out, p1, s.job);
+    long(out, p2, s.moved)
+}
+
+pub(crate) fn table(out: &mut [u8], p: usize, t: Table) -> usize {
+    let slots = t.slots;
+    let p1 = long(out, p, t.length);
+    let p2 = slot(out, p1, slots[0]);
+    let p3 = slot(out, p2, slots[1]);
+    let p4 = slot(out, p3, slots[2]);
+    slot(out, p4, slots[3])
+}

@@ -1,0 +1,201 @@
+// Which call a number is, and how long its arguments are.
+use crate::answers::byte;
+use crate::answers::memory;
+use crate::args::word;
+use crate::config_calls::config_call;
+use crate::mover_calls::advance;
+use crate::mover_calls::move_plane;
+use crate::mover_calls::mover_call;
+use crate::plane_calls::plane_call;
+use crate::record_calls::read;
+use crate::record_calls::write;
+use crate::table_calls::step;
+use crate::table_calls::table_call;
+ghost use Prim.Native.Nat.{_≤_};
+ghost use lib.ListN.{length};
+
+// The bytes of a call by its number, the number's own byte included and what is left of the line not; 0 where there is none.
+const FIXED: [usize; 80] = [
+    1,
+    35,
+    127,
+    143,
+    2,
+    39,
+    79,
+    0,
+    0,
+    0,
+    0,
+    0,
+    0,
+    0,
+    0,
+    0, // 00
+    2,
+    50,
+    34,
+    34,
+    6,
+    21,
+    21,
+    94,
+    109,
+    109,
+    109,
+    109,
+    109,
+    97,
+    97,
+    97, // 10
+    131,
+    167,
+    175,
+    33,
+    71,
+    0,
+    0,
+    0,
+    0,
+    0,
+    0,
+    0,
+    0,
+    0,
+    0,
+    0, // 20
+    1,
+    127,
+    0,
+    0,
+    0,
+    0,
+    0,
+    0,
+    0,
+    0,
+    0,
+    0,
+    0,
+    0,
+    0,
+    0, // 30
+    9,
+    835,
+    681,
+    689,
+    681,
+    681,
+    0,
+    0,
+    0,
+    0,
+    0,
+    0,
+    0,
+    0,
+    0,
+    0, // 40
+];
+
+// Whether bytes of any number may follow.
+fn has_rest(number: u8) -> bool {
+    match number {
+        0x20 | 0x22 | 0x24 | 0x30 | 0x31 | 0x41 | 0x42 | 0x43 | 0x44 => true,
+        _ => false,
+    }
+}
+
+// A reason why a line is no call.
+pub(crate) fn no_call(out: &mut [u8], reason: u8) -> usize {
+    let p = byte(out, 0, 255);
+    byte(out, p, reason)
+}
+
+// The version of docs/CALLS.md.
+fn version(out: &mut [u8]) -> usize {
+    let p = byte(out, 0, 0);
+    let p1 = byte(out, p, 1);
+    byte(out, p1, 0)
+}
+
+fn fixed(number: u8) -> usize {
+    let lengths = FIXED;
+    if number < 80 {
+        lengths[number as usize]
+    } else {
+        0
+    }
+}
+
+// Puts the bytes at the start of the room.
+fn lend(bytes: &[u8], room: &mut [u8])
+    requires { ⌜ length (now bytes) ≤ length (now room) ⌝ }
+{
+    for i in 0..bytes.len() {
+        room[i] = bytes[i];
+    }
+}
+
+// The answer of a call that may change the memory mem.
+fn change(number: u8, body: &[u8], mem: &mut [u8], out: &mut [u8]) -> usize {
+    match number {
+        0x20 => move_plane(body, mem, out),
+        0x22 => advance(body, mem, out),
+        0x31 => write(body, mem, out),
+        _ => step(body, mem, out),
+    }
+}
+
+// The same, and the memory after it.
+fn call_over(number: u8, body: &[u8], mem: &mut [u8], out: &mut [u8]) -> usize {
+    let p = change(number, body, mem, out);
+    memory(out, p, mem)
+}
+
+// The same, with the bytes from byte p on as the memory.
+fn call_from(number: u8, body: &[u8], p: usize, room: &mut [u8], out: &mut [u8]) -> usize {
+    if body.len() < p {
+        return no_call(out, 4);
+    }
+    let n = body.len() - p;
+    if room.len() < n {
+        return no_call(out, 4);
+    }
+    lend(&body[p..], room);
+    call_over(number, body, &mut room[0..n], out)
+}
+
+// A call whose arguments are as long as they have to be.
+fn call(number: u8, body: &[u8], room: &mut [u8], out: &mut [u8]) -> usize {
+    match number {
+        0x00 => version(out),
+        0x20 => call_from(number, body, 131 + word(body, 127) as usize, room, out),
+        0x22 | 0x31 | 0x43 => call_from(number, body, fixed(number), room, out),
+        0x30 => read(body, out),
+        0x01 | 0x02 | 0x03 | 0x04 | 0x05 | 0x06 => plane_call(number, body, out),
+        0x21 | 0x23 | 0x24 => mover_call(number, body, out),
+        0x40 | 0x41 | 0x42 | 0x44 | 0x45 => table_call(number, body, out),
+        _ => config_call(number, body, out),
+    }
+}
+
+// Makes the call that body asks for, puts its answer into out, and tells how long that is. room is for a memory that it may change.
+pub(crate) fn answer(body: &[u8], room: &mut [u8], out: &mut [u8]) -> usize {
+    if body.len() == 0 {
+        return no_call(out, 3);
+    }
+    let number = body[0];
+    let n = fixed(number);
+    if n == 0 {
+        return no_call(out, 3);
+    }
+    if body.len() < n {
+        return no_call(out, 4);
+    }
+    if (n < body.len()) & !has_rest(number) {
+        return no_call(out, 4);
+    }
+    byte(out, 0, number);
+    call(number, body, room, out)
+}
