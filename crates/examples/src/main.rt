@@ -4,7 +4,6 @@ use libc::STDOUT_FILENO;
 use plane::Config;
 use plane::SubConfig;
 use plane::Tensor;
-use plane::ready_made;
 use transfers::Job;
 use transfers::Part;
 use transfers::Table;

@@ -1,11 +1,10 @@
 -- Theorems to read first: Demand2 (what an accepted move leaves), Decided (no two outcomes), Exact (refusals), Slices (a sub-tensor copied is a slice),
--- Laws (what the layer above may use), Examples.
+-- Laws (what the layer above may use).
 pub mod Demand2
 pub mod Decided
 pub mod Exact
 pub mod Slices
 pub mod Laws
-pub mod Examples
 -- Laws over plain values, which the functions' proofs cite.
 pub mod Runs
 pub mod Places

@@ -18,7 +18,8 @@ use Rattle.plane.specs.declared.SubTensor.{SubTensor}
 use Rattle.plane.specs.Arrays.{at, table, firsts, zeros, sum, product, howMany}
 use Rattle.plane.specs.Planes.{shapeAt, strides, srcStrides}
 use Rattle.plane.specs.Moves.{taken, count, extent, dstExtents, dstStrides, need, judgeOf}
-use Rattle.plane.specs.ReadyMade.{withOffset, withSize, withDstStride, defaults, cutTo, madeFor, copyOf, sliceOf}
+use Rattle.plane.specs.Settings.{withOffset, withSize, withDstStride}
+use Rattle.ready_made.specs.ReadyMade.{defaults, cutTo, madeFor, copyOf, sliceOf}
 use Rattle.plane.specs.Helpers.{staying, isUnit, subDim, subFault, noSub, subAnswer, subTensorOf, subOf, subByte}
 use Rattle.plane.proofs.Arrays.{table-at, zeros-at, firsts-at, firsts-same, sum-same}
 use Rattle.plane.proofs.Good.{GoodStrides, GoodConfig, GoodPlace, GoodMove, move-clear}

@@ -4,6 +4,7 @@ use mathlib.Core.Path.{_≡_, sym, _∙_}
 use Rattle.plane.proofs.verdict.room.Reads as room
 use Rattle.plane.proofs.verdict.judge.Reads as judge
 use Rattle.plane.proofs.tensors.source_of.Reads as source-of
+use Rattle.plane.proofs.refusals.rank_is_bad.Reads as rank-is-bad
 use Rattle.plane.proofs.helpers.element_size.Reads as element-size
 use Rattle.plane.proofs.helpers.element_count.Reads as element-count
 use Rattle.plane.proofs.sub.sub_tensor.Reads as sub-tensor
@@ -15,14 +16,6 @@ use Rattle.plane.proofs.Config.with_dst_stride.Reads as with-dst-stride
 use Rattle.plane.proofs.Config.with_perm.Reads as with-perm
 use Rattle.plane.proofs.Config.with_pre.Reads as with-pre
 use Rattle.plane.proofs.Config.with_post.Reads as with-post
-use Rattle.plane.proofs.ready_made.copy.Reads as copy
-use Rattle.plane.proofs.ready_made.slice.Reads as slice
-use Rattle.plane.proofs.ready_made.concatenate.Reads as concatenate
-use Rattle.plane.proofs.ready_made.subsample.Reads as subsample
-use Rattle.plane.proofs.ready_made.permute.Reads as permute
-use Rattle.plane.proofs.ready_made.pad_chw.Reads as pad-chw
-use Rattle.plane.proofs.ready_made.pad_hwc.Reads as pad-hwc
-use Rattle.plane.proofs.ready_made.all.Reads as all
 
 -- for all lifetimes κ and arguments a: what is asked holds, and two results that the contract allows are one
 pub record Decided {K : Type 0} {A R E : K → Type 0} (pre : (κ : K) → A κ → Type 0) (post : (κ : K) → A κ → R κ → E κ → Type 0) : Type 0 where
@@ -37,6 +30,9 @@ judge-decided = record { free = λ κ a. tt; one = λ κ a x y s t p q. p ∙ sy
 
 pub source-of-decided : Decided source-of.Pre source-of.Post
 source-of-decided = record { free = λ κ a. tt; one = λ κ a x y s t p q. p ∙ sym q }
+
+pub rank-is-bad-decided : Decided rank-is-bad.Pre rank-is-bad.Post
+rank-is-bad-decided = record { free = λ κ a. tt; one = λ κ a x y s t p q. p ∙ sym q }
 
 pub element-size-decided : Decided element-size.Pre element-size.Post
 element-size-decided = record { free = λ κ a. tt; one = λ κ a x y s t p q. p ∙ sym q }
@@ -70,27 +66,3 @@ with-pre-decided = record { free = λ κ a. tt; one = λ κ a x y s t p q. p ∙
 
 pub with-post-decided : Decided with-post.Pre with-post.Post
 with-post-decided = record { free = λ κ a. tt; one = λ κ a x y s t p q. p ∙ sym q }
-
-pub copy-decided : Decided copy.Pre copy.Post
-copy-decided = record { free = λ κ a. tt; one = λ κ a x y s t p q. p ∙ sym q }
-
-pub slice-decided : Decided slice.Pre slice.Post
-slice-decided = record { free = λ κ a. tt; one = λ κ a x y s t p q. p ∙ sym q }
-
-pub concatenate-decided : Decided concatenate.Pre concatenate.Post
-concatenate-decided = record { free = λ κ a. tt; one = λ κ a x y s t p q. p ∙ sym q }
-
-pub subsample-decided : Decided subsample.Pre subsample.Post
-subsample-decided = record { free = λ κ a. tt; one = λ κ a x y s t p q. p ∙ sym q }
-
-pub permute-decided : Decided permute.Pre permute.Post
-permute-decided = record { free = λ κ a. tt; one = λ κ a x y s t p q. p ∙ sym q }
-
-pub pad-chw-decided : Decided pad-chw.Pre pad-chw.Post
-pad-chw-decided = record { free = λ κ a. tt; one = λ κ a x y s t p q. p ∙ sym q }
-
-pub pad-hwc-decided : Decided pad-hwc.Pre pad-hwc.Post
-pad-hwc-decided = record { free = λ κ a. tt; one = λ κ a x y s t p q. p ∙ sym q }
-
-pub all-decided : Decided all.Pre all.Post
-all-decided = record { free = λ κ a. tt; one = λ κ a x y s t p q. p ∙ sym q }

@@ -21,7 +21,6 @@ use Rattle.plane.specs.Arrays.{at, zeros, howMany}
 use Rattle.plane.specs.Faults.{fault, when, _orElse_}
 use Rattle.plane.specs.Planes.{badRank, badElement, badShape, shapeAt, strideAt, strideBad, srcStrides, span, sourceFault, sourceOf}
 use Rattle.plane.specs.Moves.{extent, dstExtents, dstStrides, need, permBad, badOffset, badSize, badStep, badExtent, badDstOffset, configFault, placeFault, moveFault, roomFault, refused, answerOf, judgeOf, roomOf}
-use Rattle.plane.specs.ReadyMade.{allZero, cutTo, madeFor}
 use Rattle.plane.specs.Helpers.{elements, countFault, noCount, countAnswer, countOf, isUnit, excess, badSubSize, rankFault, subFault, subOf, subByte, noSub, subAnswer, subTensorOf}
 use Rattle.plane.proofs.Faults.{status, or-path, or-none, or-found, or-assoc, spared, when-zero, unless-fault, unless-none}
 use Rattle.plane.proofs.Rules.{answer-refused, answer-given, answer-status}
@@ -253,13 +252,3 @@ module _ (t : Tensor) (s : SubConfig) (srcLen : ℕ) where
       let f = subFault t s srcLen in
       let e = unless-fault f (noSub f) (record { status = 0; dim = 0; tensor = subOf t s; byte = subByte t s }) (λ z. h (sub-status f (subOf t s) (subByte t s) ∙ z)) in
       e ∙ ap (λ (x : SubTensor). noSub (fault (x .status) (x .dim))) (sym e)
-
--- a configuration is refused for a wrong rank alone, and then all its fields are 0
-module _ (n : ℕ) (c : Config) where
-  pub made-given : badRank n ≡ false → madeFor n c ≡ record { status = 0; config = cutTo n c }
-  unfolding madeFor
-  made-given e = simp e
-
-  pub made-refused : badRank n ≡ true → madeFor n c ≡ record { status = 1; config = allZero }
-  unfolding madeFor
-  made-refused e = simp e

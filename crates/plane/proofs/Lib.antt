@@ -1,12 +1,11 @@
 -- Theorems to read first: Decided (no two outcomes), Exact (each refusal in its case and order), Unseen (entries past the rank),
--- Good (what acceptance tells), Bounds (all fits 64 bits), SubTensors (a sub-tensor is a plane within the plane), Examples.
+-- Good (what acceptance tells), Bounds (all fits 64 bits), SubTensors (a sub-tensor is a plane within the plane).
 pub mod Decided
 pub mod Exact
 pub mod Unseen
 pub mod Good
 pub mod Bounds
 pub mod SubTensors
-pub mod Examples
 -- Laws over plain values, which the functions' proofs cite.
 pub mod Bools
 pub mod Arrays

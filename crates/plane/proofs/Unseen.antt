@@ -16,7 +16,6 @@ use Rattle.plane.specs.Arrays.{at, or0}
 use Rattle.plane.specs.Faults.{when, _orElse_, lowest, unless}
 use Rattle.plane.specs.Planes.{badRank, badShape, badStride, shapeAt, strideAt, inner, resolved, strideBad, strides, srcStrides, span, sourceFault}
 use Rattle.plane.specs.Moves.{upward, count, extent, dstExtents, dstStrides, need, permBad, badOffset, badStep, badExtent, badDstOffset, configFault, placeFault, moveFault, roomFault, accepted, answerOf, judgeOf, roomOf}
-use Rattle.plane.specs.ReadyMade.{configOf, allZero, cutTo, madeFor}
 use Rattle.plane.specs.Helpers.{elements, countFault, countAnswer, countOf, isUnit, staying, subDim, rankFault, subFault, subOf, subByte, noSub, subAnswer, subTensorOf}
 use Rattle.plane.proofs.Arrays.{firsts-same, sum-same, product-same, howMany-same, some-same}
 use Rattle.plane.proofs.Faults.{status, or-path, or-found, or-clear, lowest-same, outward-same, unless-fault, unless-none}
@@ -288,18 +287,3 @@ module _ (t t′ : Tensor) (a : SameTensor t t′) where
       sub-same _ _ _ _ _ _ agrees (s .rank) (s .offset) (s′ .offset) (s .size) (s′ .size) (record { offset = b .offset; size = b .size; rank = refl }) sl ∙
       across (λ (x : Tensor). subTensorOf x (record { offset = s′ .offset; size = s′ .size; rank = s .rank }) sl) ∙
       ap (λ (m : ℕ). subTensorOf t′ (record { offset = s′ .offset; size = s′ .size; rank = m }) sl) (b .rank)
-
--- arguments that agree below the rank make the same configuration
-pub made-unseen : (n : ℕ) (c c′ : Config) → SameConfig n c c′ → madeFor n c ≡ madeFor n c′
-unfolding madeFor cutTo
-made-unseen n c c′ b =
-    let o = firsts-same n (at (c .offset)) (at (c′ .offset)) (b .offset) in
-    let z = firsts-same n (at (c .size)) (at (c′ .size)) (b .size) in
-    let s = firsts-same n (at (c .step)) (at (c′ .step)) (b .step) in
-    let d = firsts-same n (at (c .«dst_offset»)) (at (c′ .«dst_offset»)) (b .dst-offset) in
-    let e = firsts-same n (at (c .«dst_stride»)) (at (c′ .«dst_stride»)) (b .dst-stride) in
-    let p = firsts-same n (at (c .perm)) (at (c′ .perm)) (b .perm) in
-    let f = firsts-same n (at (c .pre)) (at (c′ .pre)) (b .pre) in
-    let g = firsts-same n (at (c .post)) (at (c′ .post)) (b .post) in
-    ap (λ (x : Config). cond (badRank n) (record { status = 1; config = allZero }) (record { status = 0; config = x }))
-    (λ i. configOf (o i) (z i) (s i) (d i) (e i) (p i) (f i) (g i))

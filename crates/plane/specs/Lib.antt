@@ -3,6 +3,6 @@ pub mod Arrays
 pub mod Faults
 pub mod Planes
 pub mod Moves
-pub mod ReadyMade
+pub mod Settings
 pub mod Helpers
 pub mod Private

@@ -1,7 +1,7 @@
 // The rules of a plane and of a move: what is refused, with which number and at which dimension, and what an accepted
 // move answers. No call here touches a plane's bytes, asks anything of its caller, or sets memory aside.
 
-mod refusals; // a rule each: the dimension at fault for 3, 6, 7, 8, 9 and 12
+mod refusals; // a rule each: 1, and the dimension at fault for 3, 6, 7, 8, 9 and 12
 mod strides; // strides resolved outward, and the bytes that a box of elements reaches over
 mod tensors; // 1 to 4: a tensor record by itself
 mod extents; // kept counts and extents, and 10
@@ -10,10 +10,10 @@ mod verdict; // the whole of a move: 1 to 13
 mod settings; // a configuration with one field set
 mod helpers; // element size and element count
 mod sub; // a part of a plane as a tensor of its own
-pub mod ready_made; // configurations for the common moves
 
 pub use helpers::element_count;
 pub use helpers::element_size;
+pub use refusals::rank_is_bad;
 pub use sub::sub_tensor;
 pub use tensors::source_of;
 pub use verdict::judge;
@@ -69,12 +69,6 @@ pub struct Answer {
 pub struct RoomAnswer {
     pub answer: Answer,
     pub span: u64,
-}
-
-// A configuration made for a rank, or 1 and zeros.
-pub struct Made {
-    pub status: u8,
-    pub config: Config,
 }
 
 // How many elements there are.

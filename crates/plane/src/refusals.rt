@@ -14,8 +14,8 @@ pub(crate) fn no_fault() -> Fault
     Fault { status: 0, dim: 0 }
 }
 
-// 1
-pub(crate) fn rank_is_bad(n: u8) -> bool
+// 1: whether a rank is refused.
+pub fn rank_is_bad(n: u8) -> bool
     ensures { λ r. ⌜ r ≡ badRank n ⌝ }
 {
     (n < 1) | (4 < n)

@@ -1,7 +1,7 @@
 // The settings: each hands the configuration back with one field set to the four entries given, so that they chain.
 use crate::Config;
 ghost use mathlib.Core.Path.{_≡_};
-ghost use Rattle.plane.specs.ReadyMade.{withOffset, withSize, withStep, withDstOffset, withDstStride, withPerm, withPre, withPost};
+ghost use Rattle.plane.specs.Settings.{withOffset, withSize, withStep, withDstOffset, withDstStride, withPerm, withPre, withPost};
 
 impl Config {
     // The first coordinate taken, by source dimension.

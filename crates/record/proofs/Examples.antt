@@ -5,9 +5,9 @@ use mathlib.Core.List.{List, [], _∷_, _++_}
 use lib.ListN.{take, set, replicate}
 use Rattle.plane.specs.declared.Tensor.{Tensor}
 use Rattle.plane.specs.declared.Config.{Config}
-use Rattle.plane.specs.Arrays.{zeros, firsts, sum, some}
+use Rattle.plane.specs.Arrays.{zeros, sum, some}
 use Rattle.plane.specs.Faults.{fault, when, _orElse_, first, lowest}
-use Rattle.plane.specs.ReadyMade.{defaults, cutTo, withPerm, withPost}
+use Rattle.plane.specs.Settings.{allZero, withStep, withPerm, withPost}
 use Rattle.record.specs.Layout.{little, number, joined, start}
 use Rattle.record.specs.Records.{tensorIn, configIn, recordBytes, stray, fieldsFault, readFault, writeFault, refused, accepted, readOf, writtenRoom}
 
@@ -16,7 +16,7 @@ abbrev pub tensorA : Tensor
 tensorA = record { rank = 2; size = 1; shape = 2 ∷ 3 ∷ 0 ∷ 0 ∷ []; stride = zeros }
 
 abbrev pub configA : Config
-configA = withPerm (cutTo 2 defaults) (1 ∷ 0 ∷ 0 ∷ 0 ∷ [])
+configA = withPerm (withStep allZero (1 ∷ 1 ∷ 0 ∷ 0 ∷ [])) (1 ∷ 0 ∷ 0 ∷ 0 ∷ [])
 
 abbrev pub bytesA : List ℕ
 bytesA =
@@ -24,11 +24,11 @@ bytesA =
     (1 ∷ 0 ∷ 0 ∷ 0 ∷ 1 ∷ []) ++ replicate 43 0 ++ (1 ∷ []) ++ replicate 11 0
 
 pub written-a : writtenRoom tensorA configA (replicate 131 9) ≡ bytesA
-unfolding cutTo firsts writtenRoom writeFault fieldsFault stray recordBytes joined little when _orElse_ lowest first some
+unfolding writtenRoom writeFault fieldsFault stray recordBytes joined little when _orElse_ lowest first some
 written-a = refl
 
 pub read-a : readOf bytesA ≡ accepted tensorA configA
-unfolding cutTo firsts readOf readFault tensorIn configIn start sum number fieldsFault stray when _orElse_ lowest first some
+unfolding readOf readFault tensorIn configIn start sum number fieldsFault stray when _orElse_ lowest first some
 read-a = refl
 
 -- 25: cut short
@@ -47,5 +47,5 @@ later = refl
 
 -- 28: permutation entry 3 and post entry 2 are not 0; the lower dimension is named
 pub strays : writeFault tensorA (withPost (withPerm configA (1 ∷ 0 ∷ 0 ∷ 7 ∷ [])) (0 ∷ 0 ∷ 5 ∷ 0 ∷ [])) 131 ≡ fault 28 2
-unfolding cutTo firsts writeFault fieldsFault stray when _orElse_ lowest first some
+unfolding writeFault fieldsFault stray when _orElse_ lowest first some
 strays = refl

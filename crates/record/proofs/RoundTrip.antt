@@ -16,7 +16,7 @@ use Rattle.plane.specs.declared.Tensor.{Tensor}
 use Rattle.plane.specs.declared.Config.{Config}
 use Rattle.plane.specs.Arrays.{at, sum, some}
 use Rattle.plane.specs.Faults.{when}
-use Rattle.plane.specs.ReadyMade.{configOf}
+use Rattle.plane.specs.Settings.{configOf}
 use Rattle.plane.proofs.Bools.{either-clear}
 use Rattle.plane.proofs.Arrays.{table-at, is-table}
 use Rattle.plane.proofs.Faults.{status, or-clear, when-clear}

@@ -10,7 +10,7 @@ use Rattle.plane.specs.declared.Fault.{Fault}
 use Rattle.plane.specs.Arrays.{at, some}
 use Rattle.plane.specs.Faults.{when, _orElse_, lowest, unless}
 use Rattle.plane.specs.Planes.{badRank}
-use Rattle.plane.specs.ReadyMade.{configOf, allZero}
+use Rattle.plane.specs.Settings.{configOf, allZero}
 use Rattle.plane.specs.Helpers.{noTensor}
 use Rattle.record.specs.declared.Reading.{Reading}
 use Rattle.record.specs.Layout.{joined, recordLength, mark, theVersion, versionIn, rankIn, sizeIn, headBytes, groupCount, group, width, start, fourIn, fourBytes}

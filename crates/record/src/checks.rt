@@ -2,22 +2,15 @@
 use plane::Config;
 use plane::Fault;
 use plane::Tensor;
+use plane::rank_is_bad;
 ghost use mathlib.Core.Path.{_≡_};
 ghost use mathlib.Core.Bool.{not};
 ghost use Prim.Native.Nat.{_≤_, _<_};
 ghost use lib.Dec.{eqb};
 ghost use Rattle.plane.specs.Arrays.{at, some};
 ghost use Rattle.plane.specs.Faults.{lowest};
-ghost use Rattle.plane.specs.Planes.{badRank};
 ghost use Rattle.record.specs.Layout.{groupCount, group};
 ghost use Rattle.record.specs.Records.{stray, fieldsFault};
-
-// 1
-fn rank_is_bad(n: u8) -> bool
-    ensures { λ r. ⌜ r ≡ badRank n ⌝ }
-{
-    (n < 1) | (4 < n)
-}
 
 // Whether some group has an entry d that is not 0.
 fn has_entry(t: Tensor, c: Config, d: usize) -> bool

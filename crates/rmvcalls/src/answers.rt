@@ -3,8 +3,8 @@
 use plane::Answer;
 use plane::Config;
 use plane::Fault;
-use plane::Made;
 use plane::Tensor;
+use ready_made::Made;
 use transfers::Job;
 use transfers::Part;
 use transfers::Slot;

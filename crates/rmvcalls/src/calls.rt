@@ -14,90 +14,6 @@ use crate::table_calls::table_call;
 ghost use Prim.Native.Nat.{_≤_};
 ghost use lib.ListN.{length};
 
-// The bytes of a call by its number, the number's own byte included and what is left of the line not; 0 where there is none.
-const FIXED: [usize; 80] = [
-    1,
-    35,
-    127,
-    143,
-    2,
-    39,
-    79,
-    0,
-    0,
-    0,
-    0,
-    0,
-    0,
-    0,
-    0,
-    0, // 00
-    2,
-    50,
-    34,
-    34,
-    6,
-    21,
-    21,
-    94,
-    109,
-    109,
-    109,
-    109,
-    109,
-    97,
-    97,
-    97, // 10
-    131,
-    167,
-    175,
-    33,
-    71,
-    0,
-    0,
-    0,
-    0,
-    0,
-    0,
-    0,
-    0,
-    0,
-    0,
-    0, // 20
-    1,
-    127,
-    0,
-    0,
-    0,
-    0,
-    0,
-    0,
-    0,
-    0,
-    0,
-    0,
-    0,
-    0,
-    0,
-    0, // 30
-    9,
-    835,
-    681,
-    689,
-    681,
-    681,
-    0,
-    0,
-    0,
-    0,
-    0,
-    0,
-    0,
-    0,
-    0,
-    0, // 40
-];
-
 // Whether bytes of any number may follow.
 fn has_rest(number: u8) -> bool {
     match number {
@@ -119,12 +35,33 @@ fn version(out: &mut [u8]) -> usize {
     byte(out, p1, 0)
 }
 
+// The bytes of a call, its number's own included and the rest of the line not; 0 where no call has the number.
 fn fixed(number: u8) -> usize {
-    let lengths = FIXED;
-    if number < 80 {
-        lengths[number as usize]
-    } else {
-        0
+    match number {
+        0x00 | 0x30 => 1,
+        0x01 => 35,
+        0x02 | 0x31 => 127,
+        0x03 => 143,
+        0x04 | 0x10 => 2,
+        0x05 => 39,
+        0x06 => 79,
+        0x11 => 50,
+        0x12 | 0x13 => 34,
+        0x14 => 6,
+        0x15 | 0x16 => 21,
+        0x17 => 94,
+        0x18 | 0x19 | 0x1a | 0x1b | 0x1c => 109,
+        0x1d | 0x1e | 0x1f => 97,
+        0x20 => 131,
+        0x21 => 167,
+        0x22 => 175,
+        0x23 => 33,
+        0x24 => 71,
+        0x40 => 9,
+        0x41 => 835,
+        0x42 | 0x44 | 0x45 => 681,
+        0x43 => 689,
+        _ => 0,
     }
 }
 

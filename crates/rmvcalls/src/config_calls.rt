@@ -5,8 +5,7 @@ use crate::args::byte;
 use crate::args::bytes;
 use crate::args::config;
 use crate::args::words;
-use plane::Made;
-use plane::ready_made;
+use ready_made::Made;
 
 // Every field as given.
 fn all(b: &[u8]) -> Made {

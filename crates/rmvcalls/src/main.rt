@@ -18,7 +18,7 @@ const BODY: usize = 135168; // bytes of the longest call
 
 const ROOM: usize = 65536; // bytes of the longest memory that a call may change
 
-const OUT: usize = 66560; // bytes of the longest answer: a table and a memory
+const OUT: usize = 135168; // bytes of the longest answer: a part of a source
 
 // Answers line after line until the input ends. A proved loop has to end, so it counts down from more reads than any input takes.
 fn run(chunk: &mut [u8], body: &mut [u8], room: &mut [u8], out: &mut [u8]) {

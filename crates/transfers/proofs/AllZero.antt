@@ -12,7 +12,7 @@ use Rattle.plane.specs.Arrays.{at, zeros}
 use Rattle.mover.specs.declared.Part.{Part}
 use Rattle.mover.specs.declared.Job.{Job}
 use Rattle.transfers.specs.declared.Slot.{Slot}
-use Rattle.plane.specs.ReadyMade.{allZero}
+use Rattle.plane.specs.Settings.{allZero}
 use Rattle.plane.specs.Helpers.{noTensor}
 use Rattle.transfers.specs.Slots.{zeroPart, zeroJob, freeSlot, isZeroArray, isZeroPart, isZeroTensor, isZeroConfig, isZeroJob, slotSound}
 use Rattle.transfers.proofs.Every.{both-first, both-second, every-at}

@@ -1,6 +1,6 @@
 -- Theorems to read first: Demand3 (serial and midway), Keeps (sound tables stay sound), Runs (neither 17 nor 18 is given in a run), Budgets (what
 -- finishes a transfer), Decided (no two outcomes), Exact (refusals), AllZero (a free slot is all zero),
--- Polls (what a poll tells), ExampleL.
+-- Polls (what a poll tells).
 pub mod Demand3
 pub mod Keeps
 pub mod Runs
@@ -9,7 +9,6 @@ pub mod Decided
 pub mod Exact
 pub mod AllZero
 pub mod Polls
-pub mod ExampleL
 -- Laws over plain values, which the functions' proofs cite.
 pub mod Every
 pub mod Fours

@@ -6,7 +6,7 @@ use lib.Dec.{ltb, leb, eqb}
 use lib.ListN.{getD}
 use Rattle.plane.specs.declared.Tensor.{Tensor}
 use Rattle.plane.specs.declared.Config.{Config}
-use Rattle.plane.specs.ReadyMade.{allZero}
+use Rattle.plane.specs.Settings.{allZero}
 use Rattle.plane.specs.Helpers.{noTensor}
 use Rattle.plane.specs.Arrays.{at, table, zeros, some}
 use Rattle.mover.specs.declared.Part.{Part}

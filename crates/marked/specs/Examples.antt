@@ -1,0 +1,199 @@
+-- The paper's marked examples A to L, as one table: an entry says what is given and what comes out. `AllRight` says when a table is right.
+use Prim.Native.Nat.{ℕ, zero, suc}
+use mathlib.Core.Path.{_≡_}
+use mathlib.Core.List.{List, [], _∷_, _++_}
+use lib.ListN.{length, replicate}
+use Rattle.plane.specs.declared.Tensor.{Tensor}
+use Rattle.plane.specs.declared.Config.{Config}
+use Rattle.plane.specs.declared.Answer.{Answer}
+use Rattle.plane.specs.declared.RoomAnswer.{RoomAnswer}
+use Rattle.plane.specs.declared.Count.{Count}
+use Rattle.plane.specs.declared.SubConfig.{SubConfig}
+use Rattle.plane.specs.declared.SubTensor.{SubTensor}
+use Rattle.plane.specs.Arrays.{zeros}
+use Rattle.plane.specs.Faults.{fault}
+use Rattle.plane.specs.Moves.{refused, judgeOf, roomOf}
+use Rattle.ready_made.specs.ReadyMade.{defaults}
+use Rattle.plane.specs.Settings.{withOffset, withSize, withStep, withDstOffset, withDstStride, withPerm, withPre, withPost}
+use Rattle.plane.specs.Helpers.{noCount, countOf, subTensorOf}
+use Rattle.mover.specs.declared.Job.{Job}
+use Rattle.mover.specs.Moved.{moveMemory}
+use Rattle.mover.specs.SubPart.{subPart}
+use Rattle.transfers.specs.Calls.{prepareOf, startOf, stepOf, releaseOf, pollOf, pollStatus, pollState, pollLeft}
+use Rattle.transfers.specs.Demand3.{Call, prepare, start, step, release, poll, World, begin, after}
+
+-- ---- what an example is
+
+infix 70 _answers_
+-- a call on a table, and the numbers that it answers (`reply` says which)
+pub data Asked : Type 0 where
+  _answers_ : Call → List ℕ → Asked
+
+pub data Example : Type 0 where
+  -- tensor, configuration, source, destination before; the answer, the destination after
+  move : Tensor → Config → List ℕ → List ℕ → Answer → List ℕ → Example
+  -- tensor, which part of it, source; the answer, the part of the source handed back
+  sub : Tensor → SubConfig → List ℕ → SubTensor → List ℕ → Example
+  -- memory before, calls on a fresh table for it; memory after
+  transfers : List ℕ → List Asked → List ℕ → Example
+  -- tensor, configuration; what a room question answers
+  room : Tensor → Config → RoomAnswer → Example
+  -- tensor, start dimension; the element count
+  count : Tensor → ℕ → Count → Example
+
+-- ---- when it is right: the definitions that decide the public calls give what it says
+
+-- the status first; then prepare: the dimension and the handle; step: how many it moved; poll: the state and what is left
+abbrev pub reply : Call → World → List ℕ
+reply (prepare j) w = let a = prepareOf (w .table) (length (w .memory)) j in a .status ∷ a .dim ∷ a .handle ∷ []
+reply (start h) w = startOf (w .table) (length (w .memory)) h .status ∷ []
+reply (step h b) w = let a = stepOf (w .table) (length (w .memory)) h b in a .status ∷ a .count ∷ []
+reply (release h) w = releaseOf (w .table) (length (w .memory)) h .status ∷ []
+reply (poll h) w = let a = pollOf (w .table) h in pollStatus a ∷ pollState a ∷ pollLeft a ∷ []
+
+-- each call answers what it is said to, and the last leaves that memory
+abbrev pub Answered : List Asked → List ℕ → World → Type 0
+Answered [] out w = w .memory ≡ out
+Answered (c answers a ∷ cs) out w = (reply c w ≡ a) × Answered cs out (after c w)
+
+abbrev pub Right : Example → Type 0
+Right (move t c source over a out) = (judgeOf t c (length source) (length over) ≡ a) × (moveMemory t c source over ≡ out)
+Right (sub t s source a part) = (subTensorOf t s (length source) ≡ a) × (subPart t s source ≡ part)
+Right (transfers m cs out) = Answered cs out (begin (length m) m)
+Right (room t c a) = roomOf t c ≡ a
+Right (count t from a) = countOf t from ≡ a
+
+abbrev pub AllRight : List Example → Type 0
+AllRight [] = Unit
+AllRight (e ∷ es) = Right e × AllRight es
+
+-- ---- how the entries are written
+
+-- entries at and past the rank, which nobody looks at, are 9
+abbrev pub one : ℕ → List ℕ
+one a = a ∷ 9 ∷ 9 ∷ 9 ∷ []
+
+abbrev pub two : ℕ → ℕ → List ℕ
+two a b = a ∷ b ∷ 9 ∷ 9 ∷ []
+
+abbrev pub three : ℕ → ℕ → ℕ → List ℕ
+three a b c = a ∷ b ∷ c ∷ 9 ∷ []
+
+-- a plane with all strides 0: rank, element size, shape
+abbrev pub compact : ℕ → ℕ → List ℕ → Tensor
+compact n size shape = record { rank = n; size = size; shape = shape; stride = zeros }
+
+-- a sub-tensor's offsets, sizes and rank
+abbrev pub cut : List ℕ → List ℕ → ℕ → SubConfig
+cut offset size n = record { offset = offset; size = size; rank = n }
+
+-- a transfer of shape (n), in bytes, from byte a on into byte b on
+abbrev pub transfer : ℕ → ℕ → ℕ → Job
+transfer n a b = record {
+  source = record { start = a; length = n };
+  target = record { start = b; length = n };
+  tensor = compact 1 1 (one n);
+  config = defaults;
+}
+
+-- the bytes 1..n
+abbrev pub upTo : ℕ → List ℕ
+upTo zero = []
+upTo (suc n) = upTo n ++ (suc n ∷ [])
+
+-- a destination of n bytes of which the paper says nothing more: a byte not written would show
+abbrev pub over : ℕ → List ℕ
+over n = replicate n 99
+
+-- an accepted move: rank, element size, extents, destination strides, need
+abbrev pub accepted : ℕ → ℕ → List ℕ → List ℕ → ℕ → Answer
+accepted n size extent stride need =
+    record { status = 0; dim = 0; rank = n; size = size; extent = extent; stride = stride; need = need }
+
+-- an accepted sub-tensor: rank, element size, shape, strides, byte
+abbrev pub acceptedSub : ℕ → ℕ → List ℕ → List ℕ → ℕ → SubTensor
+acceptedSub n size shape stride byte =
+    record { status = 0; dim = 0; tensor = record { rank = n; size = size; shape = shape; stride = stride }; byte = byte }
+
+-- ---- the table
+
+abbrev pub table : List Example
+table =
+    -- A: (2,3) 1..6, perm (1,0): 1 4 2 5 3 6
+    move (compact 2 1 (two 2 3)) (withPerm defaults (two 1 0)) (upTo 6) (over 6)
+    (accepted 2 1 (3 ∷ 2 ∷ 0 ∷ 0 ∷ []) (2 ∷ 1 ∷ 0 ∷ 0 ∷ []) 6) (1 ∷ 4 ∷ 2 ∷ 5 ∷ 3 ∷ 6 ∷ []) ∷
+    -- B: (3,4) 1..12, offset (1,1), size (2,2): 6 7 10 11
+    move (compact 2 1 (two 3 4)) (withSize (withOffset defaults (two 1 1)) (two 2 2)) (upTo 12) (over 4)
+    (accepted 2 1 (2 ∷ 2 ∷ 0 ∷ 0 ∷ []) (2 ∷ 1 ∷ 0 ∷ 0 ∷ []) 4) (6 ∷ 7 ∷ 10 ∷ 11 ∷ []) ∷
+    -- C: (7) 1..7, step 3: 1 4 7. Size 6: 1 4. Step 9: 1
+    move (compact 1 1 (one 7)) (withStep defaults (one 3)) (upTo 7) (over 3)
+    (accepted 1 1 (3 ∷ 0 ∷ 0 ∷ 0 ∷ []) (1 ∷ 0 ∷ 0 ∷ 0 ∷ []) 3) (1 ∷ 4 ∷ 7 ∷ []) ∷
+    move (compact 1 1 (one 7)) (withSize (withStep defaults (one 3)) (one 6)) (upTo 7) (over 2)
+    (accepted 1 1 (2 ∷ 0 ∷ 0 ∷ 0 ∷ []) (1 ∷ 0 ∷ 0 ∷ 0 ∷ []) 2) (1 ∷ 4 ∷ []) ∷
+    move (compact 1 1 (one 7)) (withStep defaults (one 9)) (upTo 7) (over 1)
+    (accepted 1 1 (1 ∷ 0 ∷ 0 ∷ 0 ∷ []) (1 ∷ 0 ∷ 0 ∷ 0 ∷ []) 1) (1 ∷ []) ∷
+    -- D: (1,2) 5 6, pre (1,0), post (0,1): 0 0 0 5 6 0
+    move (compact 2 1 (two 1 2)) (withPost (withPre defaults (two 1 0)) (two 0 1)) (5 ∷ 6 ∷ []) (over 6)
+    (accepted 2 1 (2 ∷ 3 ∷ 0 ∷ 0 ∷ []) (3 ∷ 1 ∷ 0 ∷ 0 ∷ []) 6) (0 ∷ 0 ∷ 0 ∷ 5 ∷ 6 ∷ 0 ∷ []) ∷
+    -- E: (1,2) 8 9, destination offset (1,0), strides (2,1), over 1 1 1 1: 1 1 8 9
+    move (compact 2 1 (two 1 2)) (withDstStride (withDstOffset defaults (two 1 0)) (two 2 1)) (8 ∷ 9 ∷ []) (1 ∷ 1 ∷ 1 ∷ 1 ∷ [])
+    (accepted 2 1 (1 ∷ 2 ∷ 0 ∷ 0 ∷ []) (2 ∷ 1 ∷ 0 ∷ 0 ∷ []) 4) (1 ∷ 1 ∷ 8 ∷ 9 ∷ []) ∷
+    -- F: (2,2) 1..4, destination strides (3,1), over five 7s: 1 2 7 3 4. Over four: 13, and nothing changes
+    move (compact 2 1 (two 2 2)) (withDstStride defaults (two 3 1)) (upTo 4) (7 ∷ 7 ∷ 7 ∷ 7 ∷ 7 ∷ [])
+    (accepted 2 1 (2 ∷ 2 ∷ 0 ∷ 0 ∷ []) (3 ∷ 1 ∷ 0 ∷ 0 ∷ []) 5) (1 ∷ 2 ∷ 7 ∷ 3 ∷ 4 ∷ []) ∷
+    move (compact 2 1 (two 2 2)) (withDstStride defaults (two 3 1)) (upTo 4) (7 ∷ 7 ∷ 7 ∷ 7 ∷ [])
+    (refused (fault 13 0)) (7 ∷ 7 ∷ 7 ∷ 7 ∷ []) ∷
+    -- G: (1,2) 5 6, pre (1,0), perm (1,0): 0 5 0 6
+    move (compact 2 1 (two 1 2)) (withPerm (withPre defaults (two 1 0)) (two 1 0)) (5 ∷ 6 ∷ []) (over 4)
+    (accepted 2 1 (2 ∷ 2 ∷ 0 ∷ 0 ∷ []) (2 ∷ 1 ∷ 0 ∷ 0 ∷ []) 4) (0 ∷ 5 ∷ 0 ∷ 6 ∷ []) ∷
+    -- H: (3,4) 1..12, offset (0,1), steps (2,2), perm (1,0): 2 10 4 12
+    move (compact 2 1 (two 3 4)) (withPerm (withStep (withOffset defaults (two 0 1)) (two 2 2)) (two 1 0)) (upTo 12) (over 4)
+    (accepted 2 1 (2 ∷ 2 ∷ 0 ∷ 0 ∷ []) (2 ∷ 1 ∷ 0 ∷ 0 ∷ []) 4) (2 ∷ 10 ∷ 4 ∷ 12 ∷ []) ∷
+    -- I: element size 2, (3), bytes 1..6, offset 1: 3 4 5 6
+    move (compact 1 2 (one 3)) (withOffset defaults (one 1)) (upTo 6) (over 4)
+    (accepted 1 2 (2 ∷ 0 ∷ 0 ∷ 0 ∷ []) (1 ∷ 0 ∷ 0 ∷ 0 ∷ []) 4) (3 ∷ 4 ∷ 5 ∷ 6 ∷ []) ∷
+    -- J: element size 3 with shape (0,70000): 2. A with perm (0,0): 6 at dimension 1
+    move (compact 2 3 (two 0 70000)) defaults (upTo 6) (over 3)
+    (refused (fault 2 0)) (99 ∷ 99 ∷ 99 ∷ []) ∷
+    move (compact 2 1 (two 2 3)) (withPerm defaults (two 0 0)) (upTo 6) (over 6)
+    (refused (fault 6 1)) (99 ∷ 99 ∷ 99 ∷ 99 ∷ 99 ∷ 99 ∷ []) ∷
+    -- K: sub-tensor of (3,4) at (1,2), sizes (1,2), rank 1: shape (2), stride 1, byte 6. The source is 1..12
+    sub (compact 2 1 (two 3 4)) (cut (two 1 2) (two 1 2) 1) (upTo 12)
+    (acceptedSub 1 1 (2 ∷ 0 ∷ 0 ∷ 0 ∷ []) (1 ∷ 0 ∷ 0 ∷ 0 ∷ []) 6) (7 ∷ 8 ∷ 9 ∷ 10 ∷ 11 ∷ 12 ∷ []) ∷
+    -- L: memory 1 2 3 4 0 0 0 0; two transfers of (2), bytes 0..1 to 4..5 and 2..3 to 6..7; steps of 1 alternating, second first:
+    -- 1 2 3 4 1 2 3 4. A third of (1) from byte 2 into byte 0, before either is released: 22
+    transfers (1 ∷ 2 ∷ 3 ∷ 4 ∷ 0 ∷ 0 ∷ 0 ∷ 0 ∷ [])
+    (prepare (transfer 2 0 4) answers (0 ∷ 0 ∷ 0 ∷ []) ∷
+    prepare (transfer 2 2 6) answers (0 ∷ 0 ∷ 1 ∷ []) ∷
+    start 0 answers (0 ∷ []) ∷
+    start 1 answers (0 ∷ []) ∷
+    step 1 1 answers (0 ∷ 1 ∷ []) ∷
+    step 0 1 answers (0 ∷ 1 ∷ []) ∷
+    step 1 1 answers (0 ∷ 1 ∷ []) ∷
+    step 0 1 answers (0 ∷ 1 ∷ []) ∷
+    poll 0 answers (0 ∷ 3 ∷ 0 ∷ []) ∷
+    poll 1 answers (0 ∷ 3 ∷ 0 ∷ []) ∷
+    prepare (transfer 1 2 0) answers (22 ∷ 0 ∷ 0 ∷ []) ∷
+    [])
+    (1 ∷ 2 ∷ 3 ∷ 4 ∷ 1 ∷ 2 ∷ 3 ∷ 4 ∷ []) ∷
+    -- ---- not of A to L: what the paper only runs, and its easy errors
+    -- (2,4,8) with perm (2,0,1) becomes (8,2,4), and (2,2,3) becomes (3,2,2): read the other way round, (4,8,2) and (2,3,2)
+    room (compact 3 1 (three 2 4 8)) (withPerm defaults (three 2 0 1))
+    (record { answer = accepted 3 1 (8 ∷ 2 ∷ 4 ∷ 0 ∷ []) (8 ∷ 4 ∷ 1 ∷ 0 ∷ []) 64; span = 64 }) ∷
+    move (compact 3 1 (three 2 2 3)) (withPerm defaults (three 2 0 1)) (upTo 12) (over 12)
+    (accepted 3 1 (3 ∷ 2 ∷ 2 ∷ 0 ∷ []) (4 ∷ 2 ∷ 1 ∷ 0 ∷ []) 12) (1 ∷ 4 ∷ 7 ∷ 10 ∷ 2 ∷ 5 ∷ 8 ∷ 11 ∷ 3 ∷ 6 ∷ 9 ∷ 12 ∷ []) ∷
+    -- the count of (2,4,8) from 1 is 32; from 3: 16
+    count (compact 3 1 (three 2 4 8)) 1 (record { status = 0; dim = 0; count = 32 }) ∷
+    count (compact 3 1 (three 2 4 8)) 3 (noCount (fault 16 0)) ∷
+    -- size 65,280 with pre 255 is accepted, 65,281 gives 10
+    room (compact 1 1 (one 65535)) (withPre (withSize defaults (one 65280)) (one 255))
+    (record { answer = accepted 1 1 (65535 ∷ 0 ∷ 0 ∷ 0 ∷ []) (1 ∷ 0 ∷ 0 ∷ 0 ∷ []) 65535; span = 65535 }) ∷
+    room (compact 1 1 (one 65535)) (withPre (withSize defaults (one 65281)) (one 255))
+    (record { answer = refused (fault 10 0); span = 0 }) ∷
+    -- (1,2) with strides (0, 2147483647): what 0 stands for is itself too large, 4 at dimension 0
+    room (record { rank = 2; size = 1; shape = two 1 2; stride = two 0 2147483647 }) defaults
+    (record { answer = refused (fault 4 0); span = 0 }) ∷
+    -- a sub-tensor of (3,4) keeps the resolved stride 4 of the whole plane: 0 would be resolved again, from its own shape, to 2
+    sub (compact 2 1 (two 3 4)) (cut (two 1 1) (two 2 2) 2) (upTo 12)
+    (acceptedSub 2 1 (2 ∷ 2 ∷ 0 ∷ 0 ∷ []) (4 ∷ 1 ∷ 0 ∷ 0 ∷ []) 5) (6 ∷ 7 ∷ 8 ∷ 9 ∷ 10 ∷ 11 ∷ 12 ∷ []) ∷
+    []

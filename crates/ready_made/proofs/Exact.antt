@@ -1,0 +1,36 @@
+-- The calls that are made for a rank: what is refused and what is given. Assumes nothing.
+use Prim.Native.Nat.{ℕ}
+use mathlib.Core.Path.{_≡_, ap}
+use mathlib.Core.Bool.{true, false, cond}
+use Rattle.plane.specs.declared.Config.{Config}
+use Rattle.plane.specs.Arrays.{at}
+use Rattle.plane.specs.Planes.{badRank}
+use Rattle.plane.specs.Settings.{configOf, allZero}
+use Rattle.plane.proofs.Arrays.{firsts-same}
+use Rattle.plane.proofs.Unseen.{SameConfig}
+use Rattle.ready_made.specs.ReadyMade.{cutTo, madeFor}
+
+-- a configuration is refused for a wrong rank alone, and then all its fields are 0
+module _ (n : ℕ) (c : Config) where
+  pub made-given : badRank n ≡ false → madeFor n c ≡ record { status = 0; config = cutTo n c }
+  unfolding madeFor
+  made-given e = simp e
+
+  pub made-refused : badRank n ≡ true → madeFor n c ≡ record { status = 1; config = allZero }
+  unfolding madeFor
+  made-refused e = simp e
+
+-- arguments that agree below the rank make the same configuration
+pub made-unseen : (n : ℕ) (c c′ : Config) → SameConfig n c c′ → madeFor n c ≡ madeFor n c′
+unfolding madeFor cutTo
+made-unseen n c c′ b =
+    let o = firsts-same n (at (c .offset)) (at (c′ .offset)) (b .offset) in
+    let z = firsts-same n (at (c .size)) (at (c′ .size)) (b .size) in
+    let s = firsts-same n (at (c .step)) (at (c′ .step)) (b .step) in
+    let d = firsts-same n (at (c .«dst_offset»)) (at (c′ .«dst_offset»)) (b .dst-offset) in
+    let e = firsts-same n (at (c .«dst_stride»)) (at (c′ .«dst_stride»)) (b .dst-stride) in
+    let p = firsts-same n (at (c .perm)) (at (c′ .perm)) (b .perm) in
+    let f = firsts-same n (at (c .pre)) (at (c′ .pre)) (b .pre) in
+    let g = firsts-same n (at (c .post)) (at (c′ .post)) (b .post) in
+    ap (λ (x : Config). cond (badRank n) (record { status = 1; config = allZero }) (record { status = 0; config = x }))
+    (λ i. configOf (o i) (z i) (s i) (d i) (e i) (p i) (f i) (g i))
