@@ -197,7 +197,7 @@ fn job(n: u64, from: u64, to: u64) -> Job {
             start: from,
             length: n,
         },
-        target: Part {
+        destination: Part {
             start: to,
             length: n,
         },

@@ -91,7 +91,7 @@ cut offset size n = record { offset = offset; size = size; rank = n }
 abbrev pub transfer : ℕ → ℕ → ℕ → Job
 transfer n a b = record {
   source = record { start = a; length = n };
-  target = record { start = b; length = n };
+  destination = record { start = b; length = n };
   tensor = compact 1 1 (one n);
   config = defaults;
 }

@@ -13,9 +13,9 @@ use Rattle.mover.specs.Within.{leaves, meets, jobFault, totalOf, verdict
 
 abbrev pub jobRules : ℕ → Job → List Rule
 jobRules n j =
-    whole 20 (leaves n (j .source) || leaves n (j .target)) ∷
-    moveRules (j .tensor) (j .config) (j .source .length) (j .target .length) ++
-    (whole 21 (meets (j .source) (j .target)) ∷ [])
+    whole 20 (leaves n (j .source) || leaves n (j .destination)) ∷
+    moveRules (j .tensor) (j .config) (j .source .length) (j .destination .length) ++
+    (whole 21 (meets (j .source) (j .destination)) ∷ [])
 
 pub positive-job : (n : ℕ) (j : Job) → Positive (jobRules n j)
 positive-job n j = omega arith
@@ -23,11 +23,11 @@ positive-job n j = omega arith
 pub job-chain : (n : ℕ) (j : Job) → jobFault n j ≡ chain (jobRules n j)
 unfolding jobFault
 job-chain n j =
-    let first = whole 20 (leaves n (j .source) || leaves n (j .target)) ∷ [] in
-    let last = whole 21 (meets (j .source) (j .target)) ∷ [] in
-    let rules = moveRules (j .tensor) (j .config) (j .source .length) (j .target .length) in
+    let first = whole 20 (leaves n (j .source) || leaves n (j .destination)) ∷ [] in
+    let last = whole 21 (meets (j .source) (j .destination)) ∷ [] in
+    let rules = moveRules (j .tensor) (j .config) (j .source .length) (j .destination .length) in
     join first (rules ++ last) (one-chain 20 _ (omega arith))
-    (join rules last (move-chain (j .tensor) (j .config) (j .source .length) (j .target .length)) (one-chain 21 _ (omega arith)))
+    (join rules last (move-chain (j .tensor) (j .config) (j .source .length) (j .destination .length)) (one-chain 21 _ (omega arith)))
 
 module _ (n : ℕ) (j : Job) where
   pub job-exact : Exact (jobRules n j) (verdictOf n j .status) (verdictOf n j .dim)

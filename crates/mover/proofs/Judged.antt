@@ -24,7 +24,7 @@ use Rattle.mover.specs.declared.engine.Origin.the-variants.{Lent}
 use Rattle.mover.specs.Moved.{total, moveMemory}
 use Rattle.mover.specs.Within.{leaves, meets, jobFault, totalOf, verdictOf, bytesOf, advancedBy, advance, advanceOf, advanceMemory}
 use Rattle.mover.specs.Private.{planOf, planTotal, movedBy, partOf, Ready}
-use Rattle.mover.proofs.Laws.{judged, judged-good, moved-whole, moved-none, source-fits, target-fits, job-good}
+use Rattle.mover.proofs.Laws.{judged, judged-good, moved-whole, moved-none, source-fits, destination-fits, job-good}
 use Rattle.mover.proofs.Planned.{planned-total, planned-ready, moved-planned}
 
 -- ---- a whole move
@@ -76,21 +76,21 @@ module _ (n : ℕ) (j : Job) where
   pub source-leaves : {r : Answer} → leaves n (j .source) ≡ true → r ≡ refused (fault 20 0) → r ≡ answerAt n j
   unfolding jobFault
   source-leaves h e =
-      refuses (j .tensor) (j .config) e (λ z. omega arith) (given 20 0 _ _ (omega arith) (either-first (leaves n (j .source)) (leaves n (j .target)) h))
+      refuses (j .tensor) (j .config) e (λ z. omega arith) (given 20 0 _ _ (omega arith) (either-first (leaves n (j .source)) (leaves n (j .destination)) h))
 
-  pub target-leaves : {r : Answer} → leaves n (j .target) ≡ true → r ≡ refused (fault 20 0) → r ≡ answerAt n j
+  pub destination-leaves : {r : Answer} → leaves n (j .destination) ≡ true → r ≡ refused (fault 20 0) → r ≡ answerAt n j
   unfolding jobFault
-  target-leaves h e =
-      refuses (j .tensor) (j .config) e (λ z. omega arith) (given 20 0 _ _ (omega arith) (either-second (leaves n (j .source)) (leaves n (j .target)) h))
+  destination-leaves h e =
+      refuses (j .tensor) (j .config) e (λ z. omega arith) (given 20 0 _ _ (omega arith) (either-second (leaves n (j .source)) (leaves n (j .destination)) h))
 
-  module _ (p : leaves n (j .source) ≡ false) (q : leaves n (j .target) ≡ false) where
-    stays : jobFault n j ≡ (moveFault (j .tensor) (j .config) (j .source .length) (j .target .length) orElse when 21 0 (meets (j .source) (j .target)))
+  module _ (p : leaves n (j .source) ≡ false) (q : leaves n (j .destination) ≡ false) where
+    stays : jobFault n j ≡ (moveFault (j .tensor) (j .config) (j .source .length) (j .destination .length) orElse when 21 0 (meets (j .source) (j .destination)))
     unfolding jobFault
-    stays = spared 20 0 _ _ (neither (leaves n (j .source)) (leaves n (j .target)) p q)
+    stays = spared 20 0 _ _ (neither (leaves n (j .source)) (leaves n (j .destination)) p q)
 
-    module _ {a : Answer} (e : a ≡ judgeOf (j .tensor) (j .config) (j .source .length) (j .target .length)) where
-      its-status : a .status ≡ moveFault (j .tensor) (j .config) (j .source .length) (j .target .length) .status
-      its-status = ap (λ (x : Answer). x .status) e ∙ judged (j .tensor) (j .config) (j .source .length) (j .target .length)
+    module _ {a : Answer} (e : a ≡ judgeOf (j .tensor) (j .config) (j .source .length) (j .destination .length)) where
+      its-status : a .status ≡ moveFault (j .tensor) (j .config) (j .source .length) (j .destination .length) .status
+      its-status = ap (λ (x : Answer). x .status) e ∙ judged (j .tensor) (j .config) (j .source .length) (j .destination .length)
 
       -- 1 to 13
       pub move-refused : (a .status ≡ 0 → ⊥) → a ≡ answerAt n j
@@ -99,16 +99,16 @@ module _ (n : ℕ) (j : Job) where
           e ∙ ap (λ (f : Fault). answerOf f (j .tensor) (j .config)) (sym (stays ∙ or-found _ _ (λ z. h (its-status ∙ z))))
 
       module _ (z : a .status ≡ 0) where
-        passes : jobFault n j ≡ when 21 0 (meets (j .source) (j .target))
+        passes : jobFault n j ≡ when 21 0 (meets (j .source) (j .destination))
         passes = stays ∙ or-none _ _ (sym its-status ∙ z)
 
         -- 21
-        pub parts-meet : {r : Answer} → meets (j .source) (j .target) ≡ true → r ≡ refused (fault 21 0) → r ≡ answerAt n j
+        pub parts-meet : {r : Answer} → meets (j .source) (j .destination) ≡ true → r ≡ refused (fault 21 0) → r ≡ answerAt n j
         parts-meet h er = refuses (j .tensor) (j .config) er (λ y. omega arith) (passes ∙ when-bad 21 0 _ h)
 
-        pub job-given : meets (j .source) (j .target) ≡ false → a ≡ answerAt n j
+        pub job-given : meets (j .source) (j .destination) ≡ false → a ≡ answerAt n j
         job-given h =
-            judged-accepted (j .tensor) (j .config) (j .source .length) (j .target .length) e z .1 ∙
+            judged-accepted (j .tensor) (j .config) (j .source .length) (j .destination .length) e z .1 ∙
             sym (answer-given (jobFault n j) (j .tensor) (j .config) (status (passes ∙ when-good 21 0 _ h)))
 
   -- ---- what the answer tells
@@ -147,7 +147,7 @@ module _ (n : ℕ) (j : Job) where
           let x = or-clear _ _ job-clear in
           let y = or-clear _ _ (x .1) in
           sym (or-none _ _ (x .0) ∙ or-none _ _ (y .0) ∙
-          when-good 21 0 (meets (j .source) (j .target)) (when-clear 21 0 (meets (j .source) (j .target)) (omega arith) (y .1)))
+          when-good 21 0 (meets (j .source) (j .destination)) (when-clear 21 0 (meets (j .source) (j .destination)) (omega arith) (y .1)))
 
       pub verdict-given : {all : ℕ} → all ≡ totalOf j → record { status = 0; dim = 0; total = all } ≡ verdictOf n j
       unfolding verdictOf
@@ -198,28 +198,28 @@ module _ (j : Job) (from budget : ℕ) (m : List ℕ) {a : Answer} (e : a ≡ an
     unfolding advancedBy
     advance-past p l =
         advanced (omega arith)
-        (sym (ap (λ (x : List ℕ). sets m (j .target .start) x) (moved-none (j .tensor) (j .config) (bytesOf (j .source) m) from (bytesOf (j .target) m)) ∙
-        part-same m (j .target .start) (j .target .length) (target-fits (length m) j clear)))
+        (sym (ap (λ (x : List ℕ). sets m (j .destination .start) x) (moved-none (j .tensor) (j .config) (bytesOf (j .source) m) from (bytesOf (j .destination) m)) ∙
+        part-same m (j .destination .start) (j .destination .length) (destination-fits (length m) j clear)))
 
     module _ {plan : Plan} (ep : plan ≡ planOf (j .tensor) (j .config)) where
       all-is : planTotal plan ≡ totalOf j
       all-is = ap planTotal ep ∙ planned-total (j .config) (job-good (length m) j clear .source)
 
       -- what the engine asks
-      pub advance-ready : Ready Lent plan (bytesOf (j .source) m) (bytesOf (j .target) m)
+      pub advance-ready : Ready Lent plan (bytesOf (j .source) m) (bytesOf (j .destination) m)
       advance-ready =
           let g = job-good (length m) j clear in
           let s = part-length m (j .source .start) (j .source .length) (source-fits (length m) j clear) in
-          let d = part-length m (j .target .start) (j .target .length) (target-fits (length m) j clear) in
-          subst (λ (p : Plan). Ready Lent p (bytesOf (j .source) m) (bytesOf (j .target) m)) (sym ep)
-          (planned-ready (j .config) (g .source) (g .config) (bytesOf (j .source) m) (bytesOf (j .target) m) (omega (arith, g .long)) (omega (arith, g .room)))
+          let d = part-length m (j .destination .start) (j .destination .length) (destination-fits (length m) j clear) in
+          subst (λ (p : Plan). Ready Lent p (bytesOf (j .source) m) (bytesOf (j .destination) m)) (sym ep)
+          (planned-ready (j .config) (g .source) (g .config) (bytesOf (j .source) m) (bytesOf (j .destination) m) (omega (arith, g .long)) (omega (arith, g .room)))
 
       pub advance-from : {all : ℕ} → all ≡ totalOf j → from < all → from ≤ planTotal plan
       advance-from p l = let q = all-is in omega arith
 
       -- and what it leaves
       pub advance-written : {r : ℕ} {out : List ℕ} → from ≤ planTotal plan → r ≡ min budget (planTotal plan - from) →
-          out ≡ sets m (j .target .start) (movedBy plan (bytesOf (j .source) m) from r (bytesOf (j .target) m)) →
+          out ≡ sets m (j .destination .start) (movedBy plan (bytesOf (j .source) m) from r (bytesOf (j .destination) m)) →
           (record { status = 0; dim = 0; count = r } ≡ advanceOf j from budget m) × (out ≡ advanceMemory j from budget m)
       unfolding advancedBy
       advance-written {r} l er eo =
@@ -227,6 +227,6 @@ module _ (j : Job) (from budget : ℕ) (m : List ℕ) {a : Answer} (e : a ≡ an
           let q = all-is in
           advanced (er ∙ ap (λ (n : ℕ). min budget (n - from)) q)
           (eo ∙
-          ap (λ (x : List ℕ). sets m (j .target .start) x)
-          (ap (λ (p : Plan). movedBy p (bytesOf (j .source) m) from r (bytesOf (j .target) m)) ep ∙
-          sym (moved-planned (j .config) (g .source) (g .config) (bytesOf (j .source) m) from r (bytesOf (j .target) m) (omega arith))))
+          ap (λ (x : List ℕ). sets m (j .destination .start) x)
+          (ap (λ (p : Plan). movedBy p (bytesOf (j .source) m) from r (bytesOf (j .destination) m)) ep ∙
+          sym (moved-planned (j .config) (g .source) (g .config) (bytesOf (j .source) m) from r (bytesOf (j .destination) m) (omega arith))))

@@ -99,39 +99,39 @@ parts-apart p q e h k =
     ]
 
 module _ (n : ℕ) (j : Job) (z : jobFault n j .status ≡ 0) where
-  parts : (leaves n (j .source) || leaves n (j .target)) ≡ false
+  parts : (leaves n (j .source) || leaves n (j .destination)) ≡ false
   unfolding jobFault
-  parts = when-clear 20 0 (leaves n (j .source) || leaves n (j .target)) (omega arith) (or-clear _ _ z .0)
+  parts = when-clear 20 0 (leaves n (j .source) || leaves n (j .destination)) (omega arith) (or-clear _ _ z .0)
 
   pub source-fits : j .source .start + j .source .length ≤ n
   source-fits = part-fits n (j .source) (either-clear _ _ parts .0)
 
-  pub target-fits : j .target .start + j .target .length ≤ n
-  target-fits = part-fits n (j .target) (either-clear (leaves n (j .source)) _ parts .1)
+  pub destination-fits : j .destination .start + j .destination .length ≤ n
+  destination-fits = part-fits n (j .destination) (either-clear (leaves n (j .source)) _ parts .1)
 
-  pub job-clear : moveFault (j .tensor) (j .config) (j .source .length) (j .target .length) .status ≡ 0
+  pub job-clear : moveFault (j .tensor) (j .config) (j .source .length) (j .destination .length) .status ≡ 0
   unfolding jobFault
   job-clear = or-clear _ _ (or-clear _ _ z .1) .0
 
-  pub job-good : GoodMove (j .tensor) (j .config) (j .source .length) (j .target .length)
-  job-good = move-good (j .tensor) (j .config) (j .source .length) (j .target .length) job-clear
+  pub job-good : GoodMove (j .tensor) (j .config) (j .source .length) (j .destination .length)
+  job-good = move-good (j .tensor) (j .config) (j .source .length) (j .destination .length) job-clear
 
   -- its parts share no byte
-  pub job-apart : (j .source .start + j .source .length ≤ j .target .start) ⊎ (j .target .start + j .target .length ≤ j .source .start)
+  pub job-apart : (j .source .start + j .source .length ≤ j .destination .start) ⊎ (j .destination .start + j .destination .length ≤ j .source .start)
   unfolding jobFault span need
   job-apart =
       let b = element-small (j .tensor .size) (job-good .source .element) .0 in
       let s : 0 < span (j .tensor) = mul-pos (omega arith) b in
       let d : 0 < need (j .tensor) (j .config) = mul-pos (omega arith) b in
-      parts-apart (j .source) (j .target)
-      (when-clear 21 0 (meets (j .source) (j .target)) (omega arith) (or-clear _ _ (or-clear _ _ z .1) .1))
+      parts-apart (j .source) (j .destination)
+      (when-clear 21 0 (meets (j .source) (j .destination)) (omega arith) (or-clear _ _ (or-clear _ _ z .1) .1))
       (omega (arith, job-good .long)) (omega (arith, job-good .room))
 
   pub job-total : 0 < totalOf j
   job-total = total-positive (j .tensor) (j .config) (job-good .source) (job-good .config)
 
   -- all the elements of the job are the whole move between its parts
-  pub job-whole : (src dst : List ℕ) → length src ≡ j .source .length → length dst ≡ j .target .length → moveMemory (j .tensor) (j .config) src dst ≡ moved (j .tensor) (j .config) src 0 (totalOf j) dst
+  pub job-whole : (src dst : List ℕ) → length src ≡ j .source .length → length dst ≡ j .destination .length → moveMemory (j .tensor) (j .config) src dst ≡ moved (j .tensor) (j .config) src 0 (totalOf j) dst
   job-whole src dst p q = moved-whole (j .tensor) (j .config) src dst (rw (p, q) job-clear)
 
 -- ---- a job in steps
@@ -141,13 +141,13 @@ module _ (j : Job) (from n : ℕ) (m : List ℕ) where
   unfolding advancedBy
   advanced-length = simp length-sets
 
-  -- only bytes of the target part change
-  pub advanced-outside : (k : ℕ) → (k < j .target .start) ⊎ (j .target .start + j .target .length ≤ k) → getD (advancedBy j from n m) k 0 ≡ getD m k 0
+  -- only bytes of the destination part change
+  pub advanced-outside : (k : ℕ) → (k < j .destination .start) ⊎ (j .destination .start + j .destination .length ≤ k) → getD (advancedBy j from n m) k 0 ≡ getD m k 0
   unfolding advancedBy
   advanced-outside k o =
-      let l = moved-length (j .tensor) (j .config) (bytesOf (j .source) m) from n (bytesOf (j .target) m) in
-      let w = length-take-most (j .target .length) (drop (j .target .start) m) in
-      getD-sets-out (moved (j .tensor) (j .config) (bytesOf (j .source) m) from n (bytesOf (j .target) m)) m (j .target .start) k
+      let l = moved-length (j .tensor) (j .config) (bytesOf (j .source) m) from n (bytesOf (j .destination) m) in
+      let w = length-take-most (j .destination .length) (drop (j .destination .start) m) in
+      getD-sets-out (moved (j .tensor) (j .config) (bytesOf (j .source) m) from n (bytesOf (j .destination) m)) m (j .destination .start) k
       (⊎-elim (λ u. inl u) (λ v. inr (omega arith)) o)
 
 -- a part read and stored again
@@ -162,36 +162,36 @@ own : (m e : List ℕ) (b l : ℕ) → length e ≡ l → b + l ≤ length m →
 own m e b l p h = subst (λ (k : ℕ). take k (drop b (sets m b e)) ≡ e) p (part-own m e b (omega arith))
 
 module _ (m : List ℕ) (j : Job) (z : jobFault (length m) j .status ≡ 0) where
-  target-length : length (bytesOf (j .target) m) ≡ j .target .length
-  target-length =
-      let f = target-fits (length m) j z in
-      length-take-le (j .target .length) (drop (j .target .start) m) (simp length-drop (omega arith))
+  destination-length : length (bytesOf (j .destination) m) ≡ j .destination .length
+  destination-length =
+      let f = destination-fits (length m) j z in
+      length-take-le (j .destination .length) (drop (j .destination .start) m) (simp length-drop (omega arith))
 
   module _ (from n : ℕ) where
-    -- what n elements leave of the target part
+    -- what n elements leave of the destination part
     written : List ℕ
-    written = moved (j .tensor) (j .config) (bytesOf (j .source) m) from n (bytesOf (j .target) m)
+    written = moved (j .tensor) (j .config) (bytesOf (j .source) m) from n (bytesOf (j .destination) m)
 
-    written-length : length written ≡ j .target .length
+    written-length : length written ≡ j .destination .length
     unfolding written
-    written-length = moved-length (j .tensor) (j .config) (bytesOf (j .source) m) from n (bytesOf (j .target) m) ∙ target-length
+    written-length = moved-length (j .tensor) (j .config) (bytesOf (j .source) m) from n (bytesOf (j .destination) m) ∙ destination-length
 
-    -- the source part is as it was, and the target part is what was written there
+    -- the source part is as it was, and the destination part is what was written there
     pub advanced-source : bytesOf (j .source) (advancedBy j from n m) ≡ bytesOf (j .source) m
     unfolding advancedBy written
     advanced-source =
-        part-other m written (j .target .start) (j .source .start) (j .source .length)
+        part-other m written (j .destination .start) (j .source .start) (j .source .length)
         (⊎-elim (λ u. inl u) (λ v. inr (omega (arith, written-length))) (job-apart (length m) j z))
 
-    pub advanced-target : bytesOf (j .target) (advancedBy j from n m) ≡ moved (j .tensor) (j .config) (bytesOf (j .source) m) from n (bytesOf (j .target) m)
+    pub advanced-destination : bytesOf (j .destination) (advancedBy j from n m) ≡ moved (j .tensor) (j .config) (bytesOf (j .source) m) from n (bytesOf (j .destination) m)
     unfolding advancedBy written
-    advanced-target =
-        own m written (j .target .start) (j .target .length) written-length (target-fits (length m) j z)
+    advanced-destination =
+        own m written (j .destination .start) (j .destination .length) written-length (destination-fits (length m) j z)
 
   -- no element moved changes nothing
   pub advanced-none : (from : ℕ) → advancedBy j from 0 m ≡ m
   unfolding advancedBy
-  advanced-none from = rw moved-none (put-back m (j .target .start) (j .target .length) (target-fits (length m) j z))
+  advanced-none from = rw moved-none (put-back m (j .destination .start) (j .destination .length) (destination-fits (length m) j z))
 
   -- k elements, then l more, are k + l
   pub advanced-more : (n k l : ℕ) → advancedBy j (n + k) l (advancedBy j n k m) ≡ advancedBy j n (k + l) m
@@ -199,12 +199,12 @@ module _ (m : List ℕ) (j : Job) (z : jobFault (length m) j .status ≡ 0) wher
   advanced-more n k l =
       let a = written-length n k in
       let b = written-length n (k + l) in
-      rw (advanced-source n k, advanced-target n k, moved-more (j .tensor) (j .config) (bytesOf (j .source) m) n k l)
-      (part-again m (written n k) (written n (k + l)) (j .target .start) (omega arith))
+      rw (advanced-source n k, advanced-destination n k, moved-more (j .tensor) (j .config) (bytesOf (j .source) m) n k l)
+      (part-again m (written n k) (written n (k + l)) (j .destination .start) (omega arith))
 
-  -- all of them leave in the target part what the whole move leaves there
-  pub advanced-whole : bytesOf (j .target) (advancedBy j 0 (totalOf j) m) ≡ moveMemory (j .tensor) (j .config) (bytesOf (j .source) m) (bytesOf (j .target) m)
+  -- all of them leave in the destination part what the whole move leaves there
+  pub advanced-whole : bytesOf (j .destination) (advancedBy j 0 (totalOf j) m) ≡ moveMemory (j .tensor) (j .config) (bytesOf (j .source) m) (bytesOf (j .destination) m)
   advanced-whole =
       let f = source-fits (length m) j z in
       let s : length (bytesOf (j .source) m) ≡ j .source .length = length-take-le (j .source .length) (drop (j .source .start) m) (simp length-drop (omega arith)) in
-      advanced-target 0 (totalOf j) ∙ sym (job-whole (length m) j z (bytesOf (j .source) m) (bytesOf (j .target) m) s target-length)
+      advanced-destination 0 (totalOf j) ∙ sym (job-whole (length m) j z (bytesOf (j .source) m) (bytesOf (j .destination) m) s destination-length)

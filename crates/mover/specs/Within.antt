@@ -25,9 +25,9 @@ meets p q = ltb (max (p .start) (q .start)) (min (p .start + p .length) (q .star
 -- 20, 1 to 13, 21
 unfoldable pub jobFault : ℕ → Job → Fault
 jobFault n j =
-    when 20 0 (leaves n (j .source) || leaves n (j .target)) orElse
-    moveFault (j .tensor) (j .config) (j .source .length) (j .target .length) orElse
-    when 21 0 (meets (j .source) (j .target))
+    when 20 0 (leaves n (j .source) || leaves n (j .destination)) orElse
+    moveFault (j .tensor) (j .config) (j .source .length) (j .destination .length) orElse
+    when 21 0 (meets (j .source) (j .destination))
 
 abbrev pub totalOf : Job → ℕ
 totalOf j = total (j .tensor) (j .config)
@@ -46,7 +46,7 @@ bytesOf p m = take (p .length) (drop (p .start) m)
 -- the memory with n elements of the job moved, those from number `from` on
 unfoldable pub advancedBy : Job → ℕ → ℕ → List ℕ → List ℕ
 advancedBy j from n m =
-    sets m (j .target .start) (moved (j .tensor) (j .config) (bytesOf (j .source) m) from n (bytesOf (j .target) m))
+    sets m (j .destination .start) (moved (j .tensor) (j .config) (bytesOf (j .source) m) from n (bytesOf (j .destination) m))
 
 -- how many are moved: the budget, or what is left
 abbrev pub advance : Job → ℕ → ℕ → ℕ

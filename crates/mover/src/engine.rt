@@ -206,22 +206,22 @@ pub(crate) fn advance(
 pub(crate) fn advance_within(
     mem: &mut [u8],
     source: Part,
-    target: Part,
+    destination: Part,
     plan: Plan,
     from: usize,
     budget: usize,
 ) -> usize
-    requires { ⌜ (source .start + source .length ≤ length (now mem)) × (target .start + target .length ≤ length (now mem)) ⌝ }
-    requires { ⌜ Apart Origin.Inside (source .start) (source .start + source .length) (target .start) (target .start + target .length) ⌝ }
-    requires { ⌜ Ready Origin.Lent plan (bytesOf source (now mem)) (bytesOf target (now mem)) ⌝ }
+    requires { ⌜ (source .start + source .length ≤ length (now mem)) × (destination .start + destination .length ≤ length (now mem)) ⌝ }
+    requires { ⌜ Apart Origin.Inside (source .start) (source .start + source .length) (destination .start) (destination .start + destination .length) ⌝ }
+    requires { ⌜ Ready Origin.Lent plan (bytesOf source (now mem)) (bytesOf destination (now mem)) ⌝ }
     requires { ⌜ from ≤ planTotal plan ⌝ }
     ensures counted { λ r. ⌜ r ≡ min budget (planTotal plan - from) ⌝ }
-    ensures written { λ r. ⌜ now (mem .exit) ≡ sets (now (mem .entry)) (target .start) (movedBy plan (bytesOf source (now (mem .entry))) from r (bytesOf target (now (mem .entry)))) ⌝ }
+    ensures written { λ r. ⌜ now (mem .exit) ≡ sets (now (mem .entry)) (destination .start) (movedBy plan (bytesOf source (now (mem .entry))) from r (bytesOf destination (now (mem .entry)))) ⌝ }
 {
     let none = [0u8; 0];
     let placed = Plan {
         home: source.start as usize + plan.home,
-        base: target.start as usize + plan.base,
+        base: destination.start as usize + plan.base,
         ..plan
     };
     advance(&none, mem, Origin::Inside, placed, from, budget)

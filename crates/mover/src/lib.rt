@@ -25,7 +25,7 @@ pub struct Part {
 // A move between two parts of one memory.
 pub struct Job {
     pub source: Part,
-    pub target: Part,
+    pub destination: Part,
     pub tensor: Tensor,
     pub config: Config,
 }

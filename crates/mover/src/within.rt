@@ -54,19 +54,19 @@ fn answer(len: usize, job: Job) -> Answer
     if leaves(len, job.source) {
         return refused(20);
     }
-    if leaves(len, job.target) {
+    if leaves(len, job.destination) {
         return refused(20);
     }
     let a = plane::judge(
         job.tensor,
         job.config,
         job.source.length as usize,
-        job.target.length as usize,
+        job.destination.length as usize,
     );
     if a.status != 0 {
         return a;
     }
-    if meets(job.source, job.target) {
+    if meets(job.source, job.destination) {
         return refused(21);
     }
     a
@@ -114,7 +114,7 @@ pub fn advance(mem: &mut [u8], job: Job, from: u64, budget: u64) -> Advanced
     let count = advance_within(
         mem,
         job.source,
-        job.target,
+        job.destination,
         plan_of(job.tensor, job.config, a),
         from as usize,
         budget as usize,

@@ -117,7 +117,7 @@ fn part(out: &mut [u8], p: usize, x: Part) -> usize {
 
 fn job(out: &mut [u8], p: usize, j: Job) -> usize {
     let p1 = part(out, p, j.source);
-    let p2 = part(out, p1, j.target);
+    let p2 = part(out, p1, j.destination);
     let p3 = tensor(out, p2, j.tensor);
     config(out, p3, j.config)
 }

@@ -88,7 +88,7 @@ pub(crate) fn job(b: &[u8], p: usize) -> Job
 {
     Job {
         source: part(b, p),
-        target: part(b, p + 16),
+        destination: part(b, p + 16),
         tensor: tensor(b, p + 32),
         config: config(b, p + 66),
     }

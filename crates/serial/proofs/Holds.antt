@@ -62,7 +62,7 @@ midway-each M L n m long (in-slot {e = e} st l f cl at sd g) ps = (
         passed = subst (λ (a : ℕ). M .verdict a (e .job) ≡ 0) (sym long) f;
         most = most-of M st (e .job) (e .reported) sd;
         source = ps .0 x .source;
-        target = ps .0 x .target;
+        destination = ps .0 x .destination;
       }),
   midway-each M L n m long g (ps .1),
 )
@@ -93,7 +93,7 @@ module _ (M : Mover) (L : Lawful M) (m₀ : List ℕ) where
           as-logged =
               i .as-logged
               ∙ sym (applied-none M L (length m₀) j fits (history M m₀ log) (length-history M L (length m₀) m₀ refl (i .good)) 0);
-          placed = ((λ x. record { long = i .long; source = refl; target = sym (L .none j 0 _ _) }), i .placed);
+          placed = ((λ x. record { long = i .long; source = refl; destination = sym (L .none j 0 _ _) }), i .placed);
         }
 
     -- slot h is not free
@@ -147,7 +147,7 @@ module _ (M : Mover) (L : Lawful M) (m₀ : List ℕ) where
                 (λ e l pj pc. ends off (pc ∙ fin ∙ ap (M .total) (sym pj))) (i .good) in-table q;
             as-logged = i .as-logged ∙ sym (history-edit M h (ended x) (λ e. refl) (λ e. refl) m₀ log);
             placed =
-                every-edit h (ended x) (Placed M L (length m₀) m) (λ e l p y. record { long = p .long; source = p .source; target = p .target }) log (i .placed);
+                every-edit h (ended x) (Placed M L (length m₀) m) (λ e l p y. record { long = p .long; source = p .source; destination = p .destination }) log (i .placed);
           }
 
     -- ---- what it comes to

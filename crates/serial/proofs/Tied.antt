@@ -13,7 +13,7 @@ use borrow.Author.Tests.{eq-eqb, ne-eqb}
 use Rattle.serial.specs.Parts.{bytesOf}
 use Rattle.serial.specs.Machine.{Mover, Stage, prepared, running, done, Slot, free, taken, Life, held, released, isHeld, Entry, entered, reporting, has, edit, applied, Clear}
 use Rattle.serial.specs.Claims.{Lawful, EveryHeld, Finished}
-use Rattle.serial.proofs.Applied.{Fits, clear-sym, length-applied, source-kept, target-now, applied-first, more-first, source-other, target-other, applied-comm}
+use Rattle.serial.proofs.Applied.{Fits, clear-sym, length-applied, source-kept, destination-now, applied-first, more-first, source-other, destination-other, applied-comm}
 
 -- ---- the entry that is changed
 
@@ -276,12 +276,12 @@ module _ (M : Mover) (L : Lawful M) (n : ℕ) where
 
   -- ---- midway
 
-  -- an entry's source part is as at acceptance, and its target part has the elements reported
+  -- an entry's source part is as at acceptance, and its destination part has the elements reported
   pub record Placed (m : List ℕ) (e : Entry (M .Job)) : Type 0 where
     pub long : length (e .before) ≡ n
     pub source : bytesOf (M .source (e .job)) m ≡ bytesOf (M .source (e .job)) (e .before)
-    pub target : bytesOf (M .target (e .job)) m
-        ≡ M .write (e .job) 0 (e .reported) (bytesOf (M .source (e .job)) (e .before)) (bytesOf (M .target (e .job)) (e .before))
+    pub destination : bytesOf (M .destination (e .job)) m
+        ≡ M .write (e .job) 0 (e .reported) (bytesOf (M .source (e .job)) (e .before)) (bytesOf (M .destination (e .job)) (e .before))
 
   module _ (m : List ℕ) (long : length m ≡ n) where
     -- what a job moves leaves an entry that it keeps clear of
@@ -291,7 +291,7 @@ module _ (M : Mover) (L : Lawful M) (n : ℕ) where
         record {
           long = p .long;
           source = source-other M L n (e .job) j fe fj cl m long c k ∙ p .source;
-          target = target-other M L n (e .job) j fe fj cl m long c k ∙ p .target;
+          destination = destination-other M L n (e .job) j fe fj cl m long c k ∙ p .destination;
         }
 
     placed-own : (c k : ℕ) (e : Entry (M .Job)) → Fits M n (e .job) → e .reported ≡ c → Placed m e → Placed (applied M (e .job) c k m) (reporting k e)
@@ -300,11 +300,11 @@ module _ (M : Mover) (L : Lawful M) (n : ℕ) where
         record {
           long = p .long;
           source = source-kept M L n (e .job) fe m long c k ∙ p .source;
-          target =
-              target-now M L n (e .job) fe m long c k
-              ∙ ap₂ (λ (s d : List ℕ). M .write (e .job) c k s d) (p .source) (p .target)
-              ∙ ap (λ (a : ℕ). M .write (e .job) a k (bytesOf (M .source (e .job)) (e .before)) (M .write (e .job) 0 (e .reported) (bytesOf (M .source (e .job)) (e .before)) (bytesOf (M .target (e .job)) (e .before)))) (sym q)
-              ∙ more-first M L (e .job) (e .reported) k (bytesOf (M .source (e .job)) (e .before)) (bytesOf (M .target (e .job)) (e .before));
+          destination =
+              destination-now M L n (e .job) fe m long c k
+              ∙ ap₂ (λ (s d : List ℕ). M .write (e .job) c k s d) (p .source) (p .destination)
+              ∙ ap (λ (a : ℕ). M .write (e .job) a k (bytesOf (M .source (e .job)) (e .before)) (M .write (e .job) 0 (e .reported) (bytesOf (M .source (e .job)) (e .before)) (bytesOf (M .destination (e .job)) (e .before)))) (sym q)
+              ∙ more-first M L (e .job) (e .reported) k (bytesOf (M .source (e .job)) (e .before)) (bytesOf (M .destination (e .job)) (e .before));
         }
 
     placed-others : (j : M .Job) (c k : ℕ) → Fits M n j → {ss : List (Slot (M .Job))} {log : List (Entry (M .Job))} → Good M n ss log

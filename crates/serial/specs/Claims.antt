@@ -11,15 +11,15 @@ use Rattle.serial.specs.Machine.{Mover, prepared, running, done, Slot, f
 pub record Lawful (M : Mover) : Type 0 where
   -- the parts of a job that passes lie in the memory and share no byte
   pub source-fits : (n : ℕ) (j : M .Job) → M .verdict n j ≡ 0 → M .source j .start + M .source j .length ≤ n
-  pub target-fits : (n : ℕ) (j : M .Job) → M .verdict n j ≡ 0 → M .target j .start + M .target j .length ≤ n
-  pub parts-apart : (n : ℕ) (j : M .Job) → M .verdict n j ≡ 0 → Apart (M .source j) (M .target j)
-  -- no element moved changes nothing; k elements, then l more, are k + l; the target keeps its length
+  pub destination-fits : (n : ℕ) (j : M .Job) → M .verdict n j ≡ 0 → M .destination j .start + M .destination j .length ≤ n
+  pub parts-apart : (n : ℕ) (j : M .Job) → M .verdict n j ≡ 0 → Apart (M .source j) (M .destination j)
+  -- no element moved changes nothing; k elements, then l more, are k + l; the destination keeps its length
   pub none : (j : M .Job) (n : ℕ) (s d : List ℕ) → M .write j n 0 s d ≡ d
   pub more : (j : M .Job) (n k l : ℕ) (s d : List ℕ) → M .write j (n + k) l s (M .write j n k s d) ≡ M .write j n (k + l) s d
   pub same-length : (j : M .Job) (n k : ℕ) (s d : List ℕ) → length (M .write j n k s d) ≡ length d
   -- all the elements are the whole move
   pub whole : (n : ℕ) (j : M .Job) (s d : List ℕ) → M .verdict n j ≡ 0
-      → length s ≡ M .source j .length → length d ≡ M .target j .length → M .move j s d ≡ M .write j 0 (M .total j) s d
+      → length s ≡ M .source j .length → length d ≡ M .destination j .length → M .move j s d ≡ M .write j 0 (M .total j) s d
 
 -- ---- claimed
 
@@ -50,9 +50,9 @@ module _ (M : Mover) where
     pub most : e .reported ≤ M .total (e .job)
     -- its source part is as at acceptance
     pub source : bytesOf (M .source (e .job)) m ≡ bytesOf (M .source (e .job)) (e .before)
-    -- its target part is as at acceptance, but for its first elements, as many as reported: those are in place
-    pub target : bytesOf (M .target (e .job)) m
-        ≡ M .write (e .job) 0 (e .reported) (bytesOf (M .source (e .job)) (e .before)) (bytesOf (M .target (e .job)) (e .before))
+    -- its destination part is as at acceptance, but for its first elements, as many as reported: those are in place
+    pub destination : bytesOf (M .destination (e .job)) m
+        ≡ M .write (e .job) 0 (e .reported) (bytesOf (M .source (e .job)) (e .before)) (bytesOf (M .destination (e .job)) (e .before))
 
   -- a slot that is free, or whose transfer is done
   abbrev pub Settled : Slot (M .Job) → Type 0

@@ -14,12 +14,12 @@ pub record Mover : Type 1 where
   -- what a transfer is asked to do
   pub Job : Type 0
   pub source : Job → Part
-  pub target : Job → Part
+  pub destination : Job → Part
   -- how many elements it has to move
   pub total : Job → ℕ
   -- over a memory of that many bytes: the first refusal among 20, 1 to 13 and 21, or 0
   pub verdict : ℕ → Job → ℕ
-  -- a whole move: the target's bytes after it, from the source's bytes and the target's bytes before it
+  -- a whole move: the destination's bytes after it, from the source's bytes and the destination's bytes before it
   pub move : Job → List ℕ → List ℕ → List ℕ
   -- `write j n k s d`: the same where only k elements are moved, those after the first n
   pub write : Job → ℕ → ℕ → List ℕ → List ℕ → List ℕ
@@ -78,17 +78,17 @@ edit h f (e ∷ older) = cond (has h e) (f e ∷ older) (e ∷ edit h f older)
 module _ (M : Mover) where
   -- the memory after a whole move of the job
   unfoldable pub wholeMove : M .Job → List ℕ → List ℕ
-  wholeMove j m = replaced (M .target j) (M .move j (bytesOf (M .source j) m) (bytesOf (M .target j) m)) m
+  wholeMove j m = replaced (M .destination j) (M .move j (bytesOf (M .source j) m) (bytesOf (M .destination j) m)) m
 
   -- the memory after k elements of the job are moved, those after the first n
   unfoldable pub applied : M .Job → ℕ → ℕ → List ℕ → List ℕ
-  applied j n k m = replaced (M .target j) (M .write j n k (bytesOf (M .source j) m) (bytesOf (M .target j) m)) m
+  applied j n k m = replaced (M .destination j) (M .write j n k (bytesOf (M .source j) m) (bytesOf (M .destination j) m)) m
 
   -- the rule between two slots: neither's destination meets the other's source or destination
   pub record Clear (i j : M .Job) : Type 0 where
-    pub to-source : Apart (M .target i) (M .source j)
-    pub to-target : Apart (M .target i) (M .target j)
-    pub from-source : Apart (M .target j) (M .source i)
+    pub to-source : Apart (M .destination i) (M .source j)
+    pub to-destination : Apart (M .destination i) (M .destination j)
+    pub from-source : Apart (M .destination j) (M .source i)
 
   -- the stage of a transfer that has moved n elements
   unfoldable pub stageAfter : M .Job → ℕ → Stage

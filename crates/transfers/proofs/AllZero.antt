@@ -101,14 +101,14 @@ module _ (j : Job) (f : Fours j) where
   pub no-job : isZeroJob j ≡ true → j ≡ zeroJob
   unfolding isZeroJob
   no-job e =
-      let parts = isZeroPart (j .source) && isZeroPart (j .target) in
+      let parts = isZeroPart (j .source) && isZeroPart (j .destination) in
       let x = both-first (parts && isZeroTensor (j .tensor)) (isZeroConfig (j .config)) e in
       let y = both-first parts (isZeroTensor (j .tensor)) x in
-      let source = no-part (j .source) (both-first _ (isZeroPart (j .target)) y) in
-      let target = no-part (j .target) (both-second (isZeroPart (j .source)) _ y) in
+      let source = no-part (j .source) (both-first _ (isZeroPart (j .destination)) y) in
+      let destination = no-part (j .destination) (both-second (isZeroPart (j .source)) _ y) in
       let tensor = no-tensor (both-second parts (isZeroTensor (j .tensor)) x) in
       let config = no-config (both-second (parts && isZeroTensor (j .tensor)) (isZeroConfig (j .config)) e) in
-      λ i. record { source = source i; target = target i; tensor = tensor i; config = config i }
+      λ i. record { source = source i; destination = destination i; tensor = tensor i; config = config i }
 
 pub free-is-zero : (n : ℕ) (s : Slot) → Fours (s .job) → slotSound n s ≡ true → s .state ≡ 0 → s ≡ freeSlot
 free-is-zero n s f p z =

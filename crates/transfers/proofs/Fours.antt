@@ -21,7 +21,7 @@ past = record {
   state = 0;
   job = record {
     source = record { start = 0; length = 0 };
-    target = record { start = 0; length = 0 };
+    destination = record { start = 0; length = 0 };
     tensor = record { rank = 0; size = 0; shape = []; stride = [] };
     config = record { offset = []; size = []; step = []; «dst_offset» = []; «dst_stride» = []; perm = []; pre = []; post = [] };
   };

@@ -14,11 +14,11 @@ swapped false b c = or-comm b c
 pub breaks-either : (j k : Job) → breaks j k ≡ breaks k j
 unfolding breaks
 breaks-either j k =
-    rw (meets-either (j .target) (k .target), meets-either (j .target) (k .source), meets-either (j .source) (k .target))
-    (swapped (meets (k .target) (j .target)) (meets (k .source) (j .target)) (meets (k .target) (j .source)))
+    rw (meets-either (j .destination) (k .destination), meets-either (j .destination) (k .source), meets-either (j .source) (k .destination))
+    (swapped (meets (k .destination) (j .destination)) (meets (k .source) (j .destination)) (meets (k .destination) (j .source)))
 
 -- empty parts break it with none
-pub empty-breaks : (j k : Job) → j .source .length ≡ 0 → j .target .length ≡ 0 → breaks j k ≡ false
+pub empty-breaks : (j k : Job) → j .source .length ≡ 0 → j .destination .length ≡ 0 → breaks j k ≡ false
 unfolding breaks
 empty-breaks j k p q =
-    rw (empty-meets (j .target) (k .target) q, empty-meets (j .target) (k .source) q, empty-meets (j .source) (k .target) p)
+    rw (empty-meets (j .destination) (k .destination) q, empty-meets (j .destination) (k .source) q, empty-meets (j .source) (k .destination) p)

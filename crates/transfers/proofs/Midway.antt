@@ -1,4 +1,4 @@
--- Midway, byte by byte: what the first elements of an accepted move leave in its target part. Assumes nothing.
+-- Midway, byte by byte: what the first elements of an accepted move leave in its destination part. Assumes nothing.
 use mathlib.Core.Path.{_≡_, refl, _∙_}
 use Prim.Native.Nat.{ℕ, _+_, _-_, _*_, _≤_, _<_}
 use native.Mathlib.Nat.{zero-add, mod-lt}
@@ -19,7 +19,7 @@ use Rattle.mover.specs.Moved.{total, coordOf, moved}
 use Rattle.mover.specs.Within.{bytesOf}
 use Rattle.mover.proofs.Demand2.{Inside, Kept, demand-2}
 use Rattle.mover.proofs.Keeping.{every-each, test-range}
-use Rattle.mover.proofs.Laws.{judged, judged-good, source-fits, target-fits, job-clear}
+use Rattle.mover.proofs.Laws.{judged, judged-good, source-fits, destination-fits, job-clear}
 use Rattle.mover.proofs.Spacing.{extent-some, bytes-rise}
 use Rattle.mover.proofs.Stored.{moved-element, moved-elsewhere}
 use Rattle.serial.specs.Machine.{Entry}
@@ -72,8 +72,8 @@ in-place : (m : List ℕ) (e : Entry Job) → Midway theMover m e → InPlace m 
 in-place m e w =
     record {
       inside = λ q h. omega (arith, element-inside t c src dst z q, dst-long);
-      elements = λ q h b k. rw (w .target) (first-elements t c src dst z (e .reported) q b (w .most) h k);
-      others = λ k o. rw (w .target) (moved-elsewhere t c src 0 (e .reported) dst k (λ q h. rw zero-add (o q h)));
+      elements = λ q h b k. rw (w .destination) (first-elements t c src dst z (e .reported) q b (w .most) h k);
+      others = λ k o. rw (w .destination) (moved-elsewhere t c src 0 (e .reported) dst k (λ q h. rw zero-add (o q h)));
       source = w .source;
     }
   where
@@ -87,13 +87,13 @@ in-place m e w =
     src = bytesOf (e .job .source) (e .before)
 
     dst : List ℕ
-    dst = bytesOf (e .job .target) (e .before)
+    dst = bytesOf (e .job .destination) (e .before)
 
     src-long : length src ≡ e .job .source .length
     src-long = part-length (e .job .source) (e .before) (omega (arith, source-fits (length m) (e .job) (w .passed), w .long))
 
-    dst-long : length dst ≡ e .job .target .length
-    dst-long = part-length (e .job .target) (e .before) (omega (arith, target-fits (length m) (e .job) (w .passed), w .long))
+    dst-long : length dst ≡ e .job .destination .length
+    dst-long = part-length (e .job .destination) (e .before) (omega (arith, destination-fits (length m) (e .job) (w .passed), w .long))
 
     z : judgeOf t c (length src) (length dst) .status ≡ 0
     z = judged t c (length src) (length dst) ∙ rw (src-long, dst-long) (job-clear (length m) (e .job) (w .passed))

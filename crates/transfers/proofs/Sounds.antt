@@ -177,8 +177,8 @@ unfolding isZeroJob
 free-breaks-none n s j p e =
     let z = both-first (isZeroJob (s .job)) (eqb (s .moved) 0) (zero-sound n s e ∙ p) in
     let w = both-first _ (isZeroTensor (s .job .tensor)) (both-first _ (isZeroConfig (s .job .config)) z) in
-    let source = both-first (isZeroPart (s .job .source)) (isZeroPart (s .job .target)) w in
-    let target = both-second (isZeroPart (s .job .source)) (isZeroPart (s .job .target)) w in
+    let source = both-first (isZeroPart (s .job .source)) (isZeroPart (s .job .destination)) w in
+    let destination = both-second (isZeroPart (s .job .source)) (isZeroPart (s .job .destination)) w in
     empty-breaks (s .job) j
     (eqb-true (s .job .source .length) 0 (both-second (eqb (s .job .source .start) 0) _ source))
-    (eqb-true (s .job .target .length) 0 (both-second (eqb (s .job .target .start) 0) _ target))
+    (eqb-true (s .job .destination .length) 0 (both-second (eqb (s .job .destination .start) 0) _ destination))

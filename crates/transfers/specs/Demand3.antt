@@ -32,7 +32,7 @@ abbrev pub theMover : Mover
 theMover = record {
   Job = Job;
   source = λ j. partOf (j .source);
-  target = λ j. partOf (j .target);
+  destination = λ j. partOf (j .destination);
   total = totalOf;
   verdict = λ n j. jobFault n j .status;
   move = λ j s d. moveMemory (j .tensor) (j .config) s d;
@@ -108,7 +108,7 @@ run (c ∷ cs) w = run cs (after c w)
 
 -- ---- the sentences
 
--- the byte of the target part at which element number q of the job stands
+-- the byte of the destination part at which element number q of the job stands
 abbrev pub byteOf : Job → ℕ → ℕ
 byteOf j q = place (j .tensor) (j .config) (coordOf (j .tensor) (j .config) q) * j .tensor .size
 
@@ -118,14 +118,14 @@ elementOf j s q = element (j .tensor) (j .config) s (coordOf (j .tensor) (j .con
 
 -- byte by byte, what the memory m has of a transfer that is not yet released
 pub record InPlace (m : List ℕ) (e : Entry Job) : Type 0 where
-  -- its first elements, as many as its steps together reported, lie in the target part and are in place there
-  pub inside : (q : ℕ) → q < e .reported → byteOf (e .job) q + e .job .tensor .size ≤ e .job .target .length
+  -- its first elements, as many as its steps together reported, lie in the destination part and are in place there
+  pub inside : (q : ℕ) → q < e .reported → byteOf (e .job) q + e .job .tensor .size ≤ e .job .destination .length
   pub elements : (q : ℕ) → q < e .reported → (b : ℕ) → b < e .job .tensor .size
-      → getD (bytesOf (e .job .target) m) (byteOf (e .job) q + b) 0
+      → getD (bytesOf (e .job .destination) m) (byteOf (e .job) q + b) 0
       ≡ getD (elementOf (e .job) (bytesOf (e .job .source) (e .before)) q) b 0
-  -- a byte of the target part that belongs to none of these is as at acceptance
+  -- a byte of the destination part that belongs to none of these is as at acceptance
   pub others : (k : ℕ) → ((q : ℕ) → q < e .reported → (k < byteOf (e .job) q) ⊎ (byteOf (e .job) q + e .job .tensor .size ≤ k))
-      → getD (bytesOf (e .job .target) m) k 0 ≡ getD (bytesOf (e .job .target) (e .before)) k 0
+      → getD (bytesOf (e .job .destination) m) k 0 ≡ getD (bytesOf (e .job .destination) (e .before)) k 0
   -- the source part is as at acceptance
   pub source : bytesOf (e .job .source) m ≡ bytesOf (e .job .source) (e .before)
 
@@ -137,7 +137,7 @@ pub record Demand3 (m₀ : List ℕ) (t : Table) (m : List ℕ) (log : Log) : Ty
   pub passed : Every (λ e. jobFault (length m₀) (e .job) .status ≡ 0) log
   -- every accepted transfer has finished if each poll says free or done
   pub finished : ((h : ℕ) → h < 4 → (pollOf t h ≡ says.Free) ⊎ (pollOf t h ≡ says.Done)) → Every (Finished theMover) log
-  -- midway, the target part of each transfer not yet released is what the mover leaves after as many elements as its steps reported
+  -- midway, the destination part of each transfer not yet released is what the mover leaves after as many elements as its steps reported
   pub midway : EveryHeld (Midway theMover m) log
   -- so its first elements are in place, and the part's other bytes, and the source part, are as at acceptance
   pub in-place : EveryHeld (InPlace m) log

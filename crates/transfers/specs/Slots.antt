@@ -22,7 +22,7 @@ abbrev pub zeroPart : Part
 zeroPart = record { start = 0; length = 0 }
 
 abbrev pub zeroJob : Job
-zeroJob = record { source = zeroPart; target = zeroPart; tensor = noTensor; config = allZero }
+zeroJob = record { source = zeroPart; destination = zeroPart; tensor = noTensor; config = allZero }
 
 -- state 0 is free, 1 prepared, 2 running, 3 done
 abbrev pub freeSlot : Slot
@@ -52,9 +52,9 @@ lowestFree t =
 
 -- ---- the rule between two slots
 
--- a target part of the one meets a part of the other. The parts of a free slot are empty, and an empty part meets none
+-- a destination part of the one meets a part of the other. The parts of a free slot are empty, and an empty part meets none
 unfoldable pub breaks : Job → Job → Bool
-breaks j k = meets (j .target) (k .target) || meets (j .target) (k .source) || meets (j .source) (k .target)
+breaks j k = meets (j .destination) (k .destination) || meets (j .destination) (k .source) || meets (j .source) (k .destination)
 
 -- the job breaks the rule with one of the first n slots
 unfoldable pub clashes : Table → Job → ℕ → Bool
@@ -79,7 +79,7 @@ isZeroConfig c =
 
 -- a job that is all zero
 unfoldable pub isZeroJob : Job → Bool
-isZeroJob j = isZeroPart (j .source) && isZeroPart (j .target) && isZeroTensor (j .tensor) && isZeroConfig (j .config)
+isZeroJob j = isZeroPart (j .source) && isZeroPart (j .destination) && isZeroTensor (j .tensor) && isZeroConfig (j .config)
 
 -- moved is 0 when prepared, below the total when running, the total when done
 unfoldable pub movedRight : ℕ → ℕ → ℕ → Bool

@@ -32,13 +32,13 @@ pub(crate) fn free_slot() -> Slot
         start: 0,
         length: 0,
     };
-    let target = Part {
+    let destination = Part {
         start: 0,
         length: 0,
     };
     let job = Job {
         source,
-        target,
+        destination,
         tensor,
         config,
     };

@@ -9,11 +9,13 @@ ghost use mathlib.Core.Path.{_≡_};
 ghost use Prim.Native.Nat.{_≤_};
 ghost use Rattle.transfers.specs.Slots.{breaks, clashes, movedRight, slotSound, tableSound};
 
-// Whether a target part of the one meets a part of the other.
+// Whether a destination part of the one meets a part of the other.
 fn breaks(j: Job, k: Job) -> bool
     ensures { λ r. ⌜ r ≡ breaks j k ⌝ }
 {
-    meets(j.target, k.target) | meets(j.target, k.source) | meets(j.source, k.target)
+    meets(j.destination, k.destination)
+        | meets(j.destination, k.source)
+        | meets(j.source, k.destination)
 }
 
 // Whether a job breaks the rule with one of the first n slots.

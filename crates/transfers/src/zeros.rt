@@ -56,5 +56,5 @@ fn no_config(c: Config) -> bool
 pub(crate) fn no_job(j: Job) -> bool
     ensures { λ r. ⌜ r ≡ isZeroJob j ⌝ }
 {
-    no_part(j.source) & no_part(j.target) & no_tensor(j.tensor) & no_config(j.config)
+    no_part(j.source) & no_part(j.destination) & no_tensor(j.tensor) & no_config(j.config)
 }

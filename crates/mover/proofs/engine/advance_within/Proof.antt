@@ -10,17 +10,17 @@ use Rattle.mover.proofs.engine.advance_within.Statement.{statement}
 use Rattle.mover.proofs.engine.advance_within.Tie as tie
 
 -- the first elements stand in the memory
-fits : (s : tie.Start) → let a = s .args in (a .source .start + a .plan .home ≤ length (a .mem .now)) × (a .target .start + a .plan .base ≤ length (a .mem .now))
+fits : (s : tie.Start) → let a = s .args in (a .source .start + a .plan .home ≤ length (a .mem .now)) × (a .destination .start + a .plan .base ≤ length (a .mem .now))
 fits s =
     let a = s .args in
-    placed-fits (a .plan) (a .source .start) (a .target .start) (a .mem .now) (a .source .length) (a .target .length) (s .pre .0 .0) (s .pre .0 .1) (s .pre .1 .1 .0)
+    placed-fits (a .plan) (a .source .start) (a .destination .start) (a .mem .now) (a .source .length) (a .destination .length) (s .pre .0 .0) (s .pre .0 .1) (s .pre .1 .1 .0)
 
 advance-requires : tie.Need-advance-requires
 unfolding placedAt planTotal
 advance-requires c κs =
     let s = c .before .before .before .before .before .before .before .before .before in
     let a = s .args in
-    (placed-ready (a .plan) (a .source .start) (a .target .start) (a .mem .now) [] (a .source .length) (a .target .length) (s .pre .0 .0) (s .pre .0 .1) (s .pre .1 .0) (s .pre .1 .1 .0), s .pre .1 .1 .1)
+    (placed-ready (a .plan) (a .source .start) (a .destination .start) (a .mem .now) [] (a .source .length) (a .destination .length) (s .pre .0 .0) (s .pre .0 .1) (s .pre .1 .0) (s .pre .1 .1 .0), s .pre .1 .1 .1)
 
 returns : tie.Need-returns
 unfolding placedAt planTotal
@@ -30,7 +30,7 @@ returns c =
     let a = s .args in
     let n = v .advance .ensures .0 in (
       n,
-      placed-written (a .plan) (a .source .start) (a .target .start) (a .mem .now) (v .advance .last .1 .0) (a .source .length) (a .target .length) (a .from) (a .budget) (v .advance .result)
+      placed-written (a .plan) (a .source .start) (a .destination .start) (a .mem .now) (v .advance .last .1 .0) (a .source .length) (a .destination .length) (a .from) (a .budget) (v .advance .result)
           (s .pre .0 .0) (s .pre .0 .1) (s .pre .1 .1 .0) (s .pre .1 .1 .1) n (v .advance .ensures .1),
     )
 

@@ -6,7 +6,7 @@ use lib.ListN.{length}
 use Rattle.plane.specs.Moves.{roomFault, accepted}
 use Rattle.mover.specs.Within.{totalOf}
 use Rattle.mover.specs.Private.{planTotal}
-use Rattle.mover.proofs.Laws.{source-fits, target-fits, job-apart}
+use Rattle.mover.proofs.Laws.{source-fits, destination-fits, job-apart}
 use Rattle.mover.proofs.Making.{answer-fit}
 use Rattle.mover.proofs.Judged.{total-is, job-clear, job-accepted, advance-refused, advance-past, advance-ready, advance-from, advance-written}
 use Rattle.mover.proofs.within.advance.Statement.{statement}
@@ -55,7 +55,7 @@ advance-within-requires c κs =
     let a = i .before .before .before .before .args in
     let e = i .before .before .answer .ensures in
     let z = job-clear (length (a .mem .now)) (a .job) e (i .if1 .left) in (
-      (source-fits (length (a .mem .now)) (a .job) z, target-fits (length (a .mem .now)) (a .job) z),
+      (source-fits (length (a .mem .now)) (a .job) z, destination-fits (length (a .mem .now)) (a .job) z),
       (
         job-apart (length (a .mem .now)) (a .job) z,
         (advance-ready (a .job) (a .from) (a .budget) (a .mem .now) e (i .if1 .left) (c .plan-of .ensures), within c),

@@ -3,7 +3,7 @@ use mathlib.Core.Path.{_≡_, sym, _∙_}
 use mathlib.Core.Bool.{false}
 use borrow.Author.Needs.{needs}
 use Rattle.mover.specs.Within.{leaves}
-use Rattle.mover.proofs.Judged.{source-leaves, target-leaves, move-refused, parts-meet, job-given}
+use Rattle.mover.proofs.Judged.{source-leaves, destination-leaves, move-refused, parts-meet, job-given}
 use Rattle.mover.proofs.within.answer.Statement.{statement}
 use Rattle.mover.proofs.within.answer.Tie as tie
 
@@ -17,10 +17,10 @@ returns-2 : tie.Need-returns-2
 returns-2 c =
     let l = c .before .before in
     let a = l .before .before .before .args in
-    target-leaves (a .len) (a .job) (sym (l .leaves2 .ensures) ∙ c .before .if2 .taken) (c .refused2 .ensures)
+    destination-leaves (a .len) (a .job) (sym (l .leaves2 .ensures) ∙ c .before .if2 .taken) (c .refused2 .ensures)
 
 -- neither part leaves the memory
-stays : (c : tie.Else2) → let a = c .before .before .before .before .args in (leaves (a .len) (a .job .source) ≡ false) × (leaves (a .len) (a .job .target) ≡ false)
+stays : (c : tie.Else2) → let a = c .before .before .before .before .args in (leaves (a .len) (a .job .source) ≡ false) × (leaves (a .len) (a .job .destination) ≡ false)
 stays c =
     let i = c .before .before in
     (sym (i .before .leaves .ensures) ∙ i .if1 .left, sym (c .before .leaves2 .ensures) ∙ c .if2 .left)
