@@ -8,6 +8,7 @@ use Rattle.mover.proofs.moves.move_plane.Reads as move-plane
 use Rattle.mover.proofs.within.judge_job.Reads as judge-job
 use Rattle.mover.proofs.within.meets.Reads as meets
 use Rattle.mover.proofs.within.advance.Reads as advance
+use Rattle.mover.proofs.sub.sub_tensor.Reads as sub-tensor
 use Rattle.mover.proofs.sub.sub_part.Reads as sub-part
 
 -- bytes that are read off the result or off what was lent, at the exit: two outcomes that the contract allows have the same
@@ -33,6 +34,9 @@ advance-decided = record { free = λ κ a. tt; one = λ κ a x y s t p q. p .0 �
 -- the memory
 pub advance-memory : OneBytes advance.Post (λ κ r s. s .0 .now)
 advance-memory = record { one = λ κ a x y s t p q. p .1 ∙ sym (q .1) }
+
+pub sub-tensor-decided : Decided sub-tensor.Pre sub-tensor.Post
+sub-tensor-decided = record { free = λ κ a. tt; one = λ κ a x y s t p q. p ∙ sym q }
 
 pub sub-part-free : (κ : _) (a : _) → sub-part.Pre κ a
 sub-part-free κ a = tt

@@ -5,13 +5,14 @@ mod plan; // an accepted move as the engine wants it
 mod engine; // the loops over four destination coordinates
 mod moves; // a whole move between two lent slices
 mod within; // a move between two parts of one memory, a stretch at a time
-mod sub; // the part of a lent source at which a sub-tensor starts
+mod sub; // a sub-tensor of a lent source
 
 pub use moves::move_plane;
 pub use plane::Answer;
 pub use plane::Config;
 pub use plane::Tensor;
 pub use sub::sub_part;
+pub use sub::sub_tensor;
 pub use within::advance;
 pub use within::judge_job;
 pub use within::meets;

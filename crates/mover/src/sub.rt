@@ -1,14 +1,24 @@
-// The part of a lent source at which a sub-tensor starts: what a move that reads the sub-tensor is given as its source.
+// A sub-tensor of a lent source: its numbers, and the part of the source that a move which reads it is given.
 use plane::SubConfig;
+use plane::SubTensor;
 use plane::Tensor;
 ghost use mathlib.Core.Path.{_≡_};
+ghost use lib.ListN.{length};
+ghost use Rattle.plane.specs.Helpers.{subTensorOf};
 ghost use Rattle.mover.specs.SubPart.{subPart};
 
-// The source from the sub-tensor's first byte to its end, or an empty part where plane::sub_tensor refuses.
+// The numbers of the part of the plane that src holds: its shape and strides, and its first byte.
+pub fn sub_tensor(t: Tensor, s: SubConfig, src: &[u8]) -> SubTensor
+    ensures { λ r. ⌜ r ≡ subTensorOf t s (length (now (src .entry))) ⌝ }
+{
+    plane::sub_tensor(t, s, src.len())
+}
+
+// The source from the sub-tensor's first byte to its end, or an empty part where sub_tensor refuses.
 pub fn sub_part(t: Tensor, s: SubConfig, src: &[u8]) -> &[u8]
     ensures { λ r. ⌜ now r ≡ subPart t s (now (src .entry)) ⌝ }
 {
-    let a = plane::sub_tensor(t, s, src.len());
+    let a = sub_tensor(t, s, src);
     let end = src.len();
     if a.status != 0 {
         return &src[end..];

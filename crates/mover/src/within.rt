@@ -7,6 +7,7 @@ use crate::engine::advance_within;
 use crate::plan::plan_of;
 use crate::plan::total;
 use plane::Answer;
+use plane::Fault;
 ghost use mathlib.Core.Path.{_≡_};
 ghost use Rattle.plane.specs.Faults.{fault};
 ghost use Rattle.plane.specs.Moves.{refused, answerOf};
@@ -33,18 +34,11 @@ pub fn meets(p: Part, q: Part) -> bool
     (p.start - q.start < q.length) & (0 < p.length)
 }
 
+// A refusal that names no dimension.
 fn refused(status: u8) -> Answer
     ensures { λ r. ⌜ r ≡ refused (fault status 0) ⌝ }
 {
-    Answer {
-        status,
-        dim: 0,
-        rank: 0,
-        size: 0,
-        extent: [0u32; 4],
-        stride: [0u32; 4],
-        need: 0,
-    }
+    Answer::refused(Fault { status, dim: 0 })
 }
 
 // What a job answers over a memory of len bytes: 20, 1 to 13, 21, else as its move does.

@@ -5,6 +5,9 @@ use Rattle.plane.proofs.verdict.room.Reads as room
 use Rattle.plane.proofs.verdict.judge.Reads as judge
 use Rattle.plane.proofs.tensors.source_of.Reads as source-of
 use Rattle.plane.proofs.refusals.rank_is_bad.Reads as rank-is-bad
+use Rattle.plane.proofs.Tensor.zero.Reads as zero-tensor
+use Rattle.plane.proofs.Config.zero.Reads as zero-config
+use Rattle.plane.proofs.Answer.refused.Reads as refused
 use Rattle.plane.proofs.helpers.element_size.Reads as element-size
 use Rattle.plane.proofs.helpers.element_count.Reads as element-count
 use Rattle.plane.proofs.sub.sub_tensor.Reads as sub-tensor
@@ -33,6 +36,15 @@ source-of-decided = record { free = λ κ a. tt; one = λ κ a x y s t p q. p �
 
 pub rank-is-bad-decided : Decided rank-is-bad.Pre rank-is-bad.Post
 rank-is-bad-decided = record { free = λ κ a. tt; one = λ κ a x y s t p q. p ∙ sym q }
+
+pub zero-tensor-decided : Decided zero-tensor.Pre zero-tensor.Post
+zero-tensor-decided = record { free = λ κ a. tt; one = λ κ a x y s t p q. p ∙ sym q }
+
+pub zero-config-decided : Decided zero-config.Pre zero-config.Post
+zero-config-decided = record { free = λ κ a. tt; one = λ κ a x y s t p q. p ∙ sym q }
+
+pub refused-decided : Decided refused.Pre refused.Post
+refused-decided = record { free = λ κ a. tt; one = λ κ a x y s t p q. p ∙ sym q }
 
 pub element-size-decided : Decided element-size.Pre element-size.Post
 element-size-decided = record { free = λ κ a. tt; one = λ κ a x y s t p q. p ∙ sym q }

@@ -8,9 +8,9 @@ use Rattle.plane.specs.declared.Fault.{Fault}
 use Rattle.plane.specs.declared.Count.{Count}
 use Rattle.plane.specs.declared.SubConfig.{SubConfig}
 use Rattle.plane.specs.declared.SubTensor.{SubTensor}
-use Rattle.plane.specs.Arrays.{at, firsts, zeros, sum, product, howMany}
+use Rattle.plane.specs.Arrays.{at, firsts, sum, product, howMany}
 use Rattle.plane.specs.Faults.{when, _orElse_, lowest, unless}
-use Rattle.plane.specs.Planes.{badRank, badShape, shapeAt, srcStrides, span, sourceFault}
+use Rattle.plane.specs.Planes.{badRank, badShape, shapeAt, srcStrides, span, sourceFault, zeroTensor}
 use Rattle.plane.specs.Moves.{badOffset, badSize}
 
 -- ---- Element count
@@ -89,11 +89,8 @@ subOf t s = record {
 unfoldable pub subByte : Tensor → SubConfig → ℕ
 subByte t s = sum (t .rank) (λ d. at (s .offset) d * at (srcStrides t) d) * t .size
 
-abbrev pub noTensor : Tensor
-noTensor = record { rank = 0; size = 0; shape = zeros; stride = zeros }
-
 abbrev pub noSub : Fault → SubTensor
-noSub f = record { status = f .status; dim = f .dim; tensor = noTensor; byte = 0 }
+noSub f = record { status = f .status; dim = f .dim; tensor = zeroTensor; byte = 0 }
 
 unfoldable pub subAnswer : Fault → Tensor → ℕ → SubTensor
 subAnswer f t byte = unless f (noSub f) (record { status = 0; dim = 0; tensor = t; byte = byte })

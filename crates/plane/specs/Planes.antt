@@ -9,6 +9,9 @@ use Rattle.plane.specs.declared.Source.{Source}
 use Rattle.plane.specs.Arrays.{at, firsts, zeros, sum, or0}
 use Rattle.plane.specs.Faults.{when, _orElse_, lowest, outward, unless}
 
+abbrev pub zeroTensor : Tensor
+zeroTensor = record { rank = 0; size = 0; shape = zeros; stride = zeros }
+
 -- 1: the rank is 1 to 4
 abbrev pub badRank : ℕ → Bool
 badRank n = ltb n 1 || ltb 4 n

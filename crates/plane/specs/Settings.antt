@@ -40,5 +40,5 @@ withPre c x = configOf (c .offset) (c .size) (c .step) (c .«dst_offset») (c .�
 abbrev pub withPost : Config → List ℕ → Config
 withPost c x = configOf (c .offset) (c .size) (c .step) (c .«dst_offset») (c .«dst_stride») (c .perm) (c .pre) x
 
-abbrev pub allZero : Config
-allZero = configOf zeros zeros zeros zeros zeros zeros zeros zeros
+abbrev pub zeroConfig : Config
+zeroConfig = configOf zeros zeros zeros zeros zeros zeros zeros zeros

@@ -16,21 +16,7 @@ ghost use mathlib.Core.Path.{_≡_};
 ghost use Prim.Native.Nat.{ℕ, _≤_, _<_};
 ghost use Rattle.plane.specs.Arrays.{at};
 ghost use Rattle.plane.specs.Faults.{_orElse_};
-ghost use Rattle.plane.specs.Moves.{dstExtents, configFault, placeFault, refused, answerOf};
-
-pub(crate) fn refused(f: Fault) -> Answer
-    ensures { λ r. ⌜ r ≡ refused f ⌝ }
-{
-    Answer {
-        status: f.status,
-        dim: f.dim,
-        rank: 0,
-        size: 0,
-        extent: [0u32; 4],
-        stride: [0u32; 4],
-        need: 0,
-    }
-}
+ghost use Rattle.plane.specs.Moves.{dstExtents, configFault, placeFault, answerOf};
 
 // 6 to 10
 fn config_fault(t: Tensor, c: Config) -> Fault
@@ -72,13 +58,13 @@ fn place(t: Tensor, c: Config, extent: [u32; 4]) -> Answer
     let s = resolve(11, n, extent, written);
     let f = s.fault;
     if f.status != 0 {
-        return refused(f);
+        return Answer::refused(f);
     }
     let stride = s.stride;
     let offset = c.dst_offset;
     let g = dst_offset_fault(n, stride, offset);
     if g.status != 0 {
-        return refused(g);
+        return Answer::refused(g);
     }
     Answer {
         status: 0,
@@ -97,7 +83,7 @@ pub(crate) fn destination(t: Tensor, c: Config) -> Answer
 {
     let f = config_fault(t, c);
     if f.status != 0 {
-        return refused(f);
+        return Answer::refused(f);
     }
     place(t, c, dst_extents(t, c))
 }

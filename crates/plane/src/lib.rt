@@ -7,6 +7,7 @@ mod tensors; // 1 to 4: a tensor record by itself
 mod extents; // kept counts and extents, and 10
 mod destination; // 6 to 12: a configuration for an accepted tensor record
 mod verdict; // the whole of a move: 1 to 13
+mod zeros; // what is all zero, and a refused answer
 mod settings; // a configuration with one field set
 mod helpers; // element size and element count
 mod sub; // a part of a plane as a tensor of its own

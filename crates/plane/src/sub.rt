@@ -69,12 +69,7 @@ fn refused(f: Fault) -> SubTensor
     SubTensor {
         status: f.status,
         dim: f.dim,
-        tensor: Tensor {
-            rank: 0,
-            size: 0,
-            shape: [0u32; 4],
-            stride: [0u32; 4],
-        },
+        tensor: Tensor::zero(),
         byte: 0,
     }
 }

@@ -5,7 +5,6 @@ use crate::Fault;
 use crate::RoomAnswer;
 use crate::Tensor;
 use crate::destination::destination;
-use crate::destination::refused;
 use crate::tensors::source_of;
 ghost use mathlib.Core.Path.{_≡_};
 ghost use Rattle.plane.specs.Moves.{roomOf, judgeOf};
@@ -18,7 +17,7 @@ pub fn room(t: Tensor, c: Config) -> RoomAnswer
     let f = s.fault;
     if f.status != 0 {
         return RoomAnswer {
-            answer: refused(f),
+            answer: Answer::refused(f),
             span: 0,
         };
     }
@@ -39,17 +38,17 @@ pub fn judge(t: Tensor, c: Config, src_len: usize, dst_len: usize) -> Answer
     let s = source_of(t);
     let f = s.fault;
     if f.status != 0 {
-        return refused(f);
+        return Answer::refused(f);
     }
     if (src_len as u64) < s.span {
-        return refused(Fault { status: 5, dim: 0 });
+        return Answer::refused(Fault { status: 5, dim: 0 });
     }
     let a = destination(t, c);
     if a.status != 0 {
         return a;
     }
     if (dst_len as u64) < a.need {
-        return refused(Fault { status: 13, dim: 0 });
+        return Answer::refused(Fault { status: 13, dim: 0 });
     }
     a
 }

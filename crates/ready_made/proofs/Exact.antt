@@ -5,7 +5,7 @@ use mathlib.Core.Bool.{true, false, cond}
 use Rattle.plane.specs.declared.Config.{Config}
 use Rattle.plane.specs.Arrays.{at}
 use Rattle.plane.specs.Planes.{badRank}
-use Rattle.plane.specs.Settings.{configOf, allZero}
+use Rattle.plane.specs.Settings.{configOf, zeroConfig}
 use Rattle.plane.proofs.Arrays.{firsts-same}
 use Rattle.plane.proofs.Unseen.{SameConfig}
 use Rattle.ready_made.specs.ReadyMade.{cutTo, madeFor}
@@ -16,7 +16,7 @@ module _ (n : ℕ) (c : Config) where
   unfolding madeFor
   made-given e = simp e
 
-  pub made-refused : badRank n ≡ true → madeFor n c ≡ record { status = 1; config = allZero }
+  pub made-refused : badRank n ≡ true → madeFor n c ≡ record { status = 1; config = zeroConfig }
   unfolding madeFor
   made-refused e = simp e
 
@@ -32,5 +32,5 @@ made-unseen n c c′ b =
     let p = firsts-same n (at (c .perm)) (at (c′ .perm)) (b .perm) in
     let f = firsts-same n (at (c .pre)) (at (c′ .pre)) (b .pre) in
     let g = firsts-same n (at (c .post)) (at (c′ .post)) (b .post) in
-    ap (λ (x : Config). cond (badRank n) (record { status = 1; config = allZero }) (record { status = 0; config = x }))
+    ap (λ (x : Config). cond (badRank n) (record { status = 1; config = zeroConfig }) (record { status = 0; config = x }))
     (λ i. configOf (o i) (z i) (s i) (d i) (e i) (p i) (f i) (g i))

@@ -5,14 +5,14 @@ use mathlib.Core.List.{List, [], _∷_}
 use Rattle.plane.specs.declared.Config.{Config}
 use Rattle.plane.specs.Arrays.{at, firsts}
 use Rattle.plane.specs.Planes.{badRank}
-use Rattle.plane.specs.Settings.{configOf, allZero, withOffset, withSize, withStep, withDstOffset, withDstStride, withPerm, withPre, withPost}
+use Rattle.plane.specs.Settings.{configOf, zeroConfig, withOffset, withSize, withStep, withDstOffset, withDstStride, withPerm, withPre, withPost}
 use Rattle.ready_made.specs.declared.Made.{Made}
 
 -- ---- For a rank
 
 -- step 1, permutation entry d at d, the rest 0
 abbrev pub defaults : Config
-defaults = withPerm (withStep allZero (1 ∷ 1 ∷ 1 ∷ 1 ∷ [])) (0 ∷ 1 ∷ 2 ∷ 3 ∷ [])
+defaults = withPerm (withStep zeroConfig (1 ∷ 1 ∷ 1 ∷ 1 ∷ [])) (0 ∷ 1 ∷ 2 ∷ 3 ∷ [])
 
 -- the configuration with 0 in every entry at or past the rank n
 unfoldable pub cutTo : ℕ → Config → Config
@@ -23,7 +23,7 @@ cutTo n c =
 
 -- a wrong rank is answered by 1 and all fields 0
 unfoldable pub madeFor : ℕ → Config → Made
-madeFor n c = cond (badRank n) (record { status = 1; config = allZero }) (record { status = 0; config = cutTo n c })
+madeFor n c = cond (badRank n) (record { status = 1; config = zeroConfig }) (record { status = 0; config = cutTo n c })
 
 -- ---- The eight, with the arguments of the MLI text
 

@@ -5,7 +5,6 @@ use plane::rank_is_bad;
 ghost use mathlib.Core.Path.{_≡_};
 ghost use Prim.Native.Nat.{_≤_};
 ghost use Rattle.plane.specs.Arrays.{at, firsts};
-ghost use Rattle.plane.specs.Settings.{allZero};
 ghost use Rattle.ready_made.specs.ReadyMade.{defaults, cutTo, madeFor, copyOf, sliceOf, concatenateOf, subsampleOf, permuteOf, padChwOf, padHwcOf, allOf};
 
 // A configuration made for a rank, or 1 and zeros.
@@ -14,25 +13,12 @@ pub struct Made {
     pub config: Config,
 }
 
-fn all_zero() -> Config
-    ensures { λ r. ⌜ r ≡ allZero ⌝ }
-{
-    Config {
-        offset: [0u32; 4],
-        size: [0u32; 4],
-        step: [0u32; 4],
-        dst_offset: [0u32; 4],
-        dst_stride: [0u32; 4],
-        perm: [0u8; 4],
-        pre: [0u8; 4],
-        post: [0u8; 4],
-    }
-}
-
 fn defaults() -> Config
     ensures { λ r. ⌜ r ≡ defaults ⌝ }
 {
-    all_zero().with_step([1, 1, 1, 1]).with_perm([0, 1, 2, 3])
+    Config::zero()
+        .with_step([1, 1, 1, 1])
+        .with_perm([0, 1, 2, 3])
 }
 
 // The entries below the rank, and 0 at and past it.
@@ -91,7 +77,7 @@ fn made_for(rank: u8, c: Config) -> Made
     if rank_is_bad(rank) {
         return Made {
             status: 1,
-            config: all_zero(),
+            config: Config::zero(),
         };
     }
     Made {

@@ -7,7 +7,7 @@ use Rattle.plane.specs.declared.Tensor.{Tensor}
 use Rattle.plane.specs.declared.Config.{Config}
 use Rattle.plane.specs.Arrays.{zeros, sum, some}
 use Rattle.plane.specs.Faults.{fault, when, _orElse_, first, lowest}
-use Rattle.plane.specs.Settings.{allZero, withStep, withPerm, withPost}
+use Rattle.plane.specs.Settings.{zeroConfig, withStep, withPerm, withPost}
 use Rattle.record.specs.Layout.{little, number, joined, start}
 use Rattle.record.specs.Records.{tensorIn, configIn, recordBytes, stray, fieldsFault, readFault, writeFault, refused, accepted, readOf, writtenRoom}
 
@@ -16,7 +16,7 @@ abbrev pub tensorA : Tensor
 tensorA = record { rank = 2; size = 1; shape = 2 ∷ 3 ∷ 0 ∷ 0 ∷ []; stride = zeros }
 
 abbrev pub configA : Config
-configA = withPerm (withStep allZero (1 ∷ 1 ∷ 0 ∷ 0 ∷ [])) (1 ∷ 0 ∷ 0 ∷ 0 ∷ [])
+configA = withPerm (withStep zeroConfig (1 ∷ 1 ∷ 0 ∷ 0 ∷ [])) (1 ∷ 0 ∷ 0 ∷ 0 ∷ [])
 
 abbrev pub bytesA : List ℕ
 bytesA =

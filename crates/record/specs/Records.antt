@@ -10,8 +10,8 @@ use Rattle.plane.specs.declared.Fault.{Fault}
 use Rattle.plane.specs.Arrays.{at, some}
 use Rattle.plane.specs.Faults.{when, _orElse_, lowest, unless}
 use Rattle.plane.specs.Planes.{badRank}
-use Rattle.plane.specs.Settings.{configOf, allZero}
-use Rattle.plane.specs.Helpers.{noTensor}
+use Rattle.plane.specs.Settings.{configOf, zeroConfig}
+use Rattle.plane.specs.Planes.{zeroTensor}
 use Rattle.record.specs.declared.Reading.{Reading}
 use Rattle.record.specs.Layout.{joined, recordLength, mark, theVersion, versionIn, rankIn, sizeIn, headBytes, groupCount, group, width, start, fourIn, fourBytes}
 
@@ -68,7 +68,7 @@ writeFault t c n = when 25 0 (badLength n) orElse fieldsFault t c
 -- ---- The answers
 
 abbrev pub refused : Fault → Reading
-refused f = record { status = f .status; dim = f .dim; tensor = noTensor; config = allZero }
+refused f = record { status = f .status; dim = f .dim; tensor = zeroTensor; config = zeroConfig }
 
 abbrev pub accepted : Tensor → Config → Reading
 accepted t c = record { status = 0; dim = 0; tensor = t; config = c }

@@ -66,22 +66,8 @@ fn refused(f: Fault) -> Reading
     Reading {
         status: f.status,
         dim: f.dim,
-        tensor: Tensor {
-            rank: 0,
-            size: 0,
-            shape: [0u32; 4],
-            stride: [0u32; 4],
-        },
-        config: Config {
-            offset: [0u32; 4],
-            size: [0u32; 4],
-            step: [0u32; 4],
-            dst_offset: [0u32; 4],
-            dst_stride: [0u32; 4],
-            perm: [0u8; 4],
-            pre: [0u8; 4],
-            post: [0u8; 4],
-        },
+        tensor: Tensor::zero(),
+        config: Config::zero(),
     }
 }
 

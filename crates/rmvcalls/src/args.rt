@@ -1,5 +1,6 @@
 // What a call's bytes stand for, from byte p on. Past the end there is nothing but zeros; calls.rt looks at the length first.
 use plane::Config;
+use plane::Fault;
 use plane::SubConfig;
 use plane::Tensor;
 use transfers::Job;
@@ -36,6 +37,15 @@ pub(crate) fn bytes(b: &[u8], p: usize) -> [u8; 4]
     requires { ⌜ p ≤ 3000 ⌝ }
 {
     [byte(b, p), byte(b, p + 1), byte(b, p + 2), byte(b, p + 3)]
+}
+
+pub(crate) fn fault(b: &[u8], p: usize) -> Fault
+    requires { ⌜ p ≤ 3000 ⌝ }
+{
+    Fault {
+        status: byte(b, p),
+        dim: byte(b, p + 1),
+    }
 }
 
 pub(crate) fn tensor(b: &[u8], p: usize) -> Tensor

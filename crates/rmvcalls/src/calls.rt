@@ -17,7 +17,7 @@ ghost use lib.ListN.{length};
 // Whether bytes of any number may follow.
 fn has_rest(number: u8) -> bool {
     match number {
-        0x20 | 0x22 | 0x24 | 0x30 | 0x31 | 0x41 | 0x42 | 0x43 | 0x44 => true,
+        0x20 | 0x22 | 0x24 | 0x25 | 0x30 | 0x31 | 0x41 | 0x42 | 0x43 | 0x44 => true,
         _ => false,
     }
 }
@@ -38,13 +38,14 @@ fn version(out: &mut [u8]) -> usize {
 // The bytes of a call, its number's own included and the rest of the line not; 0 where no call has the number.
 fn fixed(number: u8) -> usize {
     match number {
-        0x00 | 0x30 => 1,
+        0x00 | 0x08 | 0x09 | 0x30 => 1,
         0x01 => 35,
         0x02 | 0x31 => 127,
         0x03 => 143,
-        0x04 | 0x10 => 2,
+        0x04 | 0x07 | 0x10 => 2,
         0x05 => 39,
         0x06 => 79,
+        0x0a => 3,
         0x11 => 50,
         0x12 | 0x13 => 34,
         0x14 => 6,
@@ -56,7 +57,7 @@ fn fixed(number: u8) -> usize {
         0x21 => 167,
         0x22 => 175,
         0x23 => 33,
-        0x24 => 71,
+        0x24 | 0x25 => 71,
         0x40 => 9,
         0x41 => 835,
         0x42 | 0x44 | 0x45 => 681,
@@ -110,8 +111,12 @@ fn call(number: u8, body: &[u8], room: &mut [u8], out: &mut [u8]) -> usize {
         0x20 => call_from(number, body, 131 + word(body, 127) as usize, room, out),
         0x22 | 0x31 | 0x43 => call_from(number, body, fixed(number), room, out),
         0x30 => read(body, out),
-        0x01 | 0x02 | 0x03 | 0x04 | 0x05 | 0x06 => plane_call(number, body, out),
-        0x21 | 0x23 | 0x24 => mover_call(number, body, out),
+        0x01 | 0x02 | 0x03 | 0x04 | 0x05 | 0x06 | 0x07 | 0x08 | 0x09 | 0x0a => plane_call(
+            number,
+            body,
+            out,
+        ),
+        0x21 | 0x23 | 0x24 | 0x25 => mover_call(number, body, out),
         0x40 | 0x41 | 0x42 | 0x44 | 0x45 => table_call(number, body, out),
         _ => config_call(number, body, out),
     }

@@ -6,9 +6,9 @@ mod lines; // calls and answers as lines of hexadecimal digits
 mod args; // what a call's bytes stand for
 mod answers; // what an answer's bytes are
 mod calls; // which call a number is
-mod plane_calls; // 01 to 06
+mod plane_calls; // 01 to 0a
 mod config_calls; // 10 to 1f
-mod mover_calls; // 20 to 24
+mod mover_calls; // 20 to 25
 mod record_calls; // 30 and 31
 mod table_calls; // 40 to 45
 

@@ -1,7 +1,8 @@
-// 20 to 24: moves. Every answer starts at byte 1, after the call's number.
+// 20 to 25: moves, and sub-tensors of a lent source. Every answer starts at byte 1, after the call's number.
 use crate::answers;
 use crate::args;
 use crate::calls::no_call;
+use crate::plane_calls::put_sub;
 
 // 20
 pub(crate) fn move_plane(b: &[u8], dst: &mut [u8], out: &mut [u8]) -> usize {
@@ -38,7 +39,18 @@ fn sub_part(b: &[u8], out: &mut [u8]) -> usize {
     )
 }
 
-// 21, 23 and 24
+// 25
+fn sub_tensor(b: &[u8], out: &mut [u8]) -> usize {
+    if b.len() < 71 {
+        return no_call(out, 4);
+    }
+    put_sub(
+        out,
+        mover::sub_tensor(args::tensor(b, 1), args::sub_config(b, 35), &b[71..]),
+    )
+}
+
+// 21 and 23 to 25
 pub(crate) fn mover_call(number: u8, b: &[u8], out: &mut [u8]) -> usize {
     match number {
         0x21 => judge_job(b, out),
@@ -47,6 +59,7 @@ pub(crate) fn mover_call(number: u8, b: &[u8], out: &mut [u8]) -> usize {
             1,
             mover::meets(args::part(b, 1), args::part(b, 17)) as u8,
         ),
-        _ => sub_part(b, out),
+        0x24 => sub_part(b, out),
+        _ => sub_tensor(b, out),
     }
 }

@@ -1,9 +1,12 @@
-// 01 to 06: planes by their numbers. Every answer starts at byte 1, after the call's number.
+// 01 to 0a: planes by their numbers. Every answer starts at byte 1, after the call's number.
 use crate::answers;
 use crate::args;
+use plane::Answer;
+use plane::Config;
 use plane::RoomAnswer;
 use plane::Source;
 use plane::SubTensor;
+use plane::Tensor;
 
 fn put_source(out: &mut [u8], s: Source) -> usize {
     let stride = s.stride;
@@ -17,7 +20,7 @@ fn put_room(out: &mut [u8], r: RoomAnswer) -> usize {
     answers::long(out, p, r.span)
 }
 
-fn put_sub(out: &mut [u8], s: SubTensor) -> usize {
+pub(crate) fn put_sub(out: &mut [u8], s: SubTensor) -> usize {
     let p = answers::byte(out, 1, s.status);
     let p1 = answers::byte(out, p, s.dim);
     let p2 = answers::tensor(out, p1, s.tensor);
@@ -39,6 +42,15 @@ fn judge(b: &[u8], out: &mut [u8]) -> usize {
     answers::answer(out, 1, a)
 }
 
+fn sub_tensor(b: &[u8], out: &mut [u8]) -> usize {
+    let a = plane::sub_tensor(
+        args::tensor(b, 1),
+        args::sub_config(b, 35),
+        args::long(b, 71) as usize,
+    );
+    put_sub(out, a)
+}
+
 pub(crate) fn plane_call(number: u8, b: &[u8], out: &mut [u8]) -> usize {
     match number {
         0x01 => put_source(out, plane::source_of(args::tensor(b, 1))),
@@ -46,13 +58,10 @@ pub(crate) fn plane_call(number: u8, b: &[u8], out: &mut [u8]) -> usize {
         0x03 => judge(b, out),
         0x04 => answers::byte(out, 1, plane::element_size(args::byte(b, 1))),
         0x05 => count(b, out),
-        _ => put_sub(
-            out,
-            plane::sub_tensor(
-                args::tensor(b, 1),
-                args::sub_config(b, 35),
-                args::long(b, 71) as usize,
-            ),
-        ),
+        0x06 => sub_tensor(b, out),
+        0x07 => answers::byte(out, 1, plane::rank_is_bad(args::byte(b, 1)) as u8),
+        0x08 => answers::tensor(out, 1, Tensor::zero()),
+        0x09 => answers::config(out, 1, Config::zero()),
+        _ => answers::answer(out, 1, Answer::refused(args::fault(b, 1))),
     }
 }

@@ -4,19 +4,6 @@ ghost use mathlib.Core.Path.{_≡_};
 ghost use Prim.Native.Nat.{_≤_, min};
 ghost use lib.ListN.{length};
 
-// A refused answer: number and dimension, and zeros.
-pub(crate) fn refused(status: u8, dim: u8) -> Answer {
-    Answer {
-        status,
-        dim,
-        rank: 0,
-        size: 0,
-        extent: [0u32; 4],
-        stride: [0u32; 4],
-        need: 0,
-    }
-}
-
 // An entry after a blank, where its dimension is below the rank.
 fn entry(fd: i32, rank: u8, d: u8, x: u32) {
     if d < rank {

@@ -2,6 +2,7 @@
 use libc::STDIN_FILENO;
 use libc::STDOUT_FILENO;
 use plane::Answer;
+use plane::Fault;
 
 mod lines; // what is printed
 
@@ -9,7 +10,10 @@ mod lines; // what is printed
 fn moved(bytes: &[u8], source: &[u8], room: &mut [u8]) -> Answer {
     let r = record::read(bytes);
     if r.status != 0 {
-        return lines::refused(r.status, r.dim);
+        return Answer::refused(Fault {
+            status: r.status,
+            dim: r.dim,
+        });
     }
     let t = r.tensor;
     let c = r.config;

@@ -12,8 +12,8 @@ use Rattle.plane.specs.Arrays.{at, zeros}
 use Rattle.mover.specs.declared.Part.{Part}
 use Rattle.mover.specs.declared.Job.{Job}
 use Rattle.transfers.specs.declared.Slot.{Slot}
-use Rattle.plane.specs.Settings.{allZero}
-use Rattle.plane.specs.Helpers.{noTensor}
+use Rattle.plane.specs.Settings.{zeroConfig}
+use Rattle.plane.specs.Planes.{zeroTensor}
 use Rattle.transfers.specs.Slots.{zeroPart, zeroJob, freeSlot, isZeroArray, isZeroPart, isZeroTensor, isZeroConfig, isZeroJob, slotSound}
 use Rattle.transfers.proofs.Every.{both-first, both-second, every-at}
 use Rattle.transfers.proofs.Sounds.{zero-sound}
@@ -48,7 +48,7 @@ pub record Fours (j : Job) : Type 0 where
   pub post : length (j .config .post) ≡ 4
 
 module _ (j : Job) (f : Fours j) where
-  no-tensor : isZeroTensor (j .tensor) ≡ true → j .tensor ≡ noTensor
+  no-tensor : isZeroTensor (j .tensor) ≡ true → j .tensor ≡ zeroTensor
   unfolding isZeroTensor
   no-tensor e =
       let t = j .tensor in
@@ -61,7 +61,7 @@ module _ (j : Job) (f : Fours j) where
       let stride = no-entry (t .stride) (f .stride) (both-second (ends && isZeroArray (t .shape)) (isZeroArray (t .stride)) e) in
       λ i. record { rank = rank i; size = size i; shape = shape i; stride = stride i }
 
-  no-config : isZeroConfig (j .config) ≡ true → j .config ≡ allZero
+  no-config : isZeroConfig (j .config) ≡ true → j .config ≡ zeroConfig
   unfolding isZeroConfig
   no-config e =
       let c = j .config in

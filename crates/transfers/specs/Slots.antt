@@ -6,8 +6,8 @@ use lib.Dec.{ltb, leb, eqb}
 use lib.ListN.{getD}
 use Rattle.plane.specs.declared.Tensor.{Tensor}
 use Rattle.plane.specs.declared.Config.{Config}
-use Rattle.plane.specs.Settings.{allZero}
-use Rattle.plane.specs.Helpers.{noTensor}
+use Rattle.plane.specs.Settings.{zeroConfig}
+use Rattle.plane.specs.Planes.{zeroTensor}
 use Rattle.plane.specs.Arrays.{at, table, zeros, some}
 use Rattle.mover.specs.declared.Part.{Part}
 use Rattle.mover.specs.declared.Job.{Job}
@@ -22,7 +22,7 @@ abbrev pub zeroPart : Part
 zeroPart = record { start = 0; length = 0 }
 
 abbrev pub zeroJob : Job
-zeroJob = record { source = zeroPart; destination = zeroPart; tensor = noTensor; config = allZero }
+zeroJob = record { source = zeroPart; destination = zeroPart; tensor = zeroTensor; config = zeroConfig }
 
 -- state 0 is free, 1 prepared, 2 running, 3 done
 abbrev pub freeSlot : Slot

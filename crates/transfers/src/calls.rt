@@ -1,8 +1,13 @@
-// The calls on a table. Each looks at the memory's length and at the table first.
+// The calls on a table: each but fresh and poll looks at the memory's length first, and then whether the table is sound.
 use crate::Changed;
+use crate::DONE;
+use crate::FREE;
 use crate::FreshTable;
+use crate::LIMIT;
+use crate::PREPARED;
 use crate::Poll;
 use crate::Prepared;
+use crate::RUNNING;
 use crate::Slot;
 use crate::Stepped;
 use crate::Table;
@@ -47,7 +52,7 @@ fn call_status(t: Table, n: usize, handle: u32, want: u8) -> u8
     }
     let slot = slot_at(t, handle);
     let state = slot.state;
-    if state == 0 {
+    if state == FREE {
         return 23;
     }
     if state != want {
@@ -76,9 +81,9 @@ fn later(n: usize, slot: Slot, count: u64) -> Slot
     let verdict = mover::judge_job(n, slot.job);
     let mut after = slot;
     after.moved = slot.moved + count;
-    after.state = 2;
+    after.state = RUNNING;
     if after.moved == verdict.total {
-        after.state = 3;
+        after.state = DONE;
     }
     after
 }
@@ -97,7 +102,7 @@ impl Table {
     pub fn fresh(length: u64) -> FreshTable
         ensures { λ r. ⌜ r ≡ freshOf length ⌝ }
     {
-        if 2147483647 < length {
+        if LIMIT < length {
             return FreshTable {
                 status: 17,
                 table: fresh_table(0),
@@ -129,7 +134,7 @@ impl Table {
             return unprepared(self, 22, 0);
         }
         let slot = Slot {
-            state: 1,
+            state: PREPARED,
             job,
             moved: 0,
         };
@@ -145,7 +150,7 @@ impl Table {
     pub fn start(self, mem: &[u8], handle: u32) -> Changed
         ensures { λ r. ⌜ r ≡ startOf self (length (now (mem .entry))) handle ⌝ }
     {
-        let status = call_status(self, mem.len(), handle, 1);
+        let status = call_status(self, mem.len(), handle, PREPARED);
         if status != 0 {
             return Changed {
                 status,
@@ -153,7 +158,7 @@ impl Table {
             };
         }
         let mut slot = slot_at(self, handle);
-        slot.state = 2;
+        slot.state = RUNNING;
         Changed {
             status: 0,
             table: with_slot(self, handle, slot),
@@ -166,7 +171,7 @@ impl Table {
         ensures written { λ r. ⌜ now (mem .exit) ≡ stepMemory self handle budget (now (mem .entry)) ⌝ }
     {
         let n = mem.len();
-        let status = call_status(self, n, handle, 2);
+        let status = call_status(self, n, handle, RUNNING);
         if status != 0 {
             return Stepped {
                 status,
@@ -188,7 +193,7 @@ impl Table {
     pub fn release(self, mem: &[u8], handle: u32) -> Changed
         ensures { λ r. ⌜ r ≡ releaseOf self (length (now (mem .entry))) handle ⌝ }
     {
-        let status = call_status(self, mem.len(), handle, 3);
+        let status = call_status(self, mem.len(), handle, DONE);
         if status != 0 {
             return Changed {
                 status,
@@ -212,14 +217,14 @@ impl Table {
             return Poll::Refused(23);
         }
         let slot = slot_at(self, handle);
-        if slot.state == 0 {
+        if slot.state == FREE {
             return Poll::Free;
         }
         let left = left_of(self.length as usize, slot);
-        if slot.state == 1 {
+        if slot.state == PREPARED {
             return Poll::Prepared(left);
         }
-        if slot.state == 2 {
+        if slot.state == RUNNING {
             return Poll::Running(left);
         }
         Poll::Done

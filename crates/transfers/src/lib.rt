@@ -11,7 +11,19 @@ pub use mover::Job;
 pub use mover::Part;
 pub use mover::Tensor;
 
-// A transfer, or a place for one. State: 0 free, 1 prepared, 2 running, 3 done.
+// The states of a slot.
+pub const FREE: u8 = 0;
+
+pub const PREPARED: u8 = 1;
+
+pub const RUNNING: u8 = 2;
+
+pub const DONE: u8 = 3;
+
+// The longest memory that a table is made for.
+pub const LIMIT: u64 = 2147483647;
+
+// A transfer, or a place for one.
 pub struct Slot {
     pub state: u8,
     pub job: Job,

@@ -1,4 +1,5 @@
 // Slots, and a table with one of them changed.
+use crate::FREE;
 use crate::Slot;
 use crate::Table;
 use mover::Config;
@@ -12,22 +13,8 @@ ghost use Rattle.transfers.specs.Slots.{freeSlot, freshTable, slotAt, wi
 pub(crate) fn free_slot() -> Slot
     ensures { λ r. ⌜ r ≡ freeSlot ⌝ }
 {
-    let tensor = Tensor {
-        rank: 0,
-        size: 0,
-        shape: [0; 4],
-        stride: [0; 4],
-    };
-    let config = Config {
-        offset: [0; 4],
-        size: [0; 4],
-        step: [0; 4],
-        dst_offset: [0; 4],
-        dst_stride: [0; 4],
-        perm: [0; 4],
-        pre: [0; 4],
-        post: [0; 4],
-    };
+    let tensor = Tensor::zero();
+    let config = Config::zero();
     let source = Part {
         start: 0,
         length: 0,
@@ -43,7 +30,7 @@ pub(crate) fn free_slot() -> Slot
         config,
     };
     Slot {
-        state: 0,
+        state: FREE,
         job,
         moved: 0,
     }
@@ -81,7 +68,7 @@ pub(crate) fn lowest_free(t: Table) -> u32
 {
     for handle in 0..4 {
         let slot = slot_at(t, handle);
-        if slot.state == 0 {
+        if slot.state == FREE {
             return handle;
         }
     }

@@ -1,8 +1,13 @@
 // Whether a table is sound.
+use crate::DONE;
+use crate::FREE;
+use crate::LIMIT;
+use crate::PREPARED;
+use crate::RUNNING;
 use crate::Slot;
 use crate::Table;
 use crate::slots::slot_at;
-use crate::zeros::no_job;
+use crate::zeros::is_zero_job;
 use mover::Job;
 use mover::meets;
 ghost use mathlib.Core.Path.{_≡_};
@@ -37,9 +42,9 @@ fn moved_is_right(state: u8, moved: u64, total: u64) -> bool
     ensures { λ r. ⌜ r ≡ movedRight state moved total ⌝ }
 {
     match state {
-        1 => moved == 0,
-        2 => moved < total,
-        3 => moved == total,
+        PREPARED => moved == 0,
+        RUNNING => moved < total,
+        DONE => moved == total,
         _ => false,
     }
 }
@@ -49,8 +54,8 @@ fn slot_is_sound(length: u64, slot: Slot) -> bool
     ensures { λ r. ⌜ r ≡ slotSound length slot ⌝ }
 {
     let job = slot.job;
-    if slot.state == 0 {
-        return no_job(job) & (slot.moved == 0);
+    if slot.state == FREE {
+        return is_zero_job(job) & (slot.moved == 0);
     }
     let verdict = mover::judge_job(length as usize, job);
     if verdict.status != 0 {
@@ -62,7 +67,7 @@ fn slot_is_sound(length: u64, slot: Slot) -> bool
 pub(crate) fn is_sound(t: Table) -> bool
     ensures { λ r. ⌜ r ≡ tableSound t ⌝ }
 {
-    if 2147483647 < t.length {
+    if LIMIT < t.length {
         return false;
     }
     for handle in 0..4 {

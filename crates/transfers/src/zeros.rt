@@ -6,33 +6,33 @@ use mover::Tensor;
 ghost use mathlib.Core.Path.{_≡_};
 ghost use Rattle.transfers.specs.Slots.{isZeroArray, isZeroPart, isZeroTensor, isZeroConfig, isZeroJob};
 
-fn no_number(a: [u32; 4]) -> bool
+fn is_zero_numbers(a: [u32; 4]) -> bool
     ensures { λ r. ⌜ r ≡ isZeroArray a ⌝ }
 {
     (a[0] == 0) & (a[1] == 0) & (a[2] == 0) & (a[3] == 0)
 }
 
-fn no_byte(a: [u8; 4]) -> bool
+fn is_zero_bytes(a: [u8; 4]) -> bool
     ensures { λ r. ⌜ r ≡ isZeroArray a ⌝ }
 {
     (a[0] == 0) & (a[1] == 0) & (a[2] == 0) & (a[3] == 0)
 }
 
-fn no_part(p: Part) -> bool
+fn is_zero_part(p: Part) -> bool
     ensures { λ r. ⌜ r ≡ isZeroPart p ⌝ }
 {
     (p.start == 0) & (p.length == 0)
 }
 
-fn no_tensor(t: Tensor) -> bool
+fn is_zero_tensor(t: Tensor) -> bool
     ensures { λ r. ⌜ r ≡ isZeroTensor t ⌝ }
 {
     let shape = t.shape;
     let stride = t.stride;
-    (t.rank == 0) & (t.size == 0) & no_number(shape) & no_number(stride)
+    (t.rank == 0) & (t.size == 0) & is_zero_numbers(shape) & is_zero_numbers(stride)
 }
 
-fn no_config(c: Config) -> bool
+fn is_zero_config(c: Config) -> bool
     ensures { λ r. ⌜ r ≡ isZeroConfig c ⌝ }
 {
     let offset = c.offset;
@@ -43,18 +43,21 @@ fn no_config(c: Config) -> bool
     let perm = c.perm;
     let pre = c.pre;
     let post = c.post;
-    no_number(offset)
-        & no_number(size)
-        & no_number(step)
-        & no_number(dst_offset)
-        & no_number(dst_stride)
-        & no_byte(perm)
-        & no_byte(pre)
-        & no_byte(post)
+    is_zero_numbers(offset)
+        & is_zero_numbers(size)
+        & is_zero_numbers(step)
+        & is_zero_numbers(dst_offset)
+        & is_zero_numbers(dst_stride)
+        & is_zero_bytes(perm)
+        & is_zero_bytes(pre)
+        & is_zero_bytes(post)
 }
 
-pub(crate) fn no_job(j: Job) -> bool
+pub(crate) fn is_zero_job(j: Job) -> bool
     ensures { λ r. ⌜ r ≡ isZeroJob j ⌝ }
 {
-    no_part(j.source) & no_part(j.destination) & no_tensor(j.tensor) & no_config(j.config)
+    is_zero_part(j.source)
+        & is_zero_part(j.destination)
+        & is_zero_tensor(j.tensor)
+        & is_zero_config(j.config)
 }

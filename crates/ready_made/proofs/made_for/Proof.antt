@@ -8,7 +8,7 @@ use Rattle.ready_made.proofs.made_for.Tie as tie
 
 returns : tie.Need-returns
 unfolding madeFor
-returns c = simp (c .all-zero .ensures, sym (c .before .before .rank-is-bad .ensures) ∙ c .before .if1 .taken)
+returns c = simp (c .zero .ensures, sym (c .before .before .rank-is-bad .ensures) ∙ c .before .if1 .taken)
 
 cut-to-requires : tie.Need-cut-to-requires
 cut-to-requires c κs = in-range _ 1 4 (sym (c .before .rank-is-bad .ensures) ∙ c .if1 .left) .1

@@ -8,7 +8,7 @@ returns : tie.Need-returns
 returns c =
     let i = c .before .before in
     let a = i .before .before .before .args in
-    rw (c .before .no-job .ensures) (zero-sound (a .length) (a .slot) (i .if1 .taken))
+    rw (c .before .is-zero-job .ensures) (zero-sound (a .length) (a .slot) (i .if1 .taken))
 
 returns-2 : tie.Need-returns-2
 returns-2 c =
