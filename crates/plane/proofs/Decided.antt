@@ -1,6 +1,7 @@
 -- Each public call asks nothing of its caller, and no two differing outcomes satisfy its contract. `Pre` and `Post` are the
 -- contract of the call as the checker reads it off the source. Assumes nothing.
-use mathlib.Core.Path.{_≡_, sym, _∙_}
+use mathlib.Core.Path.{sym, _∙_}
+use Rattle.plane.specs.Decided.{Decided}
 use Rattle.plane.proofs.verdict.room.Reads as room
 use Rattle.plane.proofs.verdict.judge.Reads as judge
 use Rattle.plane.proofs.tensors.source_of.Reads as source-of
@@ -16,11 +17,6 @@ use Rattle.plane.proofs.Config.with_dst_stride.Reads as with-dst-stride
 use Rattle.plane.proofs.Config.with_perm.Reads as with-perm
 use Rattle.plane.proofs.Config.with_pre.Reads as with-pre
 use Rattle.plane.proofs.Config.with_post.Reads as with-post
-
--- for all lifetimes κ and arguments a: what is asked holds, and two results that the contract allows are one
-pub record Decided {K : Type 0} {A R E : K → Type 0} (pre : (κ : K) → A κ → Type 0) (post : (κ : K) → A κ → R κ → E κ → Type 0) : Type 0 where
-  pub free : (κ : K) (a : A κ) → pre κ a
-  pub one : (κ : K) (a : A κ) (x y : R κ) (s t : E κ) → post κ a x s → post κ a y t → x ≡ y
 
 pub room-decided : Decided room.Pre room.Post
 room-decided = record { free = λ κ a. tt; one = λ κ a x y s t p q. p ∙ sym q }

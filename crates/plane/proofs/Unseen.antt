@@ -14,37 +14,15 @@ use Rattle.plane.specs.declared.Fault.{Fault}
 use Rattle.plane.specs.declared.SubTensor.{SubTensor}
 use Rattle.plane.specs.Arrays.{at, or0}
 use Rattle.plane.specs.Faults.{when, _orElse_, lowest, unless}
-use Rattle.plane.specs.Planes.{badRank, badShape, badStride, shapeAt, strideAt, inner, resolved, strideBad, strides, srcStrides, span, sourceFault}
+use Rattle.plane.specs.Planes.{badShape, badStride, shapeAt, strideAt, inner, resolved, strideBad, strides, srcStrides, span, sourceFault}
 use Rattle.plane.specs.Moves.{upward, count, extent, dstExtents, dstStrides, need, permBad, badOffset, badStep, badExtent, badDstOffset, configFault, placeFault, moveFault, roomFault, accepted, answerOf, judgeOf, roomOf}
 use Rattle.plane.specs.Helpers.{elements, countFault, countAnswer, countOf, isUnit, staying, subDim, rankFault, subFault, subOf, subByte, noSub, subAnswer, subTensorOf}
+use Rattle.plane.specs.Unseen.{SameTensor, SameConfig, SameSub}
 use Rattle.plane.proofs.Arrays.{firsts-same, sum-same, product-same, howMany-same, some-same}
 use Rattle.plane.proofs.Faults.{status, or-path, or-found, or-clear, lowest-same, outward-same, unless-fault, unless-none}
 use Rattle.plane.proofs.Good.{config-good}
 use Rattle.plane.proofs.Rules.{answer-refused, answer-given}
 use Rattle.plane.proofs.SubTensors.{sub-good, subDim-below}
-
--- ---- what agrees below the rank
-
-pub record SameTensor (t t′ : Tensor) : Type 0 where
-  pub rank : t .rank ≡ t′ .rank
-  pub size : t .size ≡ t′ .size
-  pub shape : (d : ℕ) → d < t .rank → at (t .shape) d ≡ at (t′ .shape) d
-  pub stride : (d : ℕ) → d < t .rank → at (t .stride) d ≡ at (t′ .stride) d
-
-pub record SameConfig (n : ℕ) (c c′ : Config) : Type 0 where
-  pub offset : (d : ℕ) → d < n → at (c .offset) d ≡ at (c′ .offset) d
-  pub size : (d : ℕ) → d < n → at (c .size) d ≡ at (c′ .size) d
-  pub step : (d : ℕ) → d < n → at (c .step) d ≡ at (c′ .step) d
-  pub dst-offset : (d : ℕ) → d < n → at (c .«dst_offset») d ≡ at (c′ .«dst_offset») d
-  pub dst-stride : (d : ℕ) → d < n → at (c .«dst_stride») d ≡ at (c′ .«dst_stride») d
-  pub perm : (d : ℕ) → d < n → at (c .perm) d ≡ at (c′ .perm) d
-  pub pre : (d : ℕ) → d < n → at (c .pre) d ≡ at (c′ .pre) d
-  pub post : (d : ℕ) → d < n → at (c .post) d ≡ at (c′ .post) d
-
-pub record SameSub (n : ℕ) (s s′ : SubConfig) : Type 0 where
-  pub offset : (d : ℕ) → d < n → at (s .offset) d ≡ at (s′ .offset) d
-  pub size : (d : ℕ) → d < n → at (s .size) d ≡ at (s′ .size) d
-  pub rank : s .rank ≡ s′ .rank
 
 -- ---- strides
 

@@ -1,6 +1,6 @@
 -- Each public call asks nothing of its caller, and no two differing outcomes satisfy its contract. Assumes nothing.
-use mathlib.Core.Path.{_≡_, sym, _∙_}
-use Rattle.plane.proofs.Decided.{Decided}
+use mathlib.Core.Path.{sym, _∙_}
+use Rattle.plane.specs.Decided.{Decided}
 use Rattle.ready_made.proofs.copy.Reads as copy
 use Rattle.ready_made.proofs.slice.Reads as slice
 use Rattle.ready_made.proofs.concatenate.Reads as concatenate

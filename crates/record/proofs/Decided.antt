@@ -4,7 +4,7 @@ use Prim.Native.Nat.{ℕ}
 use mathlib.Core.Path.{_≡_, sym, _∙_}
 use mathlib.Core.List.{List}
 use denote.Ref.{now}
-use Rattle.plane.proofs.Decided.{Decided}
+use Rattle.plane.specs.Decided.{Decided}
 use Rattle.record.proofs.reader.read.Reads as read
 use Rattle.record.proofs.writer.write.Reads as write
 

@@ -8,14 +8,15 @@ use mathlib.Core.Bool.{Bool, true, false, _||_, not, true≢false}
 use mathlib.Core.List.{List, [], _∷_, _++_}
 use borrow.Author.Tests.{eq-eqb, eqb-false}
 use lib.Dec.{ltb, eqb}
+use Rattle.plane.specs.Exactness.{Rule, whole, Given, Exact}
 use Rattle.plane.proofs.Bools.{either-clear}
-use Rattle.plane.proofs.Chains.{Rule, whole, Given, Exact}
 use Rattle.mover.specs.declared.Job.{Job}
 use Rattle.transfers.specs.declared.Table.{Table}
 use Rattle.transfers.specs.Slots.{freshTable, limit}
 use Rattle.transfers.specs.Calls.{prepareOf, startOf, releaseOf, stepOf, pollOf, pollStatus}
+use Rattle.transfers.specs.Orders.{openRules}
 use Rattle.transfers.proofs.Keeps.{Kept, free-table, prepare-keeps, start-keeps, step-keeps, release-keeps}
-use Rattle.transfers.proofs.Exact.{openRules, prepare-exact, start-exact, step-exact, release-exact, poll-exact}
+use Rattle.transfers.proofs.Exact.{prepare-exact, start-exact, step-exact, release-exact, poll-exact}
 
 -- the tables that a caller can come to hold who starts with a fresh one for n bytes, whatever memories and jobs he then hands in
 pub data Run (n : ℕ) : Table → Type 0 where
