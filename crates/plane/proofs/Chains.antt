@@ -5,11 +5,14 @@ use native.Mathlib.Nat.{not-suc-le-zero, le-of-suc-le-suc, eq-or-lt-of-le}
 use native.Mathlib.Omega.{arith}
 use mathlib.Core.Path.{_≡_, refl, sym, ap, subst, _∙_}
 use mathlib.Core.Logic.{_⊎_, inl, inr, ⊎-elim}
-use mathlib.Core.Bool.{Bool, true, false}
+use mathlib.Core.Bool.{Bool, true, false, _||_}
 use mathlib.Core.List.{List, [], _∷_, _++_}
+use borrow.Author.Tests.{eqb-false}
+use lib.Dec.{eqb}
 use Rattle.plane.specs.declared.Fault.{Fault}
 use Rattle.plane.specs.Faults.{none, fault, when, _orElse_, first, lowest, outward}
 use Rattle.plane.specs.Exactness.{Way, up, out, Rule, whole, Earlier, Kept, BrokenAt, AllKept, Given, Exact}
+use Rattle.plane.proofs.Bools.{either-clear}
 use Rattle.plane.proofs.Faults.{status, is-fault, or-none, or-found, or-path, or-assoc, first-at, first-zero, when-bad, when-good, when-zero}
 
 -- ---- one rule: kept or broken, and what it gives
@@ -169,12 +172,13 @@ pub one-chain : (num : ℕ) (b : Bool) → 0 < num → when num 0 b ≡ chain (w
 unfolding chain
 one-chain num b p = whole-is num b ∙ sym (or-last (whole num b) p)
 
--- a number that no rule of the list has is never given
-abbrev pub Without : ℕ → List Rule → Type 0
-Without num [] = Unit
-Without num (r ∷ rs) = (num ≡ r .number → ⊥) × Without num rs
+-- whether a rule of the list has the number
+abbrev pub has : ℕ → List Rule → Bool
+has num [] = false
+has num (r ∷ rs) = eqb num (r .number) || has num rs
 
-pub never-given : (rs : List Rule) (num d : ℕ) → Without num rs → Given rs num d → ⊥
-never-given [] num d w g = g
-never-given (r ∷ rs) num d w (inl g) = w .0 (g .0)
-never-given (r ∷ rs) num d w (inr g) = never-given rs num d (w .1) (g .1)
+-- a number that no rule of the list has is never given
+pub never-given : (rs : List Rule) (num d : ℕ) → has num rs ≡ false → Given rs num d → ⊥
+never-given [] num d e g = g
+never-given (r ∷ rs) num d e (inl g) = eqb-false num (r .number) (either-clear _ (has num rs) e .0) (g .0)
+never-given (r ∷ rs) num d e (inr g) = never-given rs num d (either-clear (eqb num (r .number)) _ e .1) (g .1)

@@ -7,8 +7,8 @@ use Rattle.plane.specs.declared.Tensor.{Tensor}
 use Rattle.plane.specs.declared.Config.{Config}
 use Rattle.plane.specs.declared.SubConfig.{SubConfig}
 use Rattle.plane.specs.Arrays.{at, howMany}
-use Rattle.plane.specs.Planes.{badRank, badElement, badShape, shapeAt, strideAt, strideBad, span}
-use Rattle.plane.specs.Moves.{extent, dstExtents, dstStrides, need, permBad, badOffset, badSize, badStep, badExtent, badDstOffset}
+use Rattle.plane.specs.Planes.{badRank, badElement, badShape, shapeAt, strideAt, badStrideAt, span}
+use Rattle.plane.specs.Moves.{extent, dstExtents, dstStrides, need, badPermAt, badOffset, badSize, badStep, badExtent, badDstOffset}
 use Rattle.plane.specs.Helpers.{elements, isUnit, excess, badSubSize}
 use Rattle.plane.specs.Exactness.{Rule, whole, fromFirst, fromLast}
 
@@ -18,13 +18,13 @@ sourceRules t =
     whole 1 (badRank (t .rank)) ∷
     whole 2 (badElement (t .size)) ∷
     fromFirst 3 (t .rank) (λ d. badShape (shapeAt t d)) ∷
-    fromLast 4 (t .rank) (strideBad (t .rank) (shapeAt t) (strideAt t)) ∷
+    fromLast 4 (t .rank) (badStrideAt (t .rank) (shapeAt t) (strideAt t)) ∷
     []
 
 -- 6 to 10
 abbrev pub configRules : Tensor → Config → List Rule
 configRules t c =
-    fromFirst 6 (t .rank) (permBad (t .rank) (at (c .perm))) ∷
+    fromFirst 6 (t .rank) (badPermAt (t .rank) (at (c .perm))) ∷
     fromFirst 7 (t .rank) (λ d. badOffset (shapeAt t d) (at (c .offset) d)) ∷
     fromFirst 8 (t .rank) (λ d. badSize (shapeAt t d) (at (c .offset) d) (at (c .size) d)) ∷
     fromFirst 9 (t .rank) (λ d. badStep (at (c .step) d)) ∷
@@ -34,7 +34,7 @@ configRules t c =
 -- 11 and 12
 abbrev pub placeRules : Tensor → Config → List Rule
 placeRules t c =
-    fromLast 11 (t .rank) (strideBad (t .rank) (at (dstExtents t c)) (at (c .«dst_stride»))) ∷
+    fromLast 11 (t .rank) (badStrideAt (t .rank) (at (dstExtents t c)) (at (c .«dst_stride»))) ∷
     fromFirst 12 (t .rank) (λ i. badDstOffset (at (dstStrides t c) i) (at (c .«dst_offset») i)) ∷
     []
 

@@ -1,7 +1,7 @@
 -- `transfers::zeros::no_byte` tells whether four bytes are zero. Assumes nothing.
 use borrow.Author.Needs.{needs}
 use mathlib.Core.Path.{refl}
-use Rattle.mover.specs.Element.{every}
+use Rattle.plane.specs.Arrays.{every}
 use Rattle.transfers.proofs.zeros.no_byte.Statement.{statement}
 use Rattle.transfers.proofs.zeros.no_byte.Tie as tie
 
