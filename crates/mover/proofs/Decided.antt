@@ -1,9 +1,8 @@
 -- Each public call asks nothing of its caller, and no two differing outcomes satisfy its contract: neither two answers nor two
 -- memories. `Pre` and `Post` are the contract as the checker reads it off the source. Assumes nothing.
-use Prim.Native.Nat.{ℕ}
-use mathlib.Core.Path.{_≡_, sym, _∙_}
-use mathlib.Core.List.{List}
-use Rattle.plane.proofs.Decided.{Decided}
+use mathlib.Core.Path.{sym, _∙_}
+use Rattle.plane.specs.Decided.{Decided, OneBytes}
+use Rattle.plane.proofs.Decided.{by-equation, by-first}
 use Rattle.mover.proofs.moves.move_plane.Reads as move-plane
 use Rattle.mover.proofs.within.judge_job.Reads as judge-job
 use Rattle.mover.proofs.within.meets.Reads as meets
@@ -11,25 +10,21 @@ use Rattle.mover.proofs.within.advance.Reads as advance
 use Rattle.mover.proofs.sub.sub_tensor.Reads as sub-tensor
 use Rattle.mover.proofs.sub.sub_part.Reads as sub-part
 
--- bytes that are read off the result or off what was lent, at the exit: two outcomes that the contract allows have the same
-pub record OneBytes {K : Type 0} {A R E : K → Type 0} (post : (κ : K) → A κ → R κ → E κ → Type 0) (bytes : (κ : K) → R κ → E κ → List ℕ) : Type 0 where
-  pub one : (κ : K) (a : A κ) (x y : R κ) (s t : E κ) → post κ a x s → post κ a y t → bytes κ x s ≡ bytes κ y t
-
 pub meets-decided : Decided meets.Pre meets.Post
-meets-decided = record { free = λ κ a. tt; one = λ κ a x y s t p q. p ∙ sym q }
+meets-decided = by-equation
 
 pub judge-job-decided : Decided judge-job.Pre judge-job.Post
-judge-job-decided = record { free = λ κ a. tt; one = λ κ a x y s t p q. p ∙ sym q }
+judge-job-decided = by-equation
 
 pub move-plane-decided : Decided move-plane.Pre move-plane.Post
-move-plane-decided = record { free = λ κ a. tt; one = λ κ a x y s t p q. p .0 ∙ sym (q .0) }
+move-plane-decided = by-first
 
 -- the destination
 pub move-plane-memory : OneBytes move-plane.Post (λ κ r s. s .1 .1 .1 .0 .now)
 move-plane-memory = record { one = λ κ a x y s t p q. p .1 ∙ sym (q .1) }
 
 pub advance-decided : Decided advance.Pre advance.Post
-advance-decided = record { free = λ κ a. tt; one = λ κ a x y s t p q. p .0 ∙ sym (q .0) }
+advance-decided = by-first
 
 -- the memory
 pub advance-memory : OneBytes advance.Post (λ κ r s. s .0 .now)

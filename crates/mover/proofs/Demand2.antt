@@ -15,11 +15,12 @@ use Rattle.plane.specs.declared.Config.{Config}
 use Rattle.plane.specs.Arrays.{at}
 use Rattle.plane.specs.Planes.{span}
 use Rattle.plane.specs.Moves.{count, judgeOf}
+use Rattle.plane.proofs.Arrays.{every-all, every-each, every-fails}
 use Rattle.plane.proofs.Good.{GoodConfig, GoodMove}
 use Rattle.mover.specs.Element.{dimOf, kOf, isKept, areKept, sourcePlace, place, element}
 use Rattle.mover.specs.Moved.{extentAt, total, coordOf, moved, moveMemory}
 use Rattle.mover.proofs.Laws.{judged, judged-good, moved-length, moved-whole, moved-refused}
-use Rattle.mover.proofs.Keeping.{every-all, every-each, every-fails, range-test, test-range, place-same, element-same}
+use Rattle.mover.proofs.Keeping.{range-test, test-range, place-same, element-same}
 use Rattle.mover.proofs.Fitting.{home-fits, place-fits}
 use Rattle.mover.proofs.Spacing.{numberAt, numberAt-lt, numberAt-coord, extent-some, bytes-rise, bytes-apart}
 use Rattle.mover.proofs.Stored.{moved-elsewhere, moved-element}

@@ -5,17 +5,14 @@ use mathlib.Core.Path.{_≡_, refl}
 use mathlib.Core.Bool.{_||_}
 use mathlib.Core.List.{List, [], _∷_, _++_}
 use lib.ListN.{length}
+use Rattle.plane.specs.Exactness.{whole, Exact}
+use Rattle.plane.specs.Orders.{moveRules}
 use Rattle.plane.proofs.Faults.{unless-fault}
-use Rattle.plane.proofs.Chains.{Rule, whole, Positive, chain, Exact, exact, join, one-chain}
-use Rattle.plane.proofs.Exact.{moveRules, move-chain}
+use Rattle.plane.proofs.Chains.{Positive, chain, exact, join, one-chain}
+use Rattle.plane.proofs.Exact.{move-chain}
 use Rattle.mover.specs.declared.Job.{Job}
 use Rattle.mover.specs.Within.{leaves, meets, jobFault, totalOf, verdictOf, advance, advanceOf}
-
-abbrev pub jobRules : ℕ → Job → List Rule
-jobRules n j =
-    whole 20 (leaves n (j .source) || leaves n (j .destination)) ∷
-    moveRules (j .tensor) (j .config) (j .source .length) (j .destination .length) ++
-    (whole 21 (meets (j .source) (j .destination)) ∷ [])
+use Rattle.mover.specs.Orders.{jobRules}
 
 pub positive-job : (n : ℕ) (j : Job) → Positive (jobRules n j)
 positive-job n j = omega arith

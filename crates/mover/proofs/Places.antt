@@ -1,5 +1,5 @@
 -- Where elements stand: every place is within the bounds that the checks worked out. Assumes nothing.
-use mathlib.Core.Path.{_≡_, refl, sym, _∙_}
+use mathlib.Core.Path.{_≡_, sym, _∙_}
 use mathlib.Core.Logic.{⊎-elim, inl, inr}
 use mathlib.Core.Bool.{Bool, true, false, _&&_}
 use mathlib.Core.List.{List}
@@ -10,6 +10,7 @@ use borrow.Author.Tests.{leb-true, ltb-true}
 use lib.ListN.{length, take, drop, replicate}
 use lib.Seq.{sets}
 use lib.Dec.{leb, ltb}
+use Rattle.plane.proofs.Bools.{both-first, both-second}
 use Rattle.mover.specs.declared.plan.Axis.{Axis}
 use Rattle.mover.specs.declared.plan.Plan.{Plan}
 use Rattle.mover.specs.declared.engine.Origin.{Origin}
@@ -32,14 +33,6 @@ pub spot-least : (b z k0 t0 k1 t1 k2 t2 k3 t3 : ℕ) → b ≤ spotOf b z k0 t0 
 unfolding spotOf
 spot-least b z k0 t0 k1 t1 k2 t2 k3 t3 = omega arith
 
-both-left : (a b : Bool) → (a && b) ≡ true → a ≡ true
-both-left true b h = refl
-both-left false b h = h
-
-both-right : (a b : Bool) → (a && b) ≡ true → b ≡ true
-both-right true b h = h
-both-right false b h = let z : _≡_ {A = ℕ} 0 1 = cc in absurd (omega arith)
-
 -- a coordinate that is kept
 pub record Kept (x : Axis) (c : ℕ) : Type 0 where
   pub past : x .pre ≤ c
@@ -48,8 +41,8 @@ pub record Kept (x : Axis) (c : ℕ) : Type 0 where
 pub kept-of : (x : Axis) (c : ℕ) → axisKept x c ≡ true → Kept x c
 unfolding axisKept
 kept-of x c h =
-    let a = leb-true (x .pre) c (both-left (leb (x .pre) c) (ltb (c - x .pre) (x .count)) h) in
-    let b = ltb-true (c - x .pre) (x .count) (both-right (leb (x .pre) c) (ltb (c - x .pre) (x .count)) h) in
+    let a = leb-true (x .pre) c (both-first (leb (x .pre) c) (ltb (c - x .pre) (x .count)) h) in
+    let b = ltb-true (c - x .pre) (x .count) (both-second (leb (x .pre) c) (ltb (c - x .pre) (x .count)) h) in
     record { past = a; most = omega arith }
 
 pub record AllKept (p : Plan) (c0 c1 c2 c3 : ℕ) : Type 0 where
@@ -66,13 +59,13 @@ module _ (p : Plan) (c0 c1 c2 c3 : ℕ) where
       let b1 = axisKept (p .d1) c1 in
       let b2 = axisKept (p .d2) c2 in
       let b3 = axisKept (p .d3) c3 in
-      let l2 = both-left (b0 && b1 && b2) b3 h in
-      let l1 = both-left (b0 && b1) b2 l2 in
+      let l2 = both-first (b0 && b1 && b2) b3 h in
+      let l1 = both-first (b0 && b1) b2 l2 in
       record {
-        k0 = kept-of (p .d0) c0 (both-left b0 b1 l1);
-        k1 = kept-of (p .d1) c1 (both-right b0 b1 l1);
-        k2 = kept-of (p .d2) c2 (both-right (b0 && b1) b2 l2);
-        k3 = kept-of (p .d3) c3 (both-right (b0 && b1 && b2) b3 h);
+        k0 = kept-of (p .d0) c0 (both-first b0 b1 l1);
+        k1 = kept-of (p .d1) c1 (both-second b0 b1 l1);
+        k2 = kept-of (p .d2) c2 (both-second (b0 && b1) b2 l2);
+        k3 = kept-of (p .d3) c3 (both-second (b0 && b1 && b2) b3 h);
       }
 
   -- a test that says so

@@ -12,7 +12,7 @@ use lib.Dec.{ltb}
 use lib.ListN.{length}
 use Rattle.plane.specs.declared.Tensor.{Tensor}
 use Rattle.plane.specs.declared.Config.{Config}
-use Rattle.plane.specs.Arrays.{at, sum, product}
+use Rattle.plane.specs.Arrays.{at, sum, product, every}
 use Rattle.plane.specs.Planes.{srcStrides, span}
 use Rattle.plane.specs.Moves.{count, dstExtents, dstStrides, need}
 use Rattle.plane.proofs.Good.{GoodSource, GoodConfig}
@@ -21,7 +21,7 @@ use Rattle.plane.proofs.Bounds.{element-small}
 use Rattle.mover.specs.declared.engine.Origin.the-variants.{Lent}
 use Rattle.mover.specs.declared.plan.Axis.{Axis}
 use Rattle.mover.specs.declared.plan.Plan.{Plan}
-use Rattle.mover.specs.Element.{dimOf, kOf, every, isKept, areKept, sourcePlace, place, element}
+use Rattle.mover.specs.Element.{dimOf, kOf, isKept, areKept, sourcePlace, place, element}
 use Rattle.mover.specs.Moved.{extentAt, total, perStep, coordOf, stored, moved}
 use Rattle.mover.specs.Private.{axisOf, lone, planOf, axisKept, planKept, spotOf, placeOf, homeOf, planBytes, putAt, planTotal, co0, co1, co2, co3, putNumber, movedBy, homeEnd, placeEnd, Ready}
 use Rattle.mover.proofs.Numbers.{digit}

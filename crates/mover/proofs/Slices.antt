@@ -15,21 +15,20 @@ use Rattle.plane.specs.declared.Tensor.{Tensor}
 use Rattle.plane.specs.declared.Config.{Config}
 use Rattle.plane.specs.declared.SubConfig.{SubConfig}
 use Rattle.plane.specs.declared.SubTensor.{SubTensor}
-use Rattle.plane.specs.Arrays.{at, table, firsts, zeros, sum, product, howMany}
+use Rattle.plane.specs.Arrays.{at, table, firsts, zeros, sum, product, howMany, every}
 use Rattle.plane.specs.Planes.{shapeAt, strides, srcStrides}
 use Rattle.plane.specs.Moves.{taken, count, extent, dstExtents, dstStrides, need, judgeOf}
 use Rattle.plane.specs.Settings.{withOffset, withSize, withDstStride}
 use Rattle.ready_made.specs.ReadyMade.{defaults, cutTo, madeFor, copyOf, sliceOf}
 use Rattle.plane.specs.Helpers.{staying, isUnit, subDim, subFault, noSub, subAnswer, subTensorOf, subOf, subByte}
-use Rattle.plane.proofs.Arrays.{table-at, zeros-at, firsts-at, firsts-same, sum-same}
+use Rattle.plane.proofs.Arrays.{table-at, zeros-at, firsts-at, firsts-same, sum-same, every-same}
 use Rattle.plane.proofs.Good.{GoodStrides, GoodConfig, GoodPlace, GoodMove, move-clear}
 use Rattle.plane.proofs.Faults.{unless-none}
 use Rattle.plane.proofs.Staying.{kept, kept-length, kept-last, kept-before}
 use Rattle.plane.proofs.SubTensors.{GoodSub, sub-clear, sub-told, sub-shape, sub-stride, sub-resolved, sub-source, sub-within}
-use Rattle.mover.specs.Element.{every, isKept, areKept, sourcePlace, place, element}
+use Rattle.mover.specs.Element.{isKept, areKept, sourcePlace, place, element}
 use Rattle.mover.specs.Moved.{total, perStep, coordOf, stored, moved, moveMemory}
 use Rattle.mover.proofs.Sums.{sum-joined}
-use Rattle.mover.proofs.Keeping.{every-same}
 use Rattle.mover.proofs.Laws.{judged, judged-good, moved-whole, moved-refused}
 
 -- ---- moves that are alike

@@ -1,19 +1,14 @@
 -- One destination element: the coordinates are a function x of the destination dimension i, which is source dimension perm i.
-use Prim.Native.Nat.{ℕ, zero, suc, _+_, _-_, _*_}
-use mathlib.Core.Bool.{Bool, true, cond, _&&_}
+use Prim.Native.Nat.{ℕ, _+_, _-_, _*_}
+use mathlib.Core.Bool.{Bool, cond, _&&_}
 use mathlib.Core.List.{List}
 use lib.Dec.{leb, ltb}
 use lib.ListN.{take, drop, replicate}
 use Rattle.plane.specs.declared.Tensor.{Tensor}
 use Rattle.plane.specs.declared.Config.{Config}
-use Rattle.plane.specs.Arrays.{at, sum}
+use Rattle.plane.specs.Arrays.{at, sum, every}
 use Rattle.plane.specs.Planes.{srcStrides}
 use Rattle.plane.specs.Moves.{count, dstStrides}
-
--- whether p holds of each of 0, 1, .., n - 1
-unfoldable pub every : ℕ → (ℕ → Bool) → Bool
-every zero p = true
-every (suc k) p = every k p && p k
 
 abbrev pub dimOf : Config → ℕ → ℕ
 dimOf c i = at (c .perm) i

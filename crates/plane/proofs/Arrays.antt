@@ -1,18 +1,18 @@
 -- Laws of arrays, sums and products over the dimensions (`specs/Arrays.antt`), and of a loop that fills an array. Assumes nothing.
-use Prim.Native.Nat.{ℕ, zero, suc, _+_, _-_, _*_, _≤_, _<_}
+use Prim.Native.Nat.{ℕ, zero, suc, _+_, _*_, _≤_, _<_}
 use native.Mathlib.Nat.{suc-mul, not-suc-le-zero, le-of-suc-le-suc, eq-or-lt-of-le}
 use native.Mathlib.Numerals.{add-one}
 use native.Mathlib.Decide.{ℕ-discrete, decLt}
 use native.Mathlib.Omega.{arith}
 use mathlib.Core.Path.{_≡_, refl, sym, ap, ap₂, subst, _∙_}
 use mathlib.Core.Logic.{⊎-elim}
-use mathlib.Core.Bool.{Bool, true, false, cond, _||_}
+use mathlib.Core.Bool.{Bool, true, false, cond, _||_, _&&_, true≢false}
 use mathlib.Core.List.{List, [], _∷_}
 use borrow.Author.Tests.{lt-ltb, le-ltb}
 use lib.ListN.{getD, set, length, length-set}
 use lib.Seq.{ext-getD, getD-set-same, getD-set-other}
-use Rattle.plane.specs.Arrays.{at, below, table, firsts, zeros, sum, product, some, howMany}
-use Rattle.plane.proofs.Bools.{either-clear, either-first, either-second, neither}
+use Rattle.plane.specs.Arrays.{at, below, table, firsts, zeros, sum, product, some, every, howMany}
+use Rattle.plane.proofs.Bools.{either-clear, either-first, either-second, neither, both-first, both-second, both, not-first, not-second}
 
 -- ---- four entries
 
@@ -179,3 +179,55 @@ some-found (suc n) k p h b =
 
 pub some-end : (n j : ℕ) (p : ℕ → Bool) → some j p ≡ false → j ≤ n → n ≤ j → false ≡ some n p
 some-end n j p e h l = let q : j ≡ n = omega arith in sym (subst (λ (k : ℕ). some k p ≡ false) q e)
+
+pub every-same : (n : ℕ) (p q : ℕ → Bool) → ((k : ℕ) → k < n → p k ≡ q k) → every n p ≡ every n q
+unfolding every
+every-same zero p q h = refl
+every-same (suc n) p q h = ap₂ (λ (a b : Bool). a && b) (every-same n p q (λ k r. h k (omega arith))) (h n (omega arith))
+
+-- a test holds of every number below n exactly if of each
+module _ (p : ℕ → Bool) where
+  pub every-all : (n : ℕ) → ((k : ℕ) → k < n → p k ≡ true) → every n p ≡ true
+  unfolding every
+  every-all zero h = refl
+  every-all (suc n) h = both (every n p) (p n) (every-all n (λ k q. h k (omega arith))) (h n (omega arith))
+
+  pub every-each : (n : ℕ) → every n p ≡ true → (k : ℕ) → k < n → p k ≡ true
+  unfolding every
+  every-each zero e k h = absurd (not-suc-le-zero h)
+  every-each (suc n) e k h =
+      ⊎-elim
+      (λ q. subst (λ (m : ℕ). p m ≡ true) (sym q) (both-second (every n p) (p n) e))
+      (λ q. every-each n (both-first (every n p) (p n) e) k q)
+      (eq-or-lt-of-le (le-of-suc-le-suc h))
+
+  -- and fails exactly if of one
+  pub every-missed : (n k : ℕ) → k < n → p k ≡ false → every n p ≡ false
+  unfolding every
+  every-missed zero k h b = absurd (not-suc-le-zero h)
+  every-missed (suc n) k h b =
+      ⊎-elim
+      (λ q. not-second (every n p) (p n) (subst (λ (m : ℕ). p m ≡ false) q b))
+      (λ q. not-first (every n p) (p n) (every-missed n k q b))
+      (eq-or-lt-of-le (le-of-suc-le-suc h))
+
+  pub every-fails : (n : ℕ) → every n p ≡ false → (k : ℕ) × (k < n) × (p k ≡ false)
+  unfolding every
+  every-fails zero e = absurd (true≢false e)
+  every-fails (suc n) e = by-test (every n p) refl (every-fails n)
+    where
+      by-test : (b : Bool) → every n p ≡ b → (every n p ≡ false → (k : ℕ) × (k < n) × (p k ≡ false)) → (k : ℕ) × (k < suc n) × (p k ≡ false)
+      by-test true w f = (n, omega arith, rw w at e)
+      by-test false w f = let r = f w in (r .0, omega arith, r .2)
+
+  -- a loop that looks for one that fails
+  pub every-start : every 0 p ≡ true
+  unfolding every
+  every-start = refl
+
+  pub every-more : (n : ℕ) → every n p ≡ true → p n ≡ true → every (n + 1) p ≡ true
+  unfolding every
+  every-more n e b = ap (λ (k : ℕ). every k p) (add-one n) ∙ simp (e, b)
+
+  pub every-end : (n j : ℕ) → every j p ≡ true → j ≤ n → n ≤ j → every n p ≡ true
+  every-end n j e h l = let q : j ≡ n = omega arith in subst (λ (k : ℕ). every k p ≡ true) q e

@@ -1,64 +1,19 @@
--- Rules that may be broken, and lists of rules: of a list the first broken rule gives its number, with the first of its broken
--- dimensions. `Exact` says that an answer is just that. Assumes nothing.
+-- Laws of the rules in `specs/Exactness.antt`: a list of them comes to the first fault of several, and so an answer is exact.
+-- Assumes nothing.
 use Prim.Native.Nat.{ℕ, zero, suc, _-_, _<_}
 use native.Mathlib.Nat.{not-suc-le-zero, le-of-suc-le-suc, eq-or-lt-of-le}
 use native.Mathlib.Omega.{arith}
 use mathlib.Core.Path.{_≡_, refl, sym, ap, subst, _∙_}
-use mathlib.Core.Logic.{_⊎_, inl, inr, ⊎-elim, _↔_}
-use mathlib.Core.Bool.{Bool, true, false}
+use mathlib.Core.Logic.{_⊎_, inl, inr, ⊎-elim}
+use mathlib.Core.Bool.{Bool, true, false, _||_}
 use mathlib.Core.List.{List, [], _∷_, _++_}
+use borrow.Author.Tests.{eqb-false}
+use lib.Dec.{eqb}
 use Rattle.plane.specs.declared.Fault.{Fault}
 use Rattle.plane.specs.Faults.{none, fault, when, _orElse_, first, lowest, outward}
+use Rattle.plane.specs.Exactness.{Way, up, out, Rule, whole, Earlier, Kept, BrokenAt, AllKept, Given, Exact}
+use Rattle.plane.proofs.Bools.{either-clear}
 use Rattle.plane.proofs.Faults.{status, is-fault, or-none, or-found, or-path, or-assoc, first-at, first-zero, when-bad, when-good, when-zero}
-
--- ---- rules
-
--- from the first dimension up, or from the last outward
-pub data Way : Type 0 where
-  up : Way
-  out : Way
-
--- its number, how many dimensions it looks at, which way, and where it is broken
-pub record Rule : Type 0 where
-  pub number : ℕ
-  pub dims : ℕ
-  pub way : Way
-  pub broken : ℕ → Bool
-
--- a rule of the whole, which names dimension 0
-abbrev pub whole : ℕ → Bool → Rule
-whole num b = record { number = num; dims = 1; way = up; broken = λ _. b }
-
-abbrev pub upward : ℕ → ℕ → (ℕ → Bool) → Rule
-upward num n broken = record { number = num; dims = n; way = up; broken = broken }
-
-abbrev pub outside : ℕ → ℕ → (ℕ → Bool) → Rule
-outside num n broken = record { number = num; dims = n; way = out; broken = broken }
-
--- whether dimension e is looked at before dimension d
-abbrev pub Earlier : Way → ℕ → ℕ → Type 0
-Earlier up e d = e < d
-Earlier out e d = d < e
-
--- the rule is broken nowhere
-abbrev pub Kept : Rule → Type 0
-Kept r = (d : ℕ) → d < r .dims → r .broken d ≡ false
-
--- the rule is broken at d, and nowhere before d
-pub record BrokenAt (r : Rule) (d : ℕ) : Type 0 where
-  pub within : d < r .dims
-  pub here : r .broken d ≡ true
-  pub first : (e : ℕ) → e < r .dims → Earlier (r .way) e d → r .broken e ≡ false
-
--- every rule of the list is kept
-abbrev pub AllKept : List Rule → Type 0
-AllKept [] = Unit
-AllKept (r ∷ rs) = Kept r × AllKept rs
-
--- number num at dimension d is given: a rule of that number is broken there first, and every rule before it is kept
-abbrev pub Given : List Rule → ℕ → ℕ → Type 0
-Given [] num d = ⊥
-Given (r ∷ rs) num d = ((num ≡ r .number) × BrokenAt r d) ⊎ (Kept r × Given rs num d)
 
 -- ---- one rule: kept or broken, and what it gives
 
@@ -164,11 +119,6 @@ given-positive [] num d p g = absurd g
 given-positive (r ∷ rs) num d p (inl g) = rw (g .0) (p .0)
 given-positive (r ∷ rs) num d p (inr g) = given-positive rs num d (p .1) (g .1)
 
--- an answer is exact: number 0 exactly if every rule is kept, and a number with a dimension exactly if that is the one given
-pub record Exact (rs : List Rule) (number dim : ℕ) : Type 0 where
-  pub accepts : (number ≡ 0) ↔ AllKept rs
-  pub gives : (num d : ℕ) → 0 < num → ((number ≡ num) × (dim ≡ d)) ↔ Given rs num d
-
 -- an answer that takes its number from a fault, and its dimension too where there is one
 module _ (rs : List Rule) (p : Positive rs) (f : Fault) (is : f ≡ chain rs) {number dim : ℕ} (n : number ≡ f .status) (m : (f .status ≡ 0 → ⊥) → dim ≡ f .dim) where
   pub exact : Exact rs number dim
@@ -222,12 +172,13 @@ pub one-chain : (num : ℕ) (b : Bool) → 0 < num → when num 0 b ≡ chain (w
 unfolding chain
 one-chain num b p = whole-is num b ∙ sym (or-last (whole num b) p)
 
--- a number that no rule of the list has is never given
-abbrev pub Without : ℕ → List Rule → Type 0
-Without num [] = Unit
-Without num (r ∷ rs) = (num ≡ r .number → ⊥) × Without num rs
+-- whether a rule of the list has the number
+abbrev pub has : ℕ → List Rule → Bool
+has num [] = false
+has num (r ∷ rs) = eqb num (r .number) || has num rs
 
-pub never-given : (rs : List Rule) (num d : ℕ) → Without num rs → Given rs num d → ⊥
-never-given [] num d w g = g
-never-given (r ∷ rs) num d w (inl g) = w .0 (g .0)
-never-given (r ∷ rs) num d w (inr g) = never-given rs num d (w .1) (g .1)
+-- a number that no rule of the list has is never given
+pub never-given : (rs : List Rule) (num d : ℕ) → has num rs ≡ false → Given rs num d → ⊥
+never-given [] num d e g = g
+never-given (r ∷ rs) num d e (inl g) = eqb-false num (r .number) (either-clear _ (has num rs) e .0) (g .0)
+never-given (r ∷ rs) num d e (inr g) = never-given rs num d (either-clear (eqb num (r .number)) _ e .1) (g .1)

@@ -1,6 +1,7 @@
--- Each public call asks nothing of its caller, and no two differing outcomes satisfy its contract. `Pre` and `Post` are the
--- contract of the call as the checker reads it off the source. Assumes nothing.
+-- Each public call asks nothing of its caller, and no two differing outcomes satisfy its contract (`specs/Decided.antt`). `Pre` and
+-- `Post` are that contract as the checker reads it off the source. Assumes nothing.
 use mathlib.Core.Path.{_≡_, sym, _∙_}
+use Rattle.plane.specs.Decided.{Decided}
 use Rattle.plane.proofs.verdict.room.Reads as room
 use Rattle.plane.proofs.verdict.judge.Reads as judge
 use Rattle.plane.proofs.tensors.source_of.Reads as source-of
@@ -20,22 +21,25 @@ use Rattle.plane.proofs.Config.with_perm.Reads as with-perm
 use Rattle.plane.proofs.Config.with_pre.Reads as with-pre
 use Rattle.plane.proofs.Config.with_post.Reads as with-post
 
--- for all lifetimes κ and arguments a: what is asked holds, and two results that the contract allows are one
-pub record Decided {K : Type 0} {A R E : K → Type 0} (pre : (κ : K) → A κ → Type 0) (post : (κ : K) → A κ → R κ → E κ → Type 0) : Type 0 where
-  pub free : (κ : K) (a : A κ) → pre κ a
-  pub one : (κ : K) (a : A κ) (x y : R κ) (s t : E κ) → post κ a x s → post κ a y t → x ≡ y
+-- a contract that says what the result is
+pub by-equation : {K : Type 0} {A R E : K → Type 0} {f : (κ : K) → A κ → R κ} → Decided {E = E} (λ κ a. Unit) (λ κ a x s. x ≡ f κ a)
+by-equation = record { free = λ κ a. tt; one = λ κ a x y s t p q. p ∙ sym q }
+
+-- and what is left of what was lent
+pub by-first : {K : Type 0} {A R E : K → Type 0} {f : (κ : K) → A κ → R κ} {rest : (κ : K) → A κ → R κ → E κ → Type 0} → Decided (λ κ a. Unit) (λ κ a x s. (x ≡ f κ a) × rest κ a x s)
+by-first = record { free = λ κ a. tt; one = λ κ a x y s t p q. p .0 ∙ sym (q .0) }
 
 pub room-decided : Decided room.Pre room.Post
-room-decided = record { free = λ κ a. tt; one = λ κ a x y s t p q. p ∙ sym q }
+room-decided = by-equation
 
 pub judge-decided : Decided judge.Pre judge.Post
-judge-decided = record { free = λ κ a. tt; one = λ κ a x y s t p q. p ∙ sym q }
+judge-decided = by-equation
 
 pub source-of-decided : Decided source-of.Pre source-of.Post
-source-of-decided = record { free = λ κ a. tt; one = λ κ a x y s t p q. p ∙ sym q }
+source-of-decided = by-equation
 
 pub rank-is-bad-decided : Decided rank-is-bad.Pre rank-is-bad.Post
-rank-is-bad-decided = record { free = λ κ a. tt; one = λ κ a x y s t p q. p ∙ sym q }
+rank-is-bad-decided = by-equation
 
 pub zero-tensor-decided : Decided zero-tensor.Pre zero-tensor.Post
 zero-tensor-decided = record { free = λ κ a. tt; one = λ κ a x y s t p q. p ∙ sym q }
@@ -47,34 +51,34 @@ pub refused-decided : Decided refused.Pre refused.Post
 refused-decided = record { free = λ κ a. tt; one = λ κ a x y s t p q. p ∙ sym q }
 
 pub element-size-decided : Decided element-size.Pre element-size.Post
-element-size-decided = record { free = λ κ a. tt; one = λ κ a x y s t p q. p ∙ sym q }
+element-size-decided = by-equation
 
 pub element-count-decided : Decided element-count.Pre element-count.Post
-element-count-decided = record { free = λ κ a. tt; one = λ κ a x y s t p q. p ∙ sym q }
+element-count-decided = by-equation
 
 pub sub-tensor-decided : Decided sub-tensor.Pre sub-tensor.Post
-sub-tensor-decided = record { free = λ κ a. tt; one = λ κ a x y s t p q. p ∙ sym q }
+sub-tensor-decided = by-equation
 
 pub with-offset-decided : Decided with-offset.Pre with-offset.Post
-with-offset-decided = record { free = λ κ a. tt; one = λ κ a x y s t p q. p ∙ sym q }
+with-offset-decided = by-equation
 
 pub with-size-decided : Decided with-size.Pre with-size.Post
-with-size-decided = record { free = λ κ a. tt; one = λ κ a x y s t p q. p ∙ sym q }
+with-size-decided = by-equation
 
 pub with-step-decided : Decided with-step.Pre with-step.Post
-with-step-decided = record { free = λ κ a. tt; one = λ κ a x y s t p q. p ∙ sym q }
+with-step-decided = by-equation
 
 pub with-dst-offset-decided : Decided with-dst-offset.Pre with-dst-offset.Post
-with-dst-offset-decided = record { free = λ κ a. tt; one = λ κ a x y s t p q. p ∙ sym q }
+with-dst-offset-decided = by-equation
 
 pub with-dst-stride-decided : Decided with-dst-stride.Pre with-dst-stride.Post
-with-dst-stride-decided = record { free = λ κ a. tt; one = λ κ a x y s t p q. p ∙ sym q }
+with-dst-stride-decided = by-equation
 
 pub with-perm-decided : Decided with-perm.Pre with-perm.Post
-with-perm-decided = record { free = λ κ a. tt; one = λ κ a x y s t p q. p ∙ sym q }
+with-perm-decided = by-equation
 
 pub with-pre-decided : Decided with-pre.Pre with-pre.Post
-with-pre-decided = record { free = λ κ a. tt; one = λ κ a x y s t p q. p ∙ sym q }
+with-pre-decided = by-equation
 
 pub with-post-decided : Decided with-post.Pre with-post.Post
-with-post-decided = record { free = λ κ a. tt; one = λ κ a x y s t p q. p ∙ sym q }
+with-post-decided = by-equation

@@ -1,15 +1,13 @@
--- Each refusal in its exact case and order. The lists below are the paper's numbers in the paper's order; the theorems at the
--- end say that an answer has number 0 exactly if every rule of its list is kept; that it has a number at a dimension exactly if
--- that rule is broken there, at none of its dimensions met before, and every earlier rule is kept; and that a refused answer
--- is zeros besides. Assumes nothing.
-use Prim.Native.Nat.{ℕ, _^_, _≤_}
+-- Each refusal in its exact case and order: every answer is exact (`specs/Exactness.antt`) for the rules of its call
+-- (`specs/Orders.antt`), and a refused answer is zeros besides. Assumes nothing.
+use Prim.Native.Nat.{ℕ, _≤_}
 use native.Mathlib.Decide.{ℕ-discrete}
 use native.Mathlib.Omega.{arith}
 use mathlib.Core.Path.{_≡_, refl, sym, ap, _∙_}
-use mathlib.Core.Bool.{true, false, _||_}
 use borrow.Author.Tests.{le-ltb}
-use mathlib.Core.List.{List, [], _∷_, _++_}
-use lib.Dec.{ltb, leb, eqb}
+use mathlib.Core.List.{[], _∷_, _++_}
+use lib.Dec.{ltb}
+use lib.ListN.{drop}
 use Rattle.plane.specs.declared.Tensor.{Tensor}
 use Rattle.plane.specs.declared.Config.{Config}
 use Rattle.plane.specs.declared.SubConfig.{SubConfig}
@@ -17,83 +15,34 @@ use Rattle.plane.specs.declared.Fault.{Fault}
 use Rattle.plane.specs.declared.Answer.{Answer}
 use Rattle.plane.specs.declared.Count.{Count}
 use Rattle.plane.specs.declared.SubTensor.{SubTensor}
-use Rattle.plane.specs.Arrays.{at, zeros, howMany}
+use Rattle.plane.specs.Arrays.{at, zeros}
 use Rattle.plane.specs.Faults.{fault, when, _orElse_}
-use Rattle.plane.specs.Planes.{badRank, badElement, badShape, shapeAt, strideAt, strideBad, srcStrides, span, sourceFault, sourceOf}
-use Rattle.plane.specs.Moves.{extent, dstExtents, dstStrides, need, permBad, badOffset, badSize, badStep, badExtent, badDstOffset, configFault, placeFault, moveFault, roomFault, refused, answerOf, judgeOf, roomOf}
-use Rattle.plane.specs.Helpers.{elements, countFault, noCount, countAnswer, countOf, isUnit, excess, badSubSize, rankFault, subFault, subOf, subByte, noSub, subAnswer, subTensorOf}
+use Rattle.plane.specs.Planes.{shapeAt, strideAt, badStrideAt, srcStrides, span, sourceFault, sourceOf}
+use Rattle.plane.specs.Moves.{extent, dstStrides, need, badExtent, badDstOffset, configFault, placeFault, moveFault, roomFault, refused, answerOf, judgeOf, roomOf}
+use Rattle.plane.specs.Helpers.{elements, countFault, noCount, countAnswer, countOf, rankFault, subFault, subOf, subByte, noSub, subAnswer, subTensorOf}
+use Rattle.plane.specs.Exactness.{whole, fromFirst, fromLast, Exact}
+use Rattle.plane.specs.Orders.{sourceRules, configRules, placeRules, moveRules, roomRules, countRules, subRules}
 use Rattle.plane.proofs.Faults.{status, or-path, or-none, or-found, or-assoc, spared, when-zero, unless-fault, unless-none}
 use Rattle.plane.proofs.Rules.{answer-refused, answer-given, answer-status}
 use Rattle.plane.proofs.SubAnswers.{sub-status}
-use Rattle.plane.proofs.Chains.{Rule, whole, upward, outside, Positive, Without, chain, Exact, exact, never-given, or-last, whole-is, join, one-chain}
-
--- ---- the rules of each call, in the paper's order
-
-abbrev pub sourceRules : Tensor → List Rule
-sourceRules t =
-    whole 1 (badRank (t .rank)) ∷
-    whole 2 (badElement (t .size)) ∷
-    upward 3 (t .rank) (λ d. badShape (shapeAt t d)) ∷
-    outside 4 (t .rank) (strideBad (t .rank) (shapeAt t) (strideAt t)) ∷
-    []
-
-abbrev pub configRules : Tensor → Config → List Rule
-configRules t c =
-    upward 6 (t .rank) (permBad (t .rank) (at (c .perm))) ∷
-    upward 7 (t .rank) (λ d. badOffset (shapeAt t d) (at (c .offset) d)) ∷
-    upward 8 (t .rank) (λ d. badSize (shapeAt t d) (at (c .offset) d) (at (c .size) d)) ∷
-    upward 9 (t .rank) (λ d. badStep (at (c .step) d)) ∷
-    upward 10 (t .rank) (λ d. badExtent (extent t c d)) ∷
-    []
-
-abbrev pub placeRules : Tensor → Config → List Rule
-placeRules t c =
-    outside 11 (t .rank) (strideBad (t .rank) (at (dstExtents t c)) (at (c .«dst_stride»))) ∷
-    upward 12 (t .rank) (λ i. badDstOffset (at (dstStrides t c) i) (at (c .«dst_offset») i)) ∷
-    []
-
-abbrev pub moveRules : Tensor → Config → ℕ → ℕ → List Rule
-moveRules t c srcLen dstLen =
-    sourceRules t ++
-    (whole 5 (ltb srcLen (span t)) ∷ configRules t c ++ placeRules t c ++ (whole 13 (ltb dstLen (need t c)) ∷ []))
-
-abbrev pub roomRules : Tensor → Config → List Rule
-roomRules t c = sourceRules t ++ configRules t c ++ placeRules t c
-
-abbrev pub countRules : Tensor → ℕ → List Rule
-countRules t start =
-    whole 1 (badRank (t .rank)) ∷
-    upward 3 (t .rank) (λ d. badShape (shapeAt t d)) ∷
-    whole 16 (leb (t .rank) start) ∷
-    whole 29 (leb (2 ^ 64) (elements t start)) ∷
-    []
-
-abbrev pub subRules : Tensor → SubConfig → ℕ → List Rule
-subRules t s srcLen =
-    sourceRules t ++
-    (whole 5 (ltb srcLen (span t)) ∷
-    upward 7 (t .rank) (λ d. badOffset (shapeAt t d) (at (s .offset) d)) ∷
-    upward 8 (t .rank) (λ d. badSubSize (shapeAt t d) (at (s .offset) d) (at (s .size) d)) ∷
-    whole 14 (eqb (s .rank) 0 || ltb (t .rank) (s .rank)) ∷
-    whole 15 (ltb (howMany (t .rank) (isUnit (at (s .size)))) (excess t s)) ∷
-    [])
+use Rattle.plane.proofs.Chains.{Positive, chain, exact, never-given, or-last, whole-is, join, one-chain}
 
 -- ---- the calls are held to their lists
 
 pub source-chain : (t : Tensor) → sourceFault t ≡ chain (sourceRules t)
 unfolding sourceFault chain
 source-chain t =
-    or-path (whole-is 1 _) (or-path (whole-is 2 _) (or-path refl (sym (or-last (outside 4 (t .rank) (strideBad (t .rank) (shapeAt t) (strideAt t))) (omega arith)))))
+    or-path (whole-is 1 _) (or-path (whole-is 2 _) (or-path refl (sym (or-last (fromLast 4 (t .rank) (badStrideAt (t .rank) (shapeAt t) (strideAt t))) (omega arith)))))
 
 config-chain : (t : Tensor) (c : Config) → configFault t c ≡ chain (configRules t c)
 unfolding configFault chain
 config-chain t c =
-    or-path refl (or-path refl (or-path refl (or-path refl (sym (or-last (upward 10 (t .rank) (λ d. badExtent (extent t c d))) (omega arith))))))
+    or-path refl (or-path refl (or-path refl (or-path refl (sym (or-last (fromFirst 10 (t .rank) (λ d. badExtent (extent t c d))) (omega arith))))))
 
 place-chain : (t : Tensor) (c : Config) → placeFault t c ≡ chain (placeRules t c)
 unfolding placeFault chain
 place-chain t c =
-    or-path refl (sym (or-last (upward 12 (t .rank) (λ i. badDstOffset (at (dstStrides t c) i) (at (c .«dst_offset») i))) (omega arith)))
+    or-path refl (sym (or-last (fromFirst 12 (t .rank) (λ i. badDstOffset (at (dstStrides t c) i) (at (c .«dst_offset») i))) (omega arith)))
 
 pub move-chain : (t : Tensor) (c : Config) (srcLen dstLen : ℕ) → moveFault t c srcLen dstLen ≡ chain (moveRules t c srcLen dstLen)
 unfolding moveFault
@@ -116,16 +65,10 @@ count-chain t start = or-path (whole-is 1 _) (or-path refl (or-path (whole-is 16
 sub-chain : (t : Tensor) (s : SubConfig) (srcLen : ℕ) → subFault t s srcLen ≡ chain (subRules t s srcLen)
 unfolding subFault rankFault chain
 sub-chain t s srcLen =
-    join (sourceRules t)
-    (whole 5 (ltb srcLen (span t)) ∷
-    upward 7 (t .rank) (λ d. badOffset (shapeAt t d) (at (s .offset) d)) ∷
-    upward 8 (t .rank) (λ d. badSubSize (shapeAt t d) (at (s .offset) d) (at (s .size) d)) ∷
-    whole 14 (eqb (s .rank) 0 || ltb (t .rank) (s .rank)) ∷
-    whole 15 (ltb (howMany (t .rank) (isUnit (at (s .size)))) (excess t s)) ∷
-    [])
-    (source-chain t) (or-path (whole-is 5 _) (or-path refl (or-path refl (or-path (whole-is 14 _) (one-chain 15 _ (omega arith))))))
+    join (sourceRules t) (drop 4 (subRules t s srcLen)) (source-chain t)
+    (or-path (whole-is 5 _) (or-path refl (or-path refl (or-path (whole-is 14 _) (one-chain 15 _ (omega arith))))))
 
--- every number is above 0, and a room question has no 5 and no 13
+-- every number is above 0
 
 positive-source : (t : Tensor) → Positive (sourceRules t)
 positive-source t = omega arith
@@ -141,12 +84,6 @@ positive-count t start = omega arith
 
 positive-sub : (t : Tensor) (s : SubConfig) (srcLen : ℕ) → Positive (subRules t s srcLen)
 positive-sub t s srcLen = omega arith
-
-without-5 : (t : Tensor) (c : Config) → Without 5 (roomRules t c)
-without-5 t c = (λ e. omega arith, (λ e. omega arith, (λ e. omega arith, (λ e. omega arith, (λ e. omega arith, (λ e. omega arith, (λ e. omega arith, (λ e. omega arith, (λ e. omega arith, (λ e. omega arith, (λ e. omega arith, tt)))))))))))
-
-without-13 : (t : Tensor) (c : Config) → Without 13 (roomRules t c)
-without-13 t c = (λ e. omega arith, (λ e. omega arith, (λ e. omega arith, (λ e. omega arith, (λ e. omega arith, (λ e. omega arith, (λ e. omega arith, (λ e. omega arith, (λ e. omega arith, (λ e. omega arith, (λ e. omega arith, tt)))))))))))
 
 -- an answer's number and dimension are its fault's
 
@@ -210,10 +147,10 @@ module _ (t : Tensor) (c : Config) where
 
   -- a room question never gives 5 or 13
   pub room-never-5 : roomOf t c .answer .status ≡ 5 → ⊥
-  room-never-5 e = never-given (roomRules t c) 5 _ (without-5 t c) (room-exact .gives 5 _ (omega arith) .0 (e, refl))
+  room-never-5 e = never-given (roomRules t c) 5 _ refl (room-exact .gives 5 _ (omega arith) .0 (e, refl))
 
   pub room-never-13 : roomOf t c .answer .status ≡ 13 → ⊥
-  room-never-13 e = never-given (roomRules t c) 13 _ (without-13 t c) (room-exact .gives 13 _ (omega arith) .0 (e, refl))
+  room-never-13 e = never-given (roomRules t c) 13 _ refl (room-exact .gives 13 _ (omega arith) .0 (e, refl))
 
   -- and else gives what a move gives that is lent enough
   pub room-is-judge : (srcLen dstLen : ℕ) → span t ≤ srcLen → need t c ≤ dstLen → judgeOf t c srcLen dstLen ≡ roomOf t c .answer

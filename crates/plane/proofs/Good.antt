@@ -10,8 +10,8 @@ use Rattle.plane.specs.declared.Tensor.{Tensor}
 use Rattle.plane.specs.declared.Config.{Config}
 use Rattle.plane.specs.Arrays.{at, some}
 use Rattle.plane.specs.Faults.{lowest, outward}
-use Rattle.plane.specs.Planes.{badRank, elementSize, badElement, badShape, shapeAt, strideAt, inner, resolved, strideBad, span, sourceFault}
-use Rattle.plane.specs.Moves.{extent, dstExtents, dstStrides, need, permBad, badOffset, badSize, badStep, badExtent, badDstOffset, configFault, placeFault, moveFault}
+use Rattle.plane.specs.Planes.{badRank, elementSize, badElement, badShape, shapeAt, strideAt, inner, resolved, badStrideAt, span, sourceFault}
+use Rattle.plane.specs.Moves.{extent, dstExtents, dstStrides, need, badPermAt, badOffset, badSize, badStep, badExtent, badDstOffset, configFault, placeFault, moveFault}
 use Rattle.plane.proofs.Bools.{either-clear, neither, in-range}
 use Rattle.plane.proofs.Arrays.{some-clear, some-none}
 use Rattle.plane.proofs.Faults.{or-clear, or-zero, when-clear, when-zero, lowest-clear, lowest-zero, outward-clear, outward-zero}
@@ -57,16 +57,16 @@ positive (suc x) h = omega arith
 -- ---- strides
 
 module _ (num n : ℕ) (shape stride : ℕ → ℕ) (p : 0 < num) where
-  strides-good : outward num n (strideBad n shape stride) .status ≡ 0 → GoodStrides n shape stride
-  unfolding strideBad
+  strides-good : outward num n (badStrideAt n shape stride) .status ≡ 0 → GoodStrides n shape stride
+  unfolding badStrideAt
   strides-good z = record { least = λ d h. within d h .0; most = λ d h. within d h .1 }
     where
       within : (d : ℕ) → d < n → (inner n shape stride (n - suc d) ≤ resolved n shape stride d) × (resolved n shape stride d ≤ 2147483647)
-      within d h = in-range _ _ 2147483647 (outward-clear num n (strideBad n shape stride) d p z h)
+      within d h = in-range _ _ 2147483647 (outward-clear num n (badStrideAt n shape stride) d p z h)
 
-  strides-clear : GoodStrides n shape stride → outward num n (strideBad n shape stride) .status ≡ 0
-  unfolding strideBad
-  strides-clear g = outward-zero num n (strideBad n shape stride) (λ d h. neither _ _ (le-ltb _ _ (g .least d h)) (le-ltb _ _ (g .most d h)))
+  strides-clear : GoodStrides n shape stride → outward num n (badStrideAt n shape stride) .status ≡ 0
+  unfolding badStrideAt
+  strides-clear g = outward-zero num n (badStrideAt n shape stride) (λ d h. neither _ _ (le-ltb _ _ (g .least d h)) (le-ltb _ _ (g .most d h)))
 
 -- ---- 1 to 4
 
@@ -95,9 +95,9 @@ module _ (t : Tensor) where
 -- ---- 6 to 10
 
 module _ (t : Tensor) (c : Config) where
-  entry-good : lowest 6 (t .rank) (permBad (t .rank) (at (c .perm))) .status ≡ 0 → (i : ℕ) → i < t .rank →
+  entry-good : lowest 6 (t .rank) (badPermAt (t .rank) (at (c .perm))) .status ≡ 0 → (i : ℕ) → i < t .rank →
       (leb (t .rank) (at (c .perm) i) ≡ false) × (some i (λ j. eqb (at (c .perm) j) (at (c .perm) i)) ≡ false)
-  entry-good z i h = either-clear _ _ (lowest-clear 6 (t .rank) (permBad (t .rank) (at (c .perm))) i (omega arith) z h)
+  entry-good z i h = either-clear _ _ (lowest-clear 6 (t .rank) (badPermAt (t .rank) (at (c .perm))) i (omega arith) z h)
 
   pub offset-good : lowest 7 (t .rank) (λ d. badOffset (shapeAt t d) (at (c .offset) d)) .status ≡ 0 → (d : ℕ) → d < t .rank → at (c .offset) d < shapeAt t d
   offset-good z d h = leb-false _ _ (lowest-clear 7 (t .rank) (λ d. badOffset (shapeAt t d) (at (c .offset) d)) d (omega arith) z h)

@@ -13,7 +13,7 @@ use Rattle.plane.specs.declared.Fault.{Fault}
 use Rattle.plane.specs.declared.strides.Strides.{Strides}
 use Rattle.plane.specs.Arrays.{below, firsts, zeros, or0}
 use Rattle.plane.specs.Faults.{none, fault, when, first, outward, unless}
-use Rattle.plane.specs.Planes.{badStride, inner, resolved, strideBad, strides}
+use Rattle.plane.specs.Planes.{badStride, inner, resolved, badStrideAt, strides}
 use Rattle.plane.specs.Private.{stridesOf}
 use Rattle.plane.proofs.Arrays.{zeros-at, is-table}
 use Rattle.plane.proofs.Faults.{status, is-fault, or-none, when-bad, when-good, first-at, unless-fault, unless-none}
@@ -46,39 +46,39 @@ module _ (n : ℕ) (shape stride : ℕ → ℕ) where
   module _ (num : ℕ) where
     -- the fault of the k-th stride met outward
     abbrev met : ℕ → Fault
-    met k = when num (n - suc k) (strideBad n shape stride (n - suc k))
+    met k = when num (n - suc k) (badStrideAt n shape stride (n - suc k))
 
-    met-at : (d : ℕ) → d < n → met (n - suc d) ≡ when num d (strideBad n shape stride d)
+    met-at : (d : ℕ) → d < n → met (n - suc d) ≡ when num d (badStrideAt n shape stride d)
     met-at d h =
         let b : n - suc (n - suc d) ≡ d = omega arith in
-        ap (λ (k : ℕ). when num k (strideBad n shape stride k)) b
+        ap (λ (k : ℕ). when num k (badStrideAt n shape stride k)) b
 
-    met-more : (d : ℕ) → d < n → first (n - suc d) met .status ≡ 0 → strideBad n shape stride d ≡ false → first (n - d) met ≡ none
+    met-more : (d : ℕ) → d < n → first (n - suc d) met .status ≡ 0 → badStrideAt n shape stride d ≡ false → first (n - d) met ≡ none
     unfolding first
     met-more d h e b =
         let s : n - d ≡ suc (n - suc d) = omega arith in
         ap (λ (k : ℕ). first k met) s ∙ or-none _ _ e ∙ met-at d h ∙ when-good num d _ b
 
-    met-bad : (d : ℕ) → 0 < num → d < n → first (n - suc d) met .status ≡ 0 → strideBad n shape stride d ≡ true → outward num n (strideBad n shape stride) ≡ fault num d
+    met-bad : (d : ℕ) → 0 < num → d < n → first (n - suc d) met .status ≡ 0 → badStrideAt n shape stride d ≡ true → outward num n (badStrideAt n shape stride) ≡ fault num d
     unfolding outward
     met-bad d p h e b =
         let w : met (n - suc d) ≡ fault num d = met-at d h ∙ when-bad num d _ b in
         first-at n (n - suc d) met e (omega arith) (is-fault num d p w) ∙ w
 
-    strides-path : {f : Fault} {l : List ℕ} → f ≡ outward num n (strideBad n shape stride) → l ≡ unless f zeros (strides n shape stride) → record { fault = f; stride = l } ≡ stridesOf num n shape stride
+    strides-path : {f : Fault} {l : List ℕ} → f ≡ outward num n (badStrideAt n shape stride) → l ≡ unless f zeros (strides n shape stride) → record { fault = f; stride = l } ≡ stridesOf num n shape stride
     unfolding stridesOf
     strides-path {f} p q =
         let r = q ∙ ap (λ (g : Fault). unless g zeros (strides n shape stride)) p in
         λ i. record { fault = p i; stride = r i }
 
     module _ {s : Strides} (es : s ≡ stridesOf num n shape stride) where
-      pub strides-fault : s .fault ≡ outward num n (strideBad n shape stride)
+      pub strides-fault : s .fault ≡ outward num n (badStrideAt n shape stride)
       unfolding stridesOf
       strides-fault = ap (λ (x : Strides). x .fault) es
 
       pub strides-ok : s .fault .status ≡ 0 → s .stride ≡ strides n shape stride
       unfolding stridesOf
-      strides-ok z = ap (λ (x : Strides). x .stride) es ∙ unless-none (outward num n (strideBad n shape stride)) _ _ (sym (status strides-fault) ∙ z)
+      strides-ok z = ap (λ (x : Strides). x .stride) es ∙ unless-none (outward num n (badStrideAt n shape stride)) _ _ (sym (status strides-fault) ∙ z)
 
     -- what holds when the dimensions from d on are resolved: their strides in out, and p the inner product outside them
     pub record Walked (out : List ℕ) (p d : ℕ) : Type 0 where
@@ -117,8 +117,8 @@ module _ (n : ℕ) (shape stride : ℕ → ℕ) where
       clear : first (n - suc d) met .status ≡ 0
       clear = status (subst (λ (k : ℕ). first (n - k) met ≡ none) is (w .good))
 
-      tested : badStride s p ≡ strideBad n shape stride d
-      unfolding strideBad
+      tested : badStride s p ≡ badStrideAt n shape stride d
+      unfolding badStrideAt
       tested = ap₂ badStride resolves stands
 
       pub walked-more : {r : ℕ} → n ≤ 4 → badStride s p ≡ false → r ≡ s * shape d → Walked (set out d s) r d

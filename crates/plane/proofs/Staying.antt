@@ -6,7 +6,7 @@ use native.Mathlib.Decide.{ℕ-discrete, decLt}
 use native.Mathlib.Omega.{arith}
 use mathlib.Core.Path.{_≡_, refl, sym, ap, subst, _∙_}
 use mathlib.Core.Logic.{_⊎_, inl, inr, ⊎-elim}
-use mathlib.Core.Bool.{Bool, true, false, _&&_, true≢false}
+use mathlib.Core.Bool.{Bool, true, false, _&&_}
 use mathlib.Core.List.{List, [], _∷_, _++_, append-nil}
 use borrow.Author.Tests.{ltb-true, ltb-false, eqb-true, eq-eqb, ne-eqb, lt-ltb, le-ltb}
 use lib.Dec.{ltb}
@@ -16,11 +16,8 @@ use Rattle.plane.specs.declared.sub.Staying.{Staying}
 use Rattle.plane.specs.Arrays.{at, firsts, zeros, sum, howMany}
 use Rattle.plane.specs.Helpers.{isUnit, removed, staying}
 use Rattle.plane.specs.Private.{stayingOf}
+use Rattle.plane.proofs.Bools.{both-first, both-second}
 use Rattle.plane.proofs.Arrays.{Filled, filled-start, filled-more, filled-end, filled-same, sum-same}
-
-both : (a b : Bool) → (a && b) ≡ true → (a ≡ true) × (b ≡ true)
-both true b e = (refl, e)
-both false b e = absurd (true≢false (sym e))
 
 -- ---- what becomes of one dimension
 
@@ -43,12 +40,12 @@ module _ (size : ℕ → ℕ) (excess : ℕ) where
   pub gone : (d : ℕ) → removed size excess d ≡ true → Gone d
   unfolding staying howMany
   gone d e =
-      let w = both (isUnit size d) (ltb (howMany d (isUnit size)) excess) e in
-      let l = ltb-true (howMany d (isUnit size)) excess (w .1) in
+      let u = both-first (isUnit size d) (ltb (howMany d (isUnit size)) excess) e in
+      let l = ltb-true (howMany d (isUnit size)) excess (both-second (isUnit size d) _ e) in
       record {
-        unit = eqb-true (size d) 1 (w .0);
+        unit = eqb-true (size d) 1 u;
         list = simp (e, append-nil);
-        fewer = simp (w .0) (omega arith);
+        fewer = simp u (omega arith);
       }
 
   pub kept : (d : ℕ) → removed size excess d ≡ false → Kept d
@@ -179,7 +176,7 @@ module _ (n : ℕ) (size stride : ℕ → ℕ) (excess : ℕ) where
     tested = ap (λ (b : Bool). isUnit size d && b) (ap (ltb 0) (w .left) ∙ lacks (howMany d (isUnit size)) excess)
 
     pub shrunk-lacks : (isUnit size d && ltb 0 lacking) ≡ true → 0 < lacking
-    shrunk-lacks e = ltb-true 0 lacking (both (isUnit size d) (ltb 0 lacking) e .1)
+    shrunk-lacks e = ltb-true 0 lacking (both-second (isUnit size d) (ltb 0 lacking) e)
 
     -- the loop's own test of dimension d tells whether it goes
     pub shrunk-gone : (isUnit size d && ltb 0 lacking) ≡ true → Shrunk shape out (lacking - 1) k (d + 1)

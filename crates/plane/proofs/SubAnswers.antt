@@ -15,10 +15,10 @@ use Rattle.plane.specs.declared.SubTensor.{SubTensor}
 use Rattle.plane.specs.declared.Source.{Source}
 use Rattle.plane.specs.declared.sub.Staying.{Staying}
 use Rattle.plane.specs.Arrays.{at, firsts, sum, howMany}
-use Rattle.plane.specs.Faults.{none, fault, _orElse_, lowest}
-use Rattle.plane.specs.Planes.{shapeAt, srcStrides, span, sourceOf}
+use Rattle.plane.specs.Faults.{none, fault, when, _orElse_, lowest}
+use Rattle.plane.specs.Planes.{shapeAt, srcStrides, span, sourceFault, sourceOf}
 use Rattle.plane.specs.Moves.{badOffset}
-use Rattle.plane.specs.Helpers.{isUnit, staying, excess, subDim, badSubSize, rankFault, subFault, subOf, subByte, noSub, subAnswer}
+use Rattle.plane.specs.Helpers.{isUnit, staying, excess, subDim, rankFault, subOf, subByte, noSub, subAnswer}
 use Rattle.plane.specs.Private.{stayingOf}
 use Rattle.plane.proofs.Bools.{either-clear}
 use Rattle.plane.proofs.Faults.{status, passed, given, spared, when-bad, when-good, unless-fault, unless-none, lowest-clear}
@@ -43,24 +43,15 @@ sub-status f t x = elim (ℕ-discrete (f .status) 0) [
   | no z ↦ ap (λ (s : SubTensor). s .status) (unless-fault f (noSub f) (record { status = 0; dim = 0; tensor = t; byte = x }) z)
 ]
 
--- ---- 1 to 5
+-- ---- 1 to 5, and then g
 
--- 7, 8, 14 and 15
-abbrev pub partFault : Tensor → SubConfig → Fault
-partFault t s =
-    lowest 7 (t .rank) (λ d. badOffset (shapeAt t d) (at (s .offset) d)) orElse
-    lowest 8 (t .rank) (λ d. badSubSize (shapeAt t d) (at (s .offset) d) (at (s .size) d)) orElse
-    rankFault t s
-
-module _ (t : Tensor) (s : SubConfig) (srcLen : ℕ) {w : Source} (es : w ≡ sourceOf t) (z : w .fault .status ≡ 0) where
-  pub sub-short : srcLen < w .span → subFault t s srcLen ≡ fault 5 0
-  unfolding subFault
+module _ (t : Tensor) (srcLen : ℕ) (g : Fault) {w : Source} (es : w ≡ sourceOf t) (z : w .fault .status ≡ 0) where
+  pub sub-short : srcLen < w .span → (sourceFault t orElse when 5 0 (ltb srcLen (span t)) orElse g) ≡ fault 5 0
   sub-short l =
       passed _ (its-fault t es) z ∙
       given 5 0 _ _ (omega arith) (lt-ltb srcLen (span t) (omega (arith, its-span t es z)))
 
-  pub sub-long : w .span ≤ srcLen → subFault t s srcLen ≡ partFault t s
-  unfolding subFault
+  pub sub-long : w .span ≤ srcLen → (sourceFault t orElse when 5 0 (ltb srcLen (span t)) orElse g) ≡ g
   sub-long l = passed _ (its-fault t es) z ∙ spared 5 0 _ _ (le-ltb srcLen (span t) (omega (arith, its-span t es z)))
 
 -- ---- 7

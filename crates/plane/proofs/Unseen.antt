@@ -14,37 +14,15 @@ use Rattle.plane.specs.declared.Fault.{Fault}
 use Rattle.plane.specs.declared.SubTensor.{SubTensor}
 use Rattle.plane.specs.Arrays.{at, or0}
 use Rattle.plane.specs.Faults.{when, _orElse_, lowest, unless}
-use Rattle.plane.specs.Planes.{badRank, badShape, badStride, shapeAt, strideAt, inner, resolved, strideBad, strides, srcStrides, span, sourceFault}
-use Rattle.plane.specs.Moves.{upward, count, extent, dstExtents, dstStrides, need, permBad, badOffset, badStep, badExtent, badDstOffset, configFault, placeFault, moveFault, roomFault, accepted, answerOf, judgeOf, roomOf}
+use Rattle.plane.specs.Planes.{badShape, badStride, shapeAt, strideAt, inner, resolved, badStrideAt, strides, srcStrides, span, sourceFault}
+use Rattle.plane.specs.Moves.{upward, count, extent, dstExtents, dstStrides, need, badPermAt, badOffset, badStep, badExtent, badDstOffset, configFault, placeFault, moveFault, roomFault, accepted, answerOf, judgeOf, roomOf}
 use Rattle.plane.specs.Helpers.{elements, countFault, countAnswer, countOf, isUnit, staying, subDim, rankFault, subFault, subOf, subByte, noSub, subAnswer, subTensorOf}
+use Rattle.plane.specs.Unseen.{SameTensor, SameConfig, SameSub}
 use Rattle.plane.proofs.Arrays.{firsts-same, sum-same, product-same, howMany-same, some-same}
 use Rattle.plane.proofs.Faults.{status, or-path, or-found, or-clear, lowest-same, outward-same, unless-fault, unless-none}
 use Rattle.plane.proofs.Good.{config-good}
 use Rattle.plane.proofs.Rules.{answer-refused, answer-given}
 use Rattle.plane.proofs.SubTensors.{sub-good, subDim-below}
-
--- ---- what agrees below the rank
-
-pub record SameTensor (t t′ : Tensor) : Type 0 where
-  pub rank : t .rank ≡ t′ .rank
-  pub size : t .size ≡ t′ .size
-  pub shape : (d : ℕ) → d < t .rank → at (t .shape) d ≡ at (t′ .shape) d
-  pub stride : (d : ℕ) → d < t .rank → at (t .stride) d ≡ at (t′ .stride) d
-
-pub record SameConfig (n : ℕ) (c c′ : Config) : Type 0 where
-  pub offset : (d : ℕ) → d < n → at (c .offset) d ≡ at (c′ .offset) d
-  pub size : (d : ℕ) → d < n → at (c .size) d ≡ at (c′ .size) d
-  pub step : (d : ℕ) → d < n → at (c .step) d ≡ at (c′ .step) d
-  pub dst-offset : (d : ℕ) → d < n → at (c .«dst_offset») d ≡ at (c′ .«dst_offset») d
-  pub dst-stride : (d : ℕ) → d < n → at (c .«dst_stride») d ≡ at (c′ .«dst_stride») d
-  pub perm : (d : ℕ) → d < n → at (c .perm) d ≡ at (c′ .perm) d
-  pub pre : (d : ℕ) → d < n → at (c .pre) d ≡ at (c′ .pre) d
-  pub post : (d : ℕ) → d < n → at (c .post) d ≡ at (c′ .post) d
-
-pub record SameSub (n : ℕ) (s s′ : SubConfig) : Type 0 where
-  pub offset : (d : ℕ) → d < n → at (s .offset) d ≡ at (s′ .offset) d
-  pub size : (d : ℕ) → d < n → at (s .size) d ≡ at (s′ .size) d
-  pub rank : s .rank ≡ s′ .rank
 
 -- ---- strides
 
@@ -60,9 +38,9 @@ module _ (n : ℕ) (s s′ p p′ : ℕ → ℕ) (es : (d : ℕ) → d < n → s
   unfolding resolved
   resolved-same d h = ap₂ or0 (ep d h) (inner-same (n - suc d) (omega arith))
 
-  strideBad-same : (d : ℕ) → d < n → strideBad n s p d ≡ strideBad n s′ p′ d
-  unfolding strideBad
-  strideBad-same d h = ap₂ badStride (resolved-same d h) (inner-same (n - suc d) (omega arith))
+  badStrideAt-same : (d : ℕ) → d < n → badStrideAt n s p d ≡ badStrideAt n s′ p′ d
+  unfolding badStrideAt
+  badStrideAt-same d h = ap₂ badStride (resolved-same d h) (inner-same (n - suc d) (omega arith))
 
   strides-same : strides n s p ≡ strides n s′ p′
   strides-same = firsts-same n (resolved n s p) (resolved n s′ p′) resolved-same
@@ -86,7 +64,7 @@ module _ (n z : ℕ) (s s′ p p′ : List ℕ) (a : SameTensor (tensor n z s p)
   unfolding sourceFault
   source-same =
       or-path refl (or-path refl (or-path shapes-same
-      (outward-same 4 n _ _ (strideBad-same n (shapeAt T) (shapeAt T′) (strideAt T) (strideAt T′) (a .shape) (a .stride)))))
+      (outward-same 4 n _ _ (badStrideAt-same n (shapeAt T) (shapeAt T′) (strideAt T) (strideAt T′) (a .shape) (a .stride)))))
 
   src-strides-same : srcStrides T ≡ srcStrides T′
   src-strides-same = strides-same n (shapeAt T) (shapeAt T′) (strideAt T) (strideAt T′) (a .shape) (a .stride)
@@ -106,7 +84,7 @@ module _ (n z : ℕ) (s s′ p p′ : List ℕ) (a : SameTensor (tensor n z s p)
         let w = ap₂ or0 (b .size d h) (ap₂ (λ (x y : ℕ). x - y) (a .shape d h) (b .offset d h)) in
         ap₂ (λ (x y : ℕ). x + y) (ap₂ (λ (x y : ℕ). x + y) (b .pre d h) (ap₂ upward w (b .step d h))) (b .post d h)
 
-    perm-same : (i : ℕ) → i < n → permBad n (at (c .perm)) i ≡ permBad n (at (c′ .perm)) i
+    perm-same : (i : ℕ) → i < n → badPermAt n (at (c .perm)) i ≡ badPermAt n (at (c′ .perm)) i
     perm-same i h =
         ap₂ (λ (x y : Bool). x || y) (ap (leb n) (b .perm i h)) (some-same i _ _ (λ j q. ap₂ eqb (b .perm j (omega arith)) (b .perm i h)))
 
@@ -134,7 +112,7 @@ module _ (n z : ℕ) (s s′ p p′ : List ℕ) (a : SameTensor (tensor n z s p)
       place-same : placeFault T c ≡ placeFault T′ c′
       unfolding placeFault
       place-same =
-          or-path (outward-same 11 n _ _ (strideBad-same n _ _ _ _ extent-at (b .dst-stride)))
+          or-path (outward-same 11 n _ _ (badStrideAt-same n _ _ _ _ extent-at (b .dst-stride)))
           (lowest-same 12 n _ _ (λ i h. ap₂ badDstOffset (ap (λ (l : List ℕ). at l i) dst-strides-same) (b .dst-offset i h)))
 
       need-same : need T c ≡ need T′ c′

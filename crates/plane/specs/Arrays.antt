@@ -1,6 +1,6 @@
 -- Arrays of four entries, one a dimension, and sums and products over the dimensions.
 use Prim.Native.Nat.{ℕ, zero, suc, _+_, _*_}
-use mathlib.Core.Bool.{Bool, false, cond, _||_}
+use mathlib.Core.Bool.{Bool, true, false, cond, _||_, _&&_}
 use mathlib.Core.List.{List, [], _∷_}
 use lib.Dec.{ltb, eqb}
 use lib.ListN.{getD}
@@ -43,6 +43,11 @@ howMany (suc k) p = howMany k p + cond (p k) 1 0
 unfoldable pub some : ℕ → (ℕ → Bool) → Bool
 some zero p = false
 some (suc k) p = some k p || p k
+
+-- whether p holds of each of 0, 1, .., n - 1
+unfoldable pub every : ℕ → (ℕ → Bool) → Bool
+every zero p = true
+every (suc k) p = every k p && p k
 
 -- s, and p where s is 0
 abbrev pub or0 : ℕ → ℕ → ℕ

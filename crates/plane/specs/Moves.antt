@@ -10,7 +10,7 @@ use Rattle.plane.specs.declared.Answer.{Answer}
 use Rattle.plane.specs.declared.RoomAnswer.{RoomAnswer}
 use Rattle.plane.specs.Arrays.{at, firsts, zeros, sum, some, or0}
 use Rattle.plane.specs.Faults.{when, _orElse_, lowest, outward, unless}
-use Rattle.plane.specs.Planes.{shapeAt, strideBad, strides, span, sourceFault}
+use Rattle.plane.specs.Planes.{shapeAt, badStrideAt, strides, span, sourceFault}
 
 -- ---- By source dimension d
 
@@ -44,8 +44,8 @@ need t c = (1 + sum (t .rank) (λ i. (at (c .«dst_offset») i + at (dstExtents 
 -- ---- The numbers of refusal
 
 -- 6: at or above the rank, or equal to an earlier entry
-abbrev pub permBad : ℕ → (ℕ → ℕ) → ℕ → Bool
-permBad n perm i = leb n (perm i) || some i (λ j. eqb (perm j) (perm i))
+abbrev pub badPermAt : ℕ → (ℕ → ℕ) → ℕ → Bool
+badPermAt n perm i = leb n (perm i) || some i (λ j. eqb (perm j) (perm i))
 
 -- 7: not below the shape
 abbrev pub badOffset : ℕ → ℕ → Bool
@@ -70,7 +70,7 @@ badDstOffset stride offset = leb stride offset || ltb 65535 offset
 -- 6 to 10
 unfoldable pub configFault : Tensor → Config → Fault
 configFault t c =
-    lowest 6 (t .rank) (permBad (t .rank) (at (c .perm))) orElse
+    lowest 6 (t .rank) (badPermAt (t .rank) (at (c .perm))) orElse
     lowest 7 (t .rank) (λ d. badOffset (shapeAt t d) (at (c .offset) d)) orElse
     lowest 8 (t .rank) (λ d. badSize (shapeAt t d) (at (c .offset) d) (at (c .size) d)) orElse
     lowest 9 (t .rank) (λ d. badStep (at (c .step) d)) orElse
@@ -79,7 +79,7 @@ configFault t c =
 -- 11 and 12
 unfoldable pub placeFault : Tensor → Config → Fault
 placeFault t c =
-    outward 11 (t .rank) (strideBad (t .rank) (at (dstExtents t c)) (at (c .«dst_stride»))) orElse
+    outward 11 (t .rank) (badStrideAt (t .rank) (at (dstExtents t c)) (at (c .«dst_stride»))) orElse
     lowest 12 (t .rank) (λ i. badDstOffset (at (dstStrides t c) i) (at (c .«dst_offset») i))
 
 -- a move is refused with 5 for a source shorter than the span, and with 13 for a destination shorter than need

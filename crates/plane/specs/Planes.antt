@@ -48,8 +48,8 @@ inner n shape stride (suc k) = or0 (stride (n - suc k)) (inner n shape stride k)
 unfoldable pub resolved : ℕ → (ℕ → ℕ) → (ℕ → ℕ) → ℕ → ℕ
 resolved n shape stride d = or0 (stride d) (inner n shape stride (n - suc d))
 
-unfoldable pub strideBad : ℕ → (ℕ → ℕ) → (ℕ → ℕ) → ℕ → Bool
-strideBad n shape stride d = badStride (resolved n shape stride d) (inner n shape stride (n - suc d))
+unfoldable pub badStrideAt : ℕ → (ℕ → ℕ) → (ℕ → ℕ) → ℕ → Bool
+badStrideAt n shape stride d = badStride (resolved n shape stride d) (inner n shape stride (n - suc d))
 
 abbrev pub strides : ℕ → (ℕ → ℕ) → (ℕ → ℕ) → List ℕ
 strides n shape stride = firsts n (resolved n shape stride)
@@ -67,7 +67,7 @@ sourceFault t =
     when 1 0 (badRank (t .rank)) orElse
     when 2 0 (badElement (t .size)) orElse
     lowest 3 (t .rank) (λ d. badShape (shapeAt t d)) orElse
-    outward 4 (t .rank) (strideBad (t .rank) (shapeAt t) (strideAt t))
+    outward 4 (t .rank) (badStrideAt (t .rank) (shapeAt t) (strideAt t))
 
 -- a tensor record by itself: its resolved strides and its span; zeros besides a fault
 unfoldable pub sourceOf : Tensor → Source

@@ -6,7 +6,7 @@ ghost use lib.Dec.{eqb};
 ghost use Rattle.plane.specs.Arrays.{at, some};
 ghost use Rattle.plane.specs.Faults.{none, lowest};
 ghost use Rattle.plane.specs.Planes.{badRank, badShape};
-ghost use Rattle.plane.specs.Moves.{permBad, badOffset, badSize, badStep, badDstOffset};
+ghost use Rattle.plane.specs.Moves.{badPermAt, badOffset, badSize, badStep, badDstOffset};
 
 pub(crate) fn no_fault() -> Fault
     ensures { λ r. ⌜ r ≡ none ⌝ }
@@ -51,7 +51,7 @@ fn is_repeated(perm: [u8; 4], i: usize) -> bool
 // 6
 pub(crate) fn perm_fault(n: u8, perm: [u8; 4]) -> Fault
     requires { ⌜ n ≤ 4 ⌝ }
-    ensures { λ r. ⌜ r ≡ lowest 6 n (permBad n (at perm)) ⌝ }
+    ensures { λ r. ⌜ r ≡ lowest 6 n (badPermAt n (at perm)) ⌝ }
 {
     for i in 0..n {
         let k = i as usize;

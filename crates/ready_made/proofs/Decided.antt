@@ -1,6 +1,6 @@
 -- Each public call asks nothing of its caller, and no two differing outcomes satisfy its contract. Assumes nothing.
-use mathlib.Core.Path.{_≡_, sym, _∙_}
-use Rattle.plane.proofs.Decided.{Decided}
+use Rattle.plane.specs.Decided.{Decided}
+use Rattle.plane.proofs.Decided.{by-equation}
 use Rattle.ready_made.proofs.copy.Reads as copy
 use Rattle.ready_made.proofs.slice.Reads as slice
 use Rattle.ready_made.proofs.concatenate.Reads as concatenate
@@ -11,25 +11,25 @@ use Rattle.ready_made.proofs.pad_hwc.Reads as pad-hwc
 use Rattle.ready_made.proofs.all.Reads as all
 
 pub copy-decided : Decided copy.Pre copy.Post
-copy-decided = record { free = λ κ a. tt; one = λ κ a x y s t p q. p ∙ sym q }
+copy-decided = by-equation
 
 pub slice-decided : Decided slice.Pre slice.Post
-slice-decided = record { free = λ κ a. tt; one = λ κ a x y s t p q. p ∙ sym q }
+slice-decided = by-equation
 
 pub concatenate-decided : Decided concatenate.Pre concatenate.Post
-concatenate-decided = record { free = λ κ a. tt; one = λ κ a x y s t p q. p ∙ sym q }
+concatenate-decided = by-equation
 
 pub subsample-decided : Decided subsample.Pre subsample.Post
-subsample-decided = record { free = λ κ a. tt; one = λ κ a x y s t p q. p ∙ sym q }
+subsample-decided = by-equation
 
 pub permute-decided : Decided permute.Pre permute.Post
-permute-decided = record { free = λ κ a. tt; one = λ κ a x y s t p q. p ∙ sym q }
+permute-decided = by-equation
 
 pub pad-chw-decided : Decided pad-chw.Pre pad-chw.Post
-pad-chw-decided = record { free = λ κ a. tt; one = λ κ a x y s t p q. p ∙ sym q }
+pad-chw-decided = by-equation
 
 pub pad-hwc-decided : Decided pad-hwc.Pre pad-hwc.Post
-pad-hwc-decided = record { free = λ κ a. tt; one = λ κ a x y s t p q. p ∙ sym q }
+pad-hwc-decided = by-equation
 
 pub all-decided : Decided all.Pre all.Post
-all-decided = record { free = λ κ a. tt; one = λ κ a x y s t p q. p ∙ sym q }
+all-decided = by-equation

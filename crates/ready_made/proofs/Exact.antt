@@ -6,8 +6,8 @@ use Rattle.plane.specs.declared.Config.{Config}
 use Rattle.plane.specs.Arrays.{at}
 use Rattle.plane.specs.Planes.{badRank}
 use Rattle.plane.specs.Settings.{configOf, zeroConfig}
+use Rattle.plane.specs.Unseen.{SameConfig}
 use Rattle.plane.proofs.Arrays.{firsts-same}
-use Rattle.plane.proofs.Unseen.{SameConfig}
 use Rattle.ready_made.specs.ReadyMade.{cutTo, madeFor}
 
 -- a configuration is refused for a wrong rank alone, and then all its fields are 0

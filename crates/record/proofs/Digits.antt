@@ -8,11 +8,8 @@ use lib.ListN.{length, take, drop}
 use lib.Seq.{sets, getD-drop}
 use Rattle.plane.specs.Arrays.{at}
 use Rattle.record.specs.Layout.{little, number, part, joined, fourIn, fourBytes}
+use Rattle.record.specs.RoundTrip.{Bytes}
 use Rattle.record.proofs.Parts.{part-cons, length-joined, sum-const, stored-next}
-
--- every entry is a byte; past the end it is 0
-abbrev pub Bytes : List ℕ → Type 0
-Bytes bs = (i : ℕ) → at bs i < 256
 
 bytes-take : (n : ℕ) (bs : List ℕ) → Bytes bs → Bytes (take n bs)
 bytes-take zero bs h i = omega arith

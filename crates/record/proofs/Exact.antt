@@ -1,43 +1,28 @@
--- Each refusal in its exact case and order, as in plane's file of this name. The lists below are the paper's numbers in the paper's
--- order; an answer has number 0 exactly if every rule of its list is kept, and a number at a dimension exactly if that rule is
--- broken there, at no dimension before, and every earlier rule is kept. A refused reading is zeros besides, a refused write
--- leaves the room as it was. Assumes nothing.
+-- Each refusal in its exact case and order, as in plane's file of this name, for the rules of `specs/Orders.antt`. A refused
+-- reading is zeros besides, a refused write leaves the room as it was. Assumes nothing.
 use Prim.Native.Nat.{ℕ}
 use native.Mathlib.Omega.{arith}
 use mathlib.Core.Path.{_≡_, refl, sym, ap, _∙_}
-use mathlib.Core.List.{List, [], _∷_}
+use mathlib.Core.List.{List}
 use lib.ListN.{length}
 use Rattle.plane.specs.declared.Tensor.{Tensor}
 use Rattle.plane.specs.declared.Config.{Config}
 use Rattle.plane.specs.Faults.{none, fault, when}
 use Rattle.plane.specs.Planes.{badRank}
+use Rattle.plane.specs.Exactness.{fromFirst, Exact}
 use Rattle.plane.proofs.Faults.{or-path, or-clear, or-none}
-use Rattle.plane.proofs.Chains.{Rule, whole, upward, Positive, chain, Exact, exact, or-last, whole-is}
+use Rattle.plane.proofs.Chains.{Positive, chain, exact, or-last, whole-is}
 use Rattle.record.specs.declared.Reading.{Reading}
-use Rattle.record.specs.Records.{tensorIn, configIn, badLength, badMark, badVersion, stray, fieldsFault, readFault, writeFault, refused, readOf, writtenRoom}
+use Rattle.record.specs.Records.{tensorIn, configIn, badLength, stray, fieldsFault, readFault, writeFault, refused, readOf, writtenRoom}
+use Rattle.record.specs.Orders.{fieldsRules, readRules, writeRules}
 use Rattle.record.proofs.Strays.{none-stray}
 use Rattle.record.proofs.Answers.{read-refused, read-status, room-kept}
-
--- ---- the rules of each call, in the paper's order
-
-abbrev pub fieldsRules : Tensor → Config → List Rule
-fieldsRules t c = whole 1 (badRank (t .rank)) ∷ upward 28 4 (stray t c) ∷ []
-
-abbrev pub readRules : List ℕ → List Rule
-readRules bs =
-    whole 25 (badLength (length bs)) ∷
-    whole 26 (badMark bs) ∷
-    whole 27 (badVersion bs) ∷
-    fieldsRules (tensorIn bs) (configIn bs)
-
-abbrev pub writeRules : Tensor → Config → ℕ → List Rule
-writeRules t c n = whole 25 (badLength n) ∷ fieldsRules t c
 
 -- ---- the calls are held to their lists
 
 fields-chain : (t : Tensor) (c : Config) → fieldsFault t c ≡ chain (fieldsRules t c)
 unfolding fieldsFault chain
-fields-chain t c = or-path (whole-is 1 _) (sym (or-last (upward 28 4 (stray t c)) (omega arith)))
+fields-chain t c = or-path (whole-is 1 _) (sym (or-last (fromFirst 28 4 (stray t c)) (omega arith)))
 
 read-chain : (bs : List ℕ) → readFault bs ≡ chain (readRules bs)
 unfolding readFault chain

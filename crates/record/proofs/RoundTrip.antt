@@ -23,17 +23,11 @@ use Rattle.plane.proofs.Faults.{status, or-clear, when-clear}
 use Rattle.record.specs.declared.Reading.{Reading}
 use Rattle.record.specs.Layout.{little, number, part, joined, recordLength, mark, theVersion, versionIn, rankIn, sizeIn, headBytes, groupCount, group, width, start, fourBytes}
 use Rattle.record.specs.Records.{groupIn, tensorIn, configIn, recordBytes, badLength, badMark, badVersion, fieldsFault, readFault, writeFault, accepted, readOf, writtenRoom}
+use Rattle.record.specs.RoundTrip.{Fits, Bytes, OneWriting}
 use Rattle.record.proofs.Parts.{part-cons, length-part, part-append, part-part, sum-step, sum-const, joined-same, part-joined, joined-parts}
-use Rattle.record.proofs.Digits.{Bytes, bytes-part, length-little, number-little, little-number, number-fits, number-two, length-four}
+use Rattle.record.proofs.Digits.{bytes-part, length-little, number-little, little-number, number-fits, number-two, length-four}
 use Rattle.record.proofs.Laying.{length-record}
 use Rattle.record.proofs.Answers.{read-fields, read-given, read-status, write-fields, room-written}
-
--- what the types of the code say of the fields: arrays of four entries, and each entry fits its bytes
-pub record Fits (t : Tensor) (c : Config) : Type 0 where
-  pub rank : t .rank < 256
-  pub size : t .size < 256
-  pub long : (k : ℕ) → k < groupCount → length (group t c k) ≡ 4
-  pub small : (k d : ℕ) → k < groupCount → d < 4 → at (group t c k) d < 256 ^ width k
 
 -- the bytes of group k
 four : ℕ → ℕ
@@ -244,16 +238,7 @@ same-fields-same-bytes t c t′ c′ f f′ = (
   λ e. ap₂ recordBytes (e .0) (e .1),
 )
 
--- bytes are the writing of one tensor record with one configuration, which a write accepts, and of no others
-pub record OneWriting (bs : List ℕ) : Type 0 where
-  pub tensor : Tensor
-  pub config : Config
-  pub fits : Fits tensor config
-  pub accepts : fieldsFault tensor config .status ≡ 0
-  pub is : recordBytes tensor config ≡ bs
-  pub only : (t : Tensor) (c : Config) → Fits t c → recordBytes t c ≡ bs → (t ≡ tensor) × (c ≡ config)
-
--- a read accepts exactly those
+-- a read accepts exactly the bytes that are one writing
 pub accepted-once : (bs : List ℕ) → Bytes bs → (readOf bs .status ≡ 0) ↔ OneWriting bs
 accepted-once bs b = (
   λ z. once (sym (read-status bs) ∙ z),

@@ -9,13 +9,14 @@ use borrow.Author.Tests.{eqb-true}
 use lib.Dec.{eqb}
 use lib.ListN.{length}
 use Rattle.plane.specs.Arrays.{at, zeros}
+use Rattle.plane.proofs.Bools.{both-first, both-second}
+use Rattle.plane.proofs.Arrays.{every-each}
 use Rattle.mover.specs.declared.Part.{Part}
 use Rattle.mover.specs.declared.Job.{Job}
 use Rattle.transfers.specs.declared.Slot.{Slot}
 use Rattle.plane.specs.Settings.{zeroConfig}
 use Rattle.plane.specs.Planes.{zeroTensor}
 use Rattle.transfers.specs.Slots.{zeroPart, zeroJob, freeSlot, isZeroArray, isZeroPart, isZeroTensor, isZeroConfig, isZeroJob, slotSound}
-use Rattle.transfers.proofs.Every.{both-first, both-second, every-at}
 use Rattle.transfers.proofs.Sounds.{zero-sound}
 
 no-entry : (xs : List ℕ) → length xs ≡ 4 → isZeroArray xs ≡ true → xs ≡ zeros
@@ -24,7 +25,7 @@ no-entry (a ∷ []) h e = absurd (omega arith)
 no-entry (a ∷ b ∷ []) h e = absurd (omega arith)
 no-entry (a ∷ b ∷ c ∷ []) h e = absurd (omega arith)
 no-entry (a ∷ b ∷ c ∷ d ∷ []) h e =
-    let p = every-at 4 (λ (i : ℕ). eqb (at (a ∷ b ∷ c ∷ d ∷ []) i) 0) e in
+    let p = every-each (λ (i : ℕ). eqb (at (a ∷ b ∷ c ∷ d ∷ []) i) 0) 4 e in
     rw (eqb-true a 0 (p 0 (omega arith)), eqb-true b 0 (p 1 (omega arith)), eqb-true c 0 (p 2 (omega arith)), eqb-true d 0 (p 3 (omega arith)))
 no-entry (a ∷ b ∷ c ∷ d ∷ x ∷ xs) h e = absurd (omega arith)
 

@@ -1,7 +1,5 @@
--- Each refusal in its exact case and order. The lists below are the paper's numbers in the paper's order; the theorems at the end
--- say that an answer has number 0 exactly if every rule of its list is kept, and a number at a dimension exactly if that rule is
--- broken there first and every earlier rule is kept; and that a refused call hands back the table that it was given, with zeros
--- besides, and leaves the memory as it was. Assumes nothing.
+-- Each refusal in its exact case and order, as in plane's file of this name, for the rules of `specs/Orders.antt`. A refused call
+-- hands back the table that it was given, with zeros besides, and leaves the memory as it was. Assumes nothing.
 use Prim.Native.Nat.{ℕ}
 use native.Mathlib.Decide.{ℕ-discrete}
 use native.Mathlib.Omega.{arith}
@@ -12,10 +10,12 @@ use lib.Dec.{ltb, leb, eqb}
 use lib.ListN.{length}
 use Rattle.plane.specs.declared.Fault.{Fault}
 use Rattle.plane.specs.Faults.{when, _orElse_, unless}
+use Rattle.plane.specs.Exactness.{whole, Exact}
 use Rattle.plane.proofs.Faults.{or-none, or-found, unless-fault, unless-none}
-use Rattle.plane.proofs.Chains.{Rule, whole, Positive, chain, Exact, exact, join, one-chain}
+use Rattle.plane.proofs.Chains.{Positive, chain, exact, join, one-chain}
 use Rattle.mover.specs.declared.Job.{Job}
-use Rattle.mover.proofs.Exact.{jobRules, job-chain}
+use Rattle.mover.specs.Orders.{jobRules}
+use Rattle.mover.proofs.Exact.{job-chain}
 use Rattle.transfers.specs.declared.Slot.{Slot}
 use Rattle.transfers.specs.declared.Table.{Table}
 use Rattle.transfers.specs.declared.FreshTable.{FreshTable}
@@ -24,27 +24,9 @@ use Rattle.transfers.specs.declared.Changed.{Changed}
 use Rattle.transfers.specs.declared.Stepped.{Stepped}
 use Rattle.transfers.specs.Slots.{freshTable, slotAt, withSlot, isFree, lowestFree, clashes, tableSound, limit}
 use Rattle.transfers.specs.Calls.{freshOf, openFault, prepareFault, callFault, prepareOf, changed, startOf, releaseOf, stepOf, stepMemory, left, pollSlot, pollOf, pollStatus}
+use Rattle.transfers.specs.Orders.{freshRules, openRules, prepareRules, callRules, pollRules}
 use Rattle.transfers.specs.declared.Poll.{Poll}
 use Rattle.transfers.specs.declared.Poll.the-variants as poll
-
--- ---- the rules of each call, in the paper's order
-
-abbrev pub openRules : Table → ℕ → List Rule
-openRules t n = whole 17 (not (eqb n (t .length))) ∷ whole 18 (not (tableSound t)) ∷ []
-
-abbrev pub prepareRules : Table → ℕ → Job → List Rule
-prepareRules t n j =
-    openRules t n ++ (whole 19 (eqb (lowestFree t) 4) ∷ []) ++ jobRules n j ++ (whole 22 (clashes t j 4) ∷ [])
-
-abbrev pub callRules : Table → ℕ → ℕ → ℕ → List Rule
-callRules t n h want =
-    openRules t n ++ (whole 23 (ltb 3 h || isFree t h) ∷ whole 24 (not (eqb (slotAt t h .state) want)) ∷ [])
-
-abbrev pub pollRules : Table → ℕ → List Rule
-pollRules t h = whole 18 (not (tableSound t)) ∷ whole 23 (ltb 3 h) ∷ []
-
-abbrev pub freshRules : ℕ → List Rule
-freshRules n = whole 17 (not (leb n limit)) ∷ []
 
 -- ---- the calls are held to their lists
 

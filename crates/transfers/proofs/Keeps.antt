@@ -8,6 +8,7 @@ use borrow.Author.Tests.{eqb-true, eqb-false, leb-true, lt-ltb}
 use lib.Dec.{leb, eqb}
 use Rattle.plane.specs.declared.Fault.{Fault}
 use Rattle.plane.specs.Faults.{unless}
+use Rattle.plane.specs.Arrays.{every}
 use Rattle.plane.proofs.Arrays.{some-clear}
 use Rattle.plane.proofs.Faults.{unless-fault, unless-none}
 use Rattle.mover.specs.declared.Job.{Job}
@@ -19,7 +20,6 @@ use Rattle.transfers.specs.declared.FreshTable.{FreshTable}
 use Rattle.transfers.specs.declared.Prepared.{Prepared}
 use Rattle.transfers.specs.declared.Changed.{Changed}
 use Rattle.transfers.specs.declared.Stepped.{Stepped}
-use Rattle.mover.specs.Element.{every}
 use Rattle.transfers.specs.Slots.{freeSlot, freshTable, slotAt, withSlot, breaks, clashes, isZeroTensor, isZeroConfig, isZeroJob, movedRight, slotSound, tableSound, limit}
 use Rattle.transfers.specs.Calls.{freshOf, prepareFault, callFault, newSlot, prepareOf, changed, running, startOf, releaseOf, countOf, later, stepOf}
 use Rattle.transfers.proofs.Fours.{slot-same, slot-other, with-length, lowest-is}

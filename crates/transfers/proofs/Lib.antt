@@ -10,7 +10,6 @@ pub mod Exact
 pub mod AllZero
 pub mod Polls
 -- Laws over plain values, which the functions' proofs cite.
-pub mod Every
 pub mod Fours
 pub mod Meeting
 pub mod Sounds

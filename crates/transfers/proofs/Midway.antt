@@ -18,7 +18,8 @@ use Rattle.mover.specs.Element.{dimOf, isKept, areKept, sourcePlace, place, ele
 use Rattle.mover.specs.Moved.{total, coordOf, moved}
 use Rattle.mover.specs.Within.{bytesOf}
 use Rattle.mover.proofs.Demand2.{Inside, Kept, demand-2}
-use Rattle.mover.proofs.Keeping.{every-each, test-range}
+use Rattle.plane.proofs.Arrays.{every-each}
+use Rattle.mover.proofs.Keeping.{test-range}
 use Rattle.mover.proofs.Laws.{judged, judged-good, source-fits, destination-fits, job-clear}
 use Rattle.mover.proofs.Spacing.{extent-some, bytes-rise}
 use Rattle.mover.proofs.Stored.{moved-element, moved-elsewhere}

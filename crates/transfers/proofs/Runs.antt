@@ -4,18 +4,19 @@ use Prim.Native.Nat.{ℕ, _≤_}
 use native.Mathlib.Omega.{arith}
 use mathlib.Core.Path.{_≡_, refl, sym, ap, subst, _∙_}
 use mathlib.Core.Logic.{inl, inr}
-use mathlib.Core.Bool.{Bool, true, false, _||_, not, true≢false}
+use mathlib.Core.Bool.{false, not, true≢false}
 use mathlib.Core.List.{List, [], _∷_, _++_}
-use borrow.Author.Tests.{eq-eqb, eqb-false}
-use lib.Dec.{ltb, eqb}
-use Rattle.plane.proofs.Bools.{either-clear}
-use Rattle.plane.proofs.Chains.{Rule, whole, Given, Exact}
+use borrow.Author.Tests.{eq-eqb}
+use lib.Dec.{ltb}
+use Rattle.plane.specs.Exactness.{Rule, whole, Given, Exact}
+use Rattle.plane.proofs.Chains.{has, never-given}
 use Rattle.mover.specs.declared.Job.{Job}
 use Rattle.transfers.specs.declared.Table.{Table}
 use Rattle.transfers.specs.Slots.{freshTable, limit}
 use Rattle.transfers.specs.Calls.{prepareOf, startOf, releaseOf, stepOf, pollOf, pollStatus}
+use Rattle.transfers.specs.Orders.{openRules}
 use Rattle.transfers.proofs.Keeps.{Kept, free-table, prepare-keeps, start-keeps, step-keeps, release-keeps}
-use Rattle.transfers.proofs.Exact.{openRules, prepare-exact, start-exact, step-exact, release-exact, poll-exact}
+use Rattle.transfers.proofs.Exact.{prepare-exact, start-exact, step-exact, release-exact, poll-exact}
 
 -- the tables that a caller can come to hold who starts with a fresh one for n bytes, whatever memories and jobs he then hands in
 pub data Run (n : ℕ) : Table → Type 0 where
@@ -37,16 +38,6 @@ run-sound (released {t} r m h) = let k = run-sound r in onward (k .long) (releas
 
 -- ---- numbers that are not given
 
--- a rule of the list has the number
-abbrev has : ℕ → List Rule → Bool
-has num [] = false
-has num (r ∷ rs) = eqb num (r .number) || has num rs
-
-not-given : (rs : List Rule) (num d : ℕ) → has num rs ≡ false → Given rs num d → ⊥
-not-given [] num d e g = g
-not-given (r ∷ rs) num d e (inl g) = eqb-false num (r .number) (either-clear _ (has num rs) e .0) (g .0)
-not-given (r ∷ rs) num d e (inr g) = not-given rs num d (either-clear (eqb num (r .number)) _ e .1) (g .1)
-
 pub record Open (number : ℕ) : Type 0 where
   pub not-17 : number ≡ 17 → ⊥
   pub not-18 : number ≡ 18 → ⊥
@@ -56,14 +47,14 @@ module _ (t : Table) (n : ℕ) (k : Kept n t) (rest : List Rule) (a : has 17 res
   never-17 d (inl g) = true≢false (sym (g .1 .here) ∙ ap not (eq-eqb n (t .length) (sym (k .long))))
   never-17 d (inr g) = elim (g .1) [
     | inl x ↦ omega (arith, x .0)
-    | inr x ↦ not-given rest 17 d a (x .1)
+    | inr x ↦ never-given rest 17 d a (x .1)
   ]
 
   never-18 : (d : ℕ) → Given (openRules t n ++ rest) 18 d → ⊥
   never-18 d (inl g) = omega (arith, g .0)
   never-18 d (inr g) = elim (g .1) [
     | inl x ↦ true≢false (sym (x .1 .here) ∙ ap not (k .sound))
-    | inr x ↦ not-given rest 18 d b (x .1)
+    | inr x ↦ never-given rest 18 d b (x .1)
   ]
 
   opens : {number dim : ℕ} → Exact (openRules t n ++ rest) number dim → Open number
@@ -91,5 +82,5 @@ module _ {n : ℕ} {t : Table} (r : Run n t) where
   pub poll-open : (h : ℕ) → pollStatus (pollOf t h) ≡ 18 → ⊥
   poll-open h z = elim (poll-exact t h .gives 18 0 (omega arith) .0 (z, refl)) [
     | inl x ↦ true≢false (sym (x .1 .here) ∙ ap not (run-sound r .sound))
-    | inr x ↦ not-given (whole 23 (ltb 3 h) ∷ []) 18 0 refl (x .1)
+    | inr x ↦ never-given (whole 23 (ltb 3 h) ∷ []) 18 0 refl (x .1)
   ]

@@ -6,15 +6,15 @@ use mathlib.Core.Path.{_≡_, sym, ap, _∙_}
 use mathlib.Core.Bool.{Bool, true, false, not, _&&_, true≢false}
 use borrow.Author.Tests.{eq-eqb, ne-eqb, eqb-true, ltb-true, leb-true, le-leb, lt-leb, not-true}
 use lib.Dec.{ltb, leb, eqb}
-use Rattle.plane.proofs.Arrays.{some-clear, some-none}
+use Rattle.plane.specs.Arrays.{every}
+use Rattle.plane.proofs.Bools.{both-first, both-second, both, not-first, not-second}
+use Rattle.plane.proofs.Arrays.{some-clear, some-none, every-all, every-each, every-missed, every-more, every-end}
 use Rattle.mover.specs.declared.Job.{Job}
 use Rattle.mover.specs.declared.Verdict.{Verdict}
 use Rattle.mover.specs.Within.{jobFault, totalOf, verdictOf}
 use Rattle.transfers.specs.declared.Slot.{Slot}
 use Rattle.transfers.specs.declared.Table.{Table}
-use Rattle.mover.specs.Element.{every}
 use Rattle.transfers.specs.Slots.{slotAt, breaks, clashes, isZeroPart, isZeroTensor, isZeroConfig, isZeroJob, movedRight, slotSound, soundAt, tableSound, limit}
-use Rattle.transfers.proofs.Every.{both, both-first, both-second, not-first, not-second, every-at, every-all, every-more, every-missed, every-end}
 use Rattle.transfers.proofs.Meeting.{breaks-either, empty-breaks}
 
 -- ---- moved and the state
@@ -115,7 +115,7 @@ module _ (t : Table) where
   module _ (e : tableSound t ≡ true) where
     sound-at : (i : ℕ) → i < 4 → soundAt t i ≡ true
     unfolding tableSound
-    sound-at i h = every-at 4 (soundAt t) (both-second (leb (t .length) limit) _ e) i h
+    sound-at i h = every-each (soundAt t) 4 (both-second (leb (t .length) limit) _ e) i h
 
     apart-before : (i k : ℕ) → i < 4 → k < i → breaks (slotAt t i .job) (slotAt t k .job) ≡ false
     unfolding soundAt clashes
@@ -139,7 +139,7 @@ module _ (t : Table) where
   unfolding tableSound soundAt clashes
   tells-sound s =
       both _ _ (le-leb (t .length) limit (s .short))
-      (every-all 4 (soundAt t) (λ i h.
+      (every-all (soundAt t) 4 (λ i h.
       both _ _ (s .each i h)
       (ap not (some-none i (λ (k : ℕ). breaks (slotAt t i .job) (slotAt t k .job)) (λ k l. s .apart i k h (omega arith) (omega arith))))))
 
@@ -151,7 +151,7 @@ module _ (t : Table) where
 
   missed : (i : ℕ) → i < 4 → soundAt t i ≡ false → false ≡ tableSound t
   unfolding tableSound
-  missed i h e = sym (not-second (leb (t .length) limit) _ (every-missed 4 i (soundAt t) h e))
+  missed i h e = sym (not-second (leb (t .length) limit) _ (every-missed (soundAt t) 4 i h e))
 
   pub slot-unsound : (i : ℕ) → i < 4 → slotSound (t .length) (slotAt t i) ≡ false → false ≡ tableSound t
   unfolding soundAt
@@ -163,11 +163,11 @@ module _ (t : Table) where
 
   pub slots-more : (i : ℕ) → every i (soundAt t) ≡ true → slotSound (t .length) (slotAt t i) ≡ true → clashes t (slotAt t i .job) i ≡ false → every (i + 1) (soundAt t) ≡ true
   unfolding soundAt
-  slots-more i e p q = every-more i (soundAt t) e (both _ _ p (ap not q))
+  slots-more i e p q = every-more (soundAt t) i e (both _ _ p (ap not q))
 
   pub slots-end : (i : ℕ) → t .length ≤ limit → every i (soundAt t) ≡ true → i ≤ 4 → 4 ≤ i → true ≡ tableSound t
   unfolding tableSound
-  slots-end i l e h k = sym (both _ _ (le-leb (t .length) limit l) (every-end 4 i (soundAt t) e h k))
+  slots-end i l e h k = sym (both _ _ (le-leb (t .length) limit l) (every-end (soundAt t) 4 i e h k))
 
 -- ---- a free slot
 

@@ -3,13 +3,13 @@ use Prim.Native.Nat.{_-_}
 use native.Mathlib.Omega.{arith}
 use borrow.Author.Needs.{needs}
 use Rattle.plane.specs.Arrays.{at}
-use Rattle.plane.specs.Moves.{permBad}
+use Rattle.plane.specs.Moves.{badPermAt}
 use Rattle.plane.proofs.Faults.{Searched, searched-start, searched-more, searched-found, searched-end}
 use Rattle.plane.proofs.refusals.perm_fault.Statement.{statement}
 use Rattle.plane.proofs.refusals.perm_fault.Tie as tie
 
 abbrev Inv-loop : tie.InvT-loop
-Inv-loop n perm i₀ i = Searched 6 n (permBad n (at perm)) i
+Inv-loop n perm i₀ i = Searched 6 n (badPermAt n (at perm)) i
 
 abbrev μ-loop : tie.MeasureT-loop
 μ-loop n perm i₀ i = n - i

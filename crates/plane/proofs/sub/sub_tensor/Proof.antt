@@ -2,11 +2,15 @@
 use mathlib.Core.Path.{_≡_, _∙_}
 use native.Mathlib.Omega.{arith}
 use borrow.Author.Needs.{needs}
+use lib.Dec.{ltb}
+use Rattle.plane.specs.declared.Fault.{Fault}
+use Rattle.plane.specs.Faults.{when, _orElse_}
+use Rattle.plane.specs.Planes.{span, sourceFault}
 use Rattle.plane.specs.Helpers.{subFault, subTensorOf}
 use Rattle.plane.proofs.Faults.{passed, stopped}
 use Rattle.plane.proofs.Rules.{its-fault, its-good, its-strides}
 use Rattle.plane.proofs.Good.{GoodSource}
-use Rattle.plane.proofs.SubAnswers.{partFault, sub-refuses, sub-defers, sub-short, sub-long, offset-small}
+use Rattle.plane.proofs.SubAnswers.{sub-refuses, sub-defers, sub-short, sub-long, offset-small}
 use Rattle.plane.proofs.sub.sub_tensor.Statement.{statement}
 use Rattle.plane.proofs.sub.sub_tensor.Tie as tie
 
@@ -15,10 +19,10 @@ good : (c : tie.Else1) → GoodSource (c .before .before .before .before .args .
 good c = its-good _ (c .before .before .before .source-of .ensures) (c .if1 .left)
 
 -- and 5
-long : (c : tie.Else2) → let a = c .before .before .before .before .before .before .args in subFault (a .t) (a .s) (a .src-len) ≡ partFault (a .t) (a .s)
-long c =
+long : (c : tie.Else2) (g : Fault) → let a = c .before .before .before .before .before .before .args in (sourceFault (a .t) orElse when 5 0 (ltb (a .src-len) (span (a .t))) orElse g) ≡ g
+long c g =
     let i = c .before .before in
-    sub-long _ _ _ (i .before .before .before .source-of .ensures) (i .if1 .left) (c .if2 .left)
+    sub-long _ _ g (i .before .before .before .source-of .ensures) (i .if1 .left) (c .if2 .left)
 
 returns : tie.Need-returns
 unfolding subTensorOf subFault
@@ -27,7 +31,7 @@ returns c =
     sub-refuses _ _ (c .refused .ensures) (c .before .if1 .taken) (stopped _ (its-fault _ w) (c .before .if1 .taken))
 
 returns-2 : tie.Need-returns-2
-unfolding subTensorOf
+unfolding subTensorOf subFault
 returns-2 c =
     let i = c .before .before .before in
     let w = i .before .before .before .source-of .ensures in
@@ -37,23 +41,23 @@ offset-fault-requires : tie.Need-offset-fault-requires
 offset-fault-requires c κs = good (c .before .before .before .before) .rank .1
 
 returns-3 : tie.Need-returns-3
-unfolding subTensorOf
+unfolding subTensorOf subFault
 returns-3 c =
     let o = c .before .before .before in
     sub-refuses _ _ (c .refused3 .ensures) (c .before .if3 .taken)
-    (long (o .before .before .before) ∙ stopped _ (o .offset-fault .ensures) (c .before .if3 .taken))
+    (long (o .before .before .before) _ ∙ stopped _ (o .offset-fault .ensures) (c .before .if3 .taken))
 
 sub-size-fault-requires : tie.Need-sub-size-fault-requires
 sub-size-fault-requires c κs = good (c .before .before .before .before .before .before .before .before) .rank .1
 
 returns-4 : tie.Need-returns-4
-unfolding subTensorOf
+unfolding subTensorOf subFault
 returns-4 c =
     let z = c .before .before .before in
     let v = z .before .before in
     let o = v .before .before in
     sub-refuses _ _ (c .refused4 .ensures) (c .before .if4 .taken)
-    (long (o .before .before .before) ∙
+    (long (o .before .before .before) _ ∙
     passed _ (o .offset-fault .ensures) (v .if3 .left) ∙
     stopped _ (z .sub-size-fault .ensures) (c .before .if4 .taken))
 
@@ -69,13 +73,13 @@ shrink-requires c κs =
     )
 
 returns-5 : tie.Need-returns-5
-unfolding subTensorOf
+unfolding subTensorOf subFault
 returns-5 c =
     let z = c .before .before .before .before in
     let v = z .before .before in
     let o = v .before .before in
     sub-defers _ _ (c .shrink .ensures)
-    (long (o .before .before .before) ∙
+    (long (o .before .before .before) _ ∙
     passed _ (o .offset-fault .ensures) (v .if3 .left) ∙
     passed _ (z .sub-size-fault .ensures) (c .before .before .if4 .left))
 

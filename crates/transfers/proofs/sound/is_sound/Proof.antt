@@ -5,10 +5,10 @@ use mathlib.Core.Path.{_≡_, sym, ap, _∙_}
 use mathlib.Core.Bool.{Bool, true, false}
 use borrow.Author.Needs.{needs}
 use borrow.Author.Tests.{not-true, not-false}
+use Rattle.plane.specs.Arrays.{every}
+use Rattle.plane.proofs.Arrays.{every-start}
 use Rattle.transfers.specs.declared.Slot.{Slot}
-use Rattle.mover.specs.Element.{every}
 use Rattle.transfers.specs.Slots.{slotAt, clashes, slotSound, soundAt}
-use Rattle.transfers.proofs.Every.{every-start}
 use Rattle.transfers.proofs.Sounds.{long-unsound, slot-unsound, slot-clashes, slots-more, slots-end}
 use Rattle.transfers.proofs.sound.is_sound.Statement.{statement}
 use Rattle.transfers.proofs.sound.is_sound.Tie as tie

@@ -1,7 +1,7 @@
 -- `transfers::zeros::is_zero_bytes` tells whether four bytes are zero. Assumes nothing.
 use borrow.Author.Needs.{needs}
 use mathlib.Core.Path.{refl}
-use Rattle.mover.specs.Element.{every}
+use Rattle.plane.specs.Arrays.{every}
 use Rattle.transfers.proofs.zeros.is_zero_bytes.Statement.{statement}
 use Rattle.transfers.proofs.zeros.is_zero_bytes.Tie as tie
 

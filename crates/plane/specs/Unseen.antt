@@ -1,0 +1,29 @@
+-- What agrees below the rank. Entries at or past the rank are not looked at, so such records and configurations have the same answers.
+use Prim.Native.Nat.{ℕ, _<_}
+use mathlib.Core.Path.{_≡_}
+use Rattle.plane.specs.declared.Tensor.{Tensor}
+use Rattle.plane.specs.declared.Config.{Config}
+use Rattle.plane.specs.declared.SubConfig.{SubConfig}
+use Rattle.plane.specs.Arrays.{at}
+
+pub record SameTensor (t t′ : Tensor) : Type 0 where
+  pub rank : t .rank ≡ t′ .rank
+  pub size : t .size ≡ t′ .size
+  pub shape : (d : ℕ) → d < t .rank → at (t .shape) d ≡ at (t′ .shape) d
+  pub stride : (d : ℕ) → d < t .rank → at (t .stride) d ≡ at (t′ .stride) d
+
+-- below the rank n
+pub record SameConfig (n : ℕ) (c c′ : Config) : Type 0 where
+  pub offset : (d : ℕ) → d < n → at (c .offset) d ≡ at (c′ .offset) d
+  pub size : (d : ℕ) → d < n → at (c .size) d ≡ at (c′ .size) d
+  pub step : (d : ℕ) → d < n → at (c .step) d ≡ at (c′ .step) d
+  pub dst-offset : (d : ℕ) → d < n → at (c .«dst_offset») d ≡ at (c′ .«dst_offset») d
+  pub dst-stride : (d : ℕ) → d < n → at (c .«dst_stride») d ≡ at (c′ .«dst_stride») d
+  pub perm : (d : ℕ) → d < n → at (c .perm) d ≡ at (c′ .perm) d
+  pub pre : (d : ℕ) → d < n → at (c .pre) d ≡ at (c′ .pre) d
+  pub post : (d : ℕ) → d < n → at (c .post) d ≡ at (c′ .post) d
+
+pub record SameSub (n : ℕ) (s s′ : SubConfig) : Type 0 where
+  pub offset : (d : ℕ) → d < n → at (s .offset) d ≡ at (s′ .offset) d
+  pub size : (d : ℕ) → d < n → at (s .size) d ≡ at (s′ .size) d
+  pub rank : s .rank ≡ s′ .rank
