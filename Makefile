@@ -1,5 +1,9 @@
 # make show: the main job on an example. make test: the gate.
-.PHONY: show test kit
+# make compare N=.. SEED=..: random calls against the second program. make seeded: faults that the comparison must find.
+.PHONY: show test compare seeded programs kit
+
+N ?= 20000
+SEED ?= 1
 
 show: kit
 	@rt check rmvshow >/dev/null || { rt check rmvshow; exit 1; }
@@ -8,6 +12,15 @@ show: kit
 
 test:
 	@bash .ci/run
+
+compare: programs
+	@scripts/compare $(N) $(SEED)
+
+seeded: programs
+	@second/seeded scripts/run
+
+programs: kit
+	@rt check rmvshow rmvcalls >/dev/null || { rt check rmvshow rmvcalls; exit 1; }
 
 kit:
 	@command -v rt >/dev/null 2>&1 || { \
