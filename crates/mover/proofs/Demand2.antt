@@ -17,65 +17,39 @@ use Rattle.plane.specs.Planes.{span}
 use Rattle.plane.specs.Moves.{count, judgeOf}
 use Rattle.plane.proofs.Good.{GoodConfig, GoodMove}
 use Rattle.mover.specs.Element.{dimOf, kOf, isKept, areKept, sourcePlace, place, element}
-use Rattle.mover.specs.Moved.{extentAt, total, coordOf, moved, moveMemory}
+use Rattle.mover.specs.Moved.{total, coordOf, moved, moveMemory}
+use Rattle.mover.specs.Demand2.{IsCoordinate, KeptAt, Meant}
 use Rattle.mover.proofs.Laws.{judged, judged-good, moved-length, moved-whole, moved-refused}
 use Rattle.mover.proofs.Keeping.{every-all, every-each, every-fails, range-test, test-range, place-same, element-same}
 use Rattle.mover.proofs.Fitting.{home-fits, place-fits}
 use Rattle.mover.proofs.Spacing.{numberAt, numberAt-lt, numberAt-coord, extent-some, bytes-rise, bytes-apart}
 use Rattle.mover.proofs.Stored.{moved-elsewhere, moved-element}
 
--- ---- what is claimed
-
--- x is a destination coordinate: in each dimension it is below the extent
-abbrev pub Inside : Tensor → Config → (ℕ → ℕ) → Type 0
-Inside t c x = (i : ℕ) → i < t .rank → x i < extentAt t c i
-
--- in destination dimension i, which is source dimension s = perm[i], k = x[i] - pre[s] is from 0 to count - 1
-abbrev pub Kept : Tensor → Config → (ℕ → ℕ) → ℕ → Type 0
-Kept t c x i = (at (c .pre) (at (c .perm) i) ≤ x i) × (x i - at (c .pre) (at (c .perm) i) < count t c (at (c .perm) i))
-
--- the destination dst has become e
-pub record Meant (t : Tensor) (c : Config) (src dst e : List ℕ) : Type 0 where
-  -- it is as long as it was
-  pub long : length e ≡ length dst
-  -- the element of every coordinate lies in it
-  pub inside : (x : ℕ → ℕ) → Inside t c x → place t c x * t .size + t .size ≤ length e
-  -- coordinates that differ have no byte in common
-  pub apart : (x y : ℕ → ℕ) → Inside t c x → Inside t c y → (i : ℕ) → i < t .rank → (x i ≡ y i → ⊥) →
-      (place t c x * t .size + t .size ≤ place t c y * t .size) ⊎ (place t c y * t .size + t .size ≤ place t c x * t .size)
-  -- if every k is from 0 to count - 1, each byte of the element is the source element's, which lies in the source
-  pub source : (x : ℕ → ℕ) → Inside t c x → ((i : ℕ) → i < t .rank → Kept t c x i) → (b : ℕ) → b < t .size →
-      (sourcePlace t c x * t .size + b < length src) × (getD e (place t c x * t .size + b) 0 ≡ getD src (sourcePlace t c x * t .size + b) 0)
-  -- if some k is not, each byte of the element is 0
-  pub zeros : (x : ℕ → ℕ) → Inside t c x → (i : ℕ) → i < t .rank → (Kept t c x i → ⊥) → (b : ℕ) → b < t .size → getD e (place t c x * t .size + b) 0 ≡ 0
-  -- a byte that belongs to the element of no coordinate is as it was
-  pub rest : (k : ℕ) → ((x : ℕ → ℕ) → Inside t c x → (k < place t c x * t .size) ⊎ (place t c x * t .size + t .size ≤ k)) → getD e k 0 ≡ getD dst k 0
-
 -- ---- the test of what is kept says what is claimed, and the bytes of an element
 
 module _ (t : Tensor) (c : Config) (x : ℕ → ℕ) where
-  all-kept : ((i : ℕ) → i < t .rank → Kept t c x i) → areKept t c x ≡ true
+  all-kept : ((i : ℕ) → i < t .rank → KeptAt t c x i) → areKept t c x ≡ true
   unfolding areKept isKept
   all-kept h = every-all (λ i. isKept t c i (x i)) (t .rank) (λ i l. range-test (at (c .pre) (dimOf c i)) (x i) (count t c (dimOf c i)) (h i l))
 
-  each-kept : areKept t c x ≡ true → (i : ℕ) → i < t .rank → Kept t c x i
+  each-kept : areKept t c x ≡ true → (i : ℕ) → i < t .rank → KeptAt t c x i
   unfolding areKept isKept
   each-kept e i l = test-range (at (c .pre) (dimOf c i)) (x i) (count t c (dimOf c i)) (every-each (λ i. isKept t c i (x i)) (t .rank) e i l)
 
-  not-kept : (i : ℕ) → i < t .rank → (Kept t c x i → ⊥) → areKept t c x ≡ false
+  not-kept : (i : ℕ) → i < t .rank → (KeptAt t c x i → ⊥) → areKept t c x ≡ false
   not-kept i l h = by-test (areKept t c x) refl
     where
       by-test : (b : Bool) → areKept t c x ≡ b → areKept t c x ≡ false
       by-test true e = absurd (h (each-kept e i l))
       by-test false e = e
 
-  one-not-kept : areKept t c x ≡ false → (i : ℕ) × (i < t .rank) × (Kept t c x i → ⊥)
+  one-not-kept : areKept t c x ≡ false → (i : ℕ) × (i < t .rank) × (KeptAt t c x i → ⊥)
   unfolding areKept isKept
   one-not-kept e =
       let w = every-fails (λ i. isKept t c i (x i)) (t .rank) e in
       (w .0, w .1, λ k. true≢false (sym (range-test (at (c .pre) (dimOf c (w .0))) (x (w .0)) (count t c (dimOf c (w .0))) k) ∙ w .2))
 
-  source-within : GoodConfig t c → ((i : ℕ) → i < t .rank → Kept t c x i) → sourcePlace t c x * t .size + t .size ≤ span t
+  source-within : GoodConfig t c → ((i : ℕ) → i < t .rank → KeptAt t c x i) → sourcePlace t c x * t .size + t .size ≤ span t
   unfolding sourcePlace
   source-within g h =
       let w = home-fits g (λ i. kOf c i (x i)) (λ i l. omega (arith, h i l .1)) in
@@ -110,19 +84,19 @@ module _ (t : Tensor) (c : Config) (x : ℕ → ℕ) where
 
 module _ (t : Tensor) (c : Config) (src dst : List ℕ) where
   module _ (g : GoodMove t c (length src) (length dst)) where
-    fits : (x : ℕ → ℕ) → Inside t c x → place t c x * t .size + t .size ≤ length dst
+    fits : (x : ℕ → ℕ) → IsCoordinate t c x → place t c x * t .size + t .size ≤ length dst
     fits x w =
         let f = place-fits (g .config) x w in
         let r = g .room in
         omega (arith, rw (add-mul, one-mul) at f)
 
     -- the coordinates of an element's number
-    coord-inside : (q : ℕ) → Inside t c (coordOf t c q)
+    coord-inside : (q : ℕ) → IsCoordinate t c (coordOf t c q)
     unfolding coordOf
     coord-inside q i h = mod-lt _ (extent-some (g .source) (g .config) (g .place) i h)
 
     -- the bytes at the place of each coordinate
-    element-at : (x : ℕ → ℕ) → Inside t c x → (b : ℕ) → b < t .size → getD (moved t c src 0 (total t c) dst) (place t c x * t .size + b) 0 ≡ getD (element t c src x) b 0
+    element-at : (x : ℕ → ℕ) → IsCoordinate t c x → (b : ℕ) → b < t .size → getD (moved t c src 0 (total t c) dst) (place t c x * t .size + b) 0 ≡ getD (element t c src x) b 0
     element-at x w b h =
         let q = numberAt t c x in
         let same = numberAt-coord t c x w in
@@ -186,7 +160,7 @@ module _ (t : Tensor) (c : Config) (k : ℕ) where
 
 module _ (t : Tensor) (c : Config) (src dst e f : List ℕ) (g : GoodMove t c (length src) (length dst)) (m : Meant t c src dst e) (n : Meant t c src dst f) where
   -- a byte of an element
-  same-owned : (x : ℕ → ℕ) → Inside t c x → (b : ℕ) → b < t .size → getD e (place t c x * t .size + b) 0 ≡ getD f (place t c x * t .size + b) 0
+  same-owned : (x : ℕ → ℕ) → IsCoordinate t c x → (b : ℕ) → b < t .size → getD e (place t c x * t .size + b) 0 ≡ getD f (place t c x * t .size + b) 0
   same-owned x w b h = by-test (areKept t c x) refl
     where
       by-test : (d : Bool) → areKept t c x ≡ d → getD e (place t c x * t .size + b) 0 ≡ getD f (place t c x * t .size + b) 0
@@ -198,7 +172,7 @@ module _ (t : Tensor) (c : Config) (src dst e f : List ℕ) (g : GoodMove t c (l
   unfolding Spares
   same-spared k s = m .rest k none ∙ sym (n .rest k none)
     where
-      none : (x : ℕ → ℕ) → Inside t c x → (k < place t c x * t .size) ⊎ (place t c x * t .size + t .size ≤ k)
+      none : (x : ℕ → ℕ) → IsCoordinate t c x → (k < place t c x * t .size) ⊎ (place t c x * t .size + t .size ≤ k)
       none x w = rw (place-same t c (coordOf t c (numberAt t c x)) x (numberAt-coord t c x w)) at (s (numberAt t c x) (numberAt-lt t c x w))
 
   same-byte : (k : ℕ) → getD e k 0 ≡ getD f k 0

@@ -3,4 +3,5 @@ pub mod Element
 pub mod Moved
 pub mod Within
 pub mod SubPart
+pub mod Demand2
 pub mod Private

@@ -14,7 +14,8 @@ use Rattle.mover.specs.declared.Job.{Job}
 use Rattle.mover.specs.Moved.{moveMemory}
 use Rattle.mover.specs.Within.{meets, jobFault, totalOf, bytesOf, advancedBy}
 use Rattle.mover.proofs.Laws.{moved-none, moved-more, moved-length, judged, source-fits, destination-fits, job-clear, job-apart, job-whole, advanced-outside, advanced-whole}
-use Rattle.mover.proofs.Demand2.{Meant, demand-2}
+use Rattle.mover.specs.Demand2.{Meant}
+use Rattle.mover.proofs.Demand2.{demand-2}
 use Rattle.serial.specs.Parts.{Apart, replaced}
 use Rattle.serial.specs.Machine.{applied, wholeMove, Clear}
 use Rattle.serial.specs.Claims.{Lawful}

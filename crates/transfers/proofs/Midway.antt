@@ -17,7 +17,8 @@ use Rattle.mover.specs.declared.Job.{Job}
 use Rattle.mover.specs.Element.{dimOf, isKept, areKept, sourcePlace, place, element}
 use Rattle.mover.specs.Moved.{total, coordOf, moved}
 use Rattle.mover.specs.Within.{bytesOf}
-use Rattle.mover.proofs.Demand2.{Inside, Kept, demand-2}
+use Rattle.mover.specs.Demand2.{IsCoordinate, KeptAt}
+use Rattle.mover.proofs.Demand2.{demand-2}
 use Rattle.mover.proofs.Keeping.{every-each, test-range}
 use Rattle.mover.proofs.Laws.{judged, judged-good, source-fits, destination-fits, job-clear}
 use Rattle.mover.proofs.Spacing.{extent-some, bytes-rise}
@@ -33,16 +34,16 @@ module _ (t : Tensor) (c : Config) (src dst : List ℕ) (z : judgeOf t c (length
   good : GoodMove t c (length src) (length dst)
   good = judged-good t c (length src) (length dst) z
 
-  coord-inside : (q : ℕ) → Inside t c (coordOf t c q)
+  coord-inside : (q : ℕ) → IsCoordinate t c (coordOf t c q)
   unfolding coordOf
   coord-inside q i h = mod-lt _ (extent-some (good .source) (good .config) (good .place) i h)
 
-  kept-each : (x : ℕ → ℕ) → areKept t c x ≡ true → (i : ℕ) → i < t .rank → Kept t c x i
+  kept-each : (x : ℕ → ℕ) → areKept t c x ≡ true → (i : ℕ) → i < t .rank → KeptAt t c x i
   unfolding areKept isKept
   kept-each x e i h = test-range (at (c .pre) (dimOf c i)) (x i) (count t c (dimOf c i)) (every-each (λ i. isKept t c i (x i)) (t .rank) e i h)
 
   -- an element has as many bytes as its size
-  element-long : (x : ℕ → ℕ) → Inside t c x → length (element t c src x) ≡ t .size
+  element-long : (x : ℕ → ℕ) → IsCoordinate t c x → length (element t c src x) ≡ t .size
   unfolding element
   element-long x w = by-test (areKept t c x) refl
     where
