@@ -1,4 +1,4 @@
--- Tests: one for each dimension, and the one for what is kept; what an element looks at. Assumes nothing.
+-- Tests: one for each dimension, and the one for what is kept; what an element's places look at. Assumes nothing.
 use Prim.Native.Nat.{ℕ, zero, suc, _+_, _-_, _*_, _≤_, _<_}
 use native.Mathlib.Nat.{not-suc-le-zero, le-of-suc-le-suc, eq-or-lt-of-le}
 use native.Mathlib.Omega.{arith}
@@ -7,14 +7,13 @@ use mathlib.Core.Logic.{⊎-elim}
 use mathlib.Core.Bool.{Bool, true, false, _&&_, true≢false}
 use borrow.Author.Tests.{leb-true, ltb-true, le-leb, lt-ltb}
 use lib.Dec.{leb, ltb}
-use mathlib.Core.List.{List}
 use Rattle.plane.specs.declared.Tensor.{Tensor}
 use Rattle.plane.specs.declared.Config.{Config}
 use Rattle.plane.specs.Arrays.{at}
 use Rattle.plane.specs.Planes.{srcStrides}
 use Rattle.plane.specs.Moves.{dstStrides}
 use Rattle.plane.proofs.Arrays.{sum-same}
-use Rattle.mover.specs.Element.{dimOf, kOf, every, isKept, areKept, sourcePlace, place, element}
+use Rattle.mover.specs.Element.{dimOf, kOf, every, sourcePlace, place}
 
 both : (a b : Bool) → (a && b) ≡ true → (a ≡ true) × (b ≡ true)
 both true b e = (refl, e)
@@ -60,22 +59,14 @@ module _ (p x n : ℕ) where
   pub test-range : (leb p x && ltb (x - p) n) ≡ true → (p ≤ x) × (x - p < n)
   test-range e = let w = both (leb p x) (ltb (x - p) n) e in (leb-true p x (w .0), ltb-true (x - p) n (w .1))
 
--- an element and its place look at the coordinates below the rank alone
+-- the places of an element and of its source look at the coordinates below the rank alone
 module _ (t : Tensor) (c : Config) (x y : ℕ → ℕ) (e : (i : ℕ) → i < t .rank → x i ≡ y i) where
   pub place-same : place t c x ≡ place t c y
   unfolding place
   place-same = sum-same (t .rank) _ _ (λ i h. ap (λ (a : ℕ). (at (c .«dst_offset») i + a) * at (dstStrides t c) i) (e i h))
 
-  kept-same : areKept t c x ≡ areKept t c y
-  unfolding areKept
-  kept-same = every-same (t .rank) _ _ (λ i h. ap (isKept t c i) (e i h))
-
-  source-same : sourcePlace t c x ≡ sourcePlace t c y
+  pub source-same : sourcePlace t c x ≡ sourcePlace t c y
   unfolding sourcePlace
   source-same =
       sum-same (t .rank) _ _
       (λ i h. ap (λ (a : ℕ). (at (c .offset) (dimOf c i) + kOf c i a * at (c .step) (dimOf c i)) * at (srcStrides t) (dimOf c i)) (e i h))
-
-  pub element-same : (src : List ℕ) → element t c src x ≡ element t c src y
-  unfolding element
-  element-same src = rw (kept-same, source-same)

@@ -5,15 +5,15 @@ use Prim.Native.Nat.{ℕ, _+_, _≤_, _<_}
 use native.Mathlib.Omega.{arith}
 use mathlib.Core.Bool.{false, _||_}
 use mathlib.Core.List.{List}
-use lib.ListN.{length, getD, drop, length-drop}
-use lib.Seq.{sets, length-take-le}
+use lib.ListN.{length, getD}
+use lib.Seq.{sets}
 use borrow.Author.Tests.{ltb-false}
 use Rattle.plane.proofs.Bools.{either-clear}
 use Rattle.mover.specs.declared.Part.{Part}
 use Rattle.mover.specs.declared.Job.{Job}
 use Rattle.mover.specs.Moved.{moveMemory}
 use Rattle.mover.specs.Within.{meets, jobFault, totalOf, bytesOf, advancedBy}
-use Rattle.mover.proofs.Laws.{moved-none, moved-more, moved-length, judged, source-fits, destination-fits, job-clear, job-apart, job-whole, advanced-outside, advanced-whole}
+use Rattle.mover.proofs.Laws.{moved-none, moved-more, moved-length, source-fits, destination-fits, job-apart, job-whole, job-judged, advanced-outside, advanced-whole}
 use Rattle.mover.specs.Demand2.{Meant}
 use Rattle.mover.proofs.Demand2.{demand-2}
 use Rattle.serial.specs.Parts.{Apart, replaced}
@@ -49,9 +49,6 @@ pub whole-move : (j : Job) (m : List ℕ)
 unfolding wholeMove replaced
 whole-move j m = refl
 
-pub part-length : (p : Part) (m : List ℕ) → p .start + p .length ≤ length m → length (bytesOf p m) ≡ p .length
-part-length p m h = length-take-le (p .length) (drop (p .start) m) (rw length-drop (omega arith))
-
 module _ (m : List ℕ) (j : Job) (z : jobFault (length m) j .status ≡ 0) where
   -- all its elements
   whole-advanced : wholeMove theMover j m ≡ advancedBy j 0 (totalOf j) m
@@ -60,10 +57,8 @@ module _ (m : List ℕ) (j : Job) (z : jobFault (length m) j .status ≡ 0) wher
   -- its destination part is what demand 2 says
   pub whole-meant : Meant (j .tensor) (j .config) (bytesOf (j .source) m) (bytesOf (j .destination) m) (bytesOf (j .destination) (wholeMove theMover j m))
   whole-meant =
-      let s = part-length (j .source) m (source-fits (length m) j z) in
-      let d = part-length (j .destination) m (destination-fits (length m) j z) in
       rw (whole-advanced, advanced-whole m j z)
-      (demand-2 (j .tensor) (j .config) (bytesOf (j .source) m) (bytesOf (j .destination) m) (judged (j .tensor) (j .config) _ _ ∙ rw (s, d) (job-clear (length m) j z)))
+      (demand-2 (j .tensor) (j .config) (bytesOf (j .source) m) (bytesOf (j .destination) m) (job-judged m j z))
 
   -- and no byte outside that part changes
   pub whole-outside : (k : ℕ) → (k < j .destination .start) ⊎ (j .destination .start + j .destination .length ≤ k) → getD (wholeMove theMover j m) k 0 ≡ getD m k 0

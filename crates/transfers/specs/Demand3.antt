@@ -2,16 +2,16 @@
 -- The crate serial says what an entry of the log is, what moves done one by one come to (`oneByOne`), and what `Midway` is.
 use mathlib.Core.Path.{_≡_}
 use mathlib.Core.Logic.{_⊎_}
-use Prim.Native.Nat.{ℕ, _+_, _*_, _≤_, _<_}
+use Prim.Native.Nat.{ℕ, _<_}
 use mathlib.Core.Bool.{cond}
 use mathlib.Core.List.{List, [], _∷_}
 use lib.Dec.{eqb}
-use lib.ListN.{length, getD}
+use lib.ListN.{length}
 use Rattle.mover.specs.declared.Part.{Part}
 use Rattle.mover.specs.declared.Job.{Job}
-use Rattle.mover.specs.Element.{place, element}
-use Rattle.mover.specs.Moved.{coordOf, moved, moveMemory}
+use Rattle.mover.specs.Moved.{moved, moveMemory}
 use Rattle.mover.specs.Within.{jobFault, totalOf, bytesOf}
+use Rattle.mover.specs.Demand2.{FirstsMeant}
 use Rattle.serial.specs.Parts as parts
 use Rattle.serial.specs.Machine.{Mover, Entry, released, entered, reporting, ended, edit}
 use Rattle.serial.specs.Claims.{Every, EveryHeld, Finished, Midway, oneByOne}
@@ -108,25 +108,12 @@ run (c ∷ cs) w = run cs (after c w)
 
 -- ---- the sentences
 
--- the byte of the destination part at which element number q of the job stands
-abbrev pub byteOf : Job → ℕ → ℕ
-byteOf j q = place (j .tensor) (j .config) (coordOf (j .tensor) (j .config) q) * j .tensor .size
-
--- element number q of the job, as the source bytes s have it
-abbrev pub elementOf : Job → List ℕ → ℕ → List ℕ
-elementOf j s q = element (j .tensor) (j .config) s (coordOf (j .tensor) (j .config) q)
-
--- byte by byte, what the memory m has of a transfer that is not yet released
+-- what the memory m has of a transfer that is not yet released
 pub record InPlace (m : List ℕ) (e : Entry Job) : Type 0 where
-  -- its first elements, as many as its steps together reported, lie in the destination part and are in place there
-  pub inside : (q : ℕ) → q < e .reported → byteOf (e .job) q + e .job .tensor .size ≤ e .job .destination .length
-  pub elements : (q : ℕ) → q < e .reported → (b : ℕ) → b < e .job .tensor .size
-      → getD (bytesOf (e .job .destination) m) (byteOf (e .job) q + b) 0
-      ≡ getD (elementOf (e .job) (bytesOf (e .job .source) (e .before)) q) b 0
-  -- a byte of the destination part that belongs to none of these is as at acceptance
-  pub others : (k : ℕ) → ((q : ℕ) → q < e .reported → (k < byteOf (e .job) q) ⊎ (byteOf (e .job) q + e .job .tensor .size ≤ k))
-      → getD (bytesOf (e .job .destination) m) k 0 ≡ getD (bytesOf (e .job .destination) (e .before)) k 0
-  -- the source part is as at acceptance
+  -- in its destination part its first elements, as many as its steps together reported, are in place as demand 2 says, byte by byte;
+  -- the part's other bytes are as at acceptance
+  pub destination : FirstsMeant (e .job .tensor) (e .job .config) (bytesOf (e .job .source) (e .before)) (bytesOf (e .job .destination) (e .before)) (e .reported) (bytesOf (e .job .destination) m)
+  -- its source part is as at acceptance
   pub source : bytesOf (e .job .source) m ≡ bytesOf (e .job .source) (e .before)
 
 -- what is claimed of a table t, a memory m and a log that calls led to from the memory m₀
