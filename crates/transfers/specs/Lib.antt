@@ -2,3 +2,4 @@
 pub mod Slots
 pub mod Calls
 pub mod Demand3
+pub mod Claims

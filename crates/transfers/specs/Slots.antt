@@ -8,7 +8,7 @@ use Rattle.plane.specs.declared.Tensor.{Tensor}
 use Rattle.plane.specs.declared.Config.{Config}
 use Rattle.plane.specs.Settings.{allZero}
 use Rattle.plane.specs.Helpers.{noTensor}
-use Rattle.plane.specs.Arrays.{at, table, zeros, some}
+use Rattle.plane.specs.Arrays.{at, table, some}
 use Rattle.mover.specs.declared.Part.{Part}
 use Rattle.mover.specs.declared.Job.{Job}
 use Rattle.mover.specs.Element.{every}
