@@ -1,21 +1,24 @@
--- A run that starts with a fresh table: every table that comes of it is sound, so over memories of its length neither 17 nor 18 is
+-- Calls that start with a fresh table: every table that comes of them is sound, so over memories of its length neither 17 nor 18 is
 -- ever given. Assumes nothing.
-use Prim.Native.Nat.{ℕ}
+use Prim.Native.Nat.{ℕ, _≤_}
 use native.Mathlib.Omega.{arith}
 use mathlib.Core.Path.{_≡_, refl, sym, ap, subst, _∙_}
 use mathlib.Core.Logic.{inl, inr}
 use mathlib.Core.Bool.{Bool, true, false, _||_, not, true≢false}
 use mathlib.Core.List.{List, [], _∷_, _++_}
-use borrow.Author.Tests.{eq-eqb, eqb-false}
+use borrow.Author.Tests.{eq-eqb, eqb-false, le-leb}
 use lib.Dec.{ltb, eqb}
+use lib.ListN.{length}
 use Rattle.plane.proofs.Bools.{either-clear}
 use Rattle.plane.proofs.Chains.{Rule, whole, Given, Exact}
 use Rattle.transfers.specs.declared.Table.{Table}
-use Rattle.transfers.specs.Slots.{tableSound}
-use Rattle.transfers.specs.Calls.{pollOf, pollStatus}
+use Rattle.transfers.specs.Slots.{tableSound, limit}
+use Rattle.transfers.specs.Calls.{freshOf, pollOf, pollStatus}
+use Rattle.transfers.specs.Demand3.{Log, Course, made, prepared, started, stepped, freed, Call, prepare, start, step, release, poll, World, begin, after, run}
 use Rattle.transfers.specs.Claims.{SoundFor, Handed, by-fresh, by-prepare, by-start, by-step, by-release, Neither17Nor18, NeverClosed}
-use Rattle.transfers.proofs.Keeps.{free-table, prepare-keeps, start-keeps, step-keeps, release-keeps}
+use Rattle.transfers.proofs.Keeps.{free-table, fresh-keeps, prepare-keeps, start-keeps, step-keeps, release-keeps}
 use Rattle.transfers.proofs.Exact.{openRules, pollRules, prepare-exact, start-exact, step-exact, release-exact, poll-exact}
+use Rattle.transfers.proofs.Demand3.{listed, demand-3}
 
 onward : {m n : ℕ} {u : Table} → m ≡ n → SoundFor m u → SoundFor n u
 onward {u = u} e k = subst (λ (m : ℕ). SoundFor m u) e k
@@ -79,8 +82,45 @@ sound-open t n k = record {
   poll = λ h. poll-neither t h (k .sound);
 }
 
--- ---- the theorem
+-- ---- a list of calls
 
--- over a memory of the length that the first table was made for, neither 17 nor 18 is given
+after-sound : (c : Call) (w : World) → tableSound (w .table) ≡ true → SoundFor (w .table .length) (after c w .table)
+unfolding after
+after-sound (prepare j) w p = prepare-keeps (w .table) p (length (w .memory)) j
+after-sound (start h) w p = start-keeps (w .table) p (length (w .memory)) h
+after-sound (step h b) w p = step-keeps (w .table) p (length (w .memory)) h b
+after-sound (release h) w p = release-keeps (w .table) p (length (w .memory)) h
+after-sound (poll h) w p = record { sound = p; long = refl }
+
+run-sound : (cs : List Call) (w : World) → tableSound (w .table) ≡ true → SoundFor (w .table .length) (run cs w .table)
+unfolding run
+run-sound [] w p = record { sound = p; long = refl }
+run-sound (c ∷ cs) w p = let k = after-sound c w p in onward (k .long) (run-sound cs (after c w) (k .sound))
+
+begin-sound : (n : ℕ) (m : List ℕ) → n ≤ limit → SoundFor n (begin n m .table)
+unfolding begin freshOf
+begin-sound n m h = rw (le-leb n limit h) (record { sound = free-table n h; long = refl })
+
+-- ---- the theorems: over a memory of the length that the first table was made for, neither 17 nor 18 is given
+
 pub handed-open : {n : ℕ} {t : Table} → Handed n t → NeverClosed t n
 handed-open {n} {t} r = sound-open t n (handed-sound r)
+
+-- the same in the runs of demand 3, for callers whose calls are no list
+pub course-sound : {m₀ : List ℕ} {t : Table} {m : List ℕ} {log : Log} → Course m₀ t m log → tableSound t ≡ true
+course-sound (made n e) = rw e (fresh-keeps n)
+course-sound (prepared {t = t} {m = m} s j e) = rw e (prepare-keeps t (course-sound s) (length m) j .sound)
+course-sound (started {t = t} {m = m} s h e) = rw e (start-keeps t (course-sound s) (length m) h .sound)
+course-sound (stepped {t = t} {m = m} s h b e f) = rw e (step-keeps t (course-sound s) (length m) h b .sound)
+course-sound (freed {t = t} {m = m} s h e) = rw e (release-keeps t (course-sound s) (length m) h .sound)
+
+pub course-open : {m₀ : List ℕ} {t : Table} {m : List ℕ} {log : Log} → Course m₀ t m log → t .length ≡ length m₀ → NeverClosed t (length m)
+course-open {m₀} {t} {m} {log} s own =
+    sound-open t (length m) (record { sound = course-sound s; long = own ∙ sym (demand-3 m₀ t m log s .long) })
+
+-- and for every list of calls
+pub listed-open : (m₀ : List ℕ) (cs : List Call) → length m₀ ≤ limit
+    → NeverClosed (run cs (begin (length m₀) m₀) .table) (length (run cs (begin (length m₀) m₀) .memory))
+listed-open m₀ cs h =
+    let b = begin-sound (length m₀) m₀ h in
+    course-open (listed (length m₀) m₀ cs) (run-sound cs (begin (length m₀) m₀) (b .sound) .long ∙ b .long)

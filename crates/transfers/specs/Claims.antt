@@ -1,14 +1,15 @@
--- What is claimed besides demand 3: tables stay sound, what finishes a transfer, a free slot is all zero.
+-- What is claimed besides demand 3: tables stay sound, what finishes a transfer, what a poll says, a free slot is all zero.
 use mathlib.Core.Path.{_≡_}
-use Prim.Native.Nat.{ℕ, _+_, _≤_}
-use mathlib.Core.Bool.{true, cond}
+use Prim.Native.Nat.{ℕ, _+_, _≤_, _<_}
+use mathlib.Core.Bool.{true, false, cond}
 use mathlib.Core.List.{List, [], _∷_}
 use lib.Dec.{eqb}
 use lib.ListN.{length}
 use Rattle.mover.specs.declared.Job.{Job}
 use Rattle.transfers.specs.declared.Table.{Table}
-use Rattle.transfers.specs.Slots.{freshTable, tableSound, limit}
-use Rattle.transfers.specs.Calls.{prepareOf, startOf, stepOf, releaseOf, pollOf, pollStatus}
+use Rattle.transfers.specs.declared.Poll.{Poll}
+use Rattle.transfers.specs.Slots.{freshTable, slotAt, tableSound, limit}
+use Rattle.transfers.specs.Calls.{prepareOf, startOf, stepOf, releaseOf, left, pollOf, pollStatus, pollState, pollLeft}
 use Rattle.transfers.specs.Demand3.{Call, prepare, start, step, release, poll, World, after}
 
 -- ---- sound tables
@@ -61,6 +62,23 @@ Unreleased h (step g b ∷ cs) w = Unreleased h cs (after (step g b) w)
 Unreleased h (release g ∷ cs) w =
     (releaseOf (w .table) (length (w .memory)) g .status ≡ 0 → h ≡ g → ⊥) × Unreleased h cs (after (release g) w)
 Unreleased h (poll g ∷ cs) w = Unreleased h cs (after (poll g) w)
+
+-- ---- polls, in the paper's numbers
+
+-- the answer's number, the state that it tells, and what is left
+abbrev pub Says : Poll → ℕ → ℕ → ℕ → Type 0
+Says p number state rest = (pollStatus p ≡ number) × (pollState p ≡ state) × (pollLeft p ≡ rest)
+
+-- a poll of the slot at h, in every case
+pub record Polled (t : Table) (h : ℕ) : Type 0 where
+  pub unsound : tableSound t ≡ false → Says (pollOf t h) 18 0 0
+  pub no-slot : tableSound t ≡ true → 3 < h → Says (pollOf t h) 23 0 0
+  pub free : tableSound t ≡ true → h < 4 → slotAt t h .state ≡ 0 → Says (pollOf t h) 0 0 0
+  pub prepared : tableSound t ≡ true → h < 4 → slotAt t h .state ≡ 1 → Says (pollOf t h) 0 1 (left (slotAt t h))
+  pub running : tableSound t ≡ true → h < 4 → slotAt t h .state ≡ 2 → Says (pollOf t h) 0 2 (left (slotAt t h))
+  pub done : tableSound t ≡ true → h < 4 → slotAt t h .state ≡ 3 → Says (pollOf t h) 0 3 0
+  -- a slot of a sound table is in one of these states
+  pub known : tableSound t ≡ true → h < 4 → slotAt t h .state < 4
 
 -- ---- a free slot
 

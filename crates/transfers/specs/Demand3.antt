@@ -2,18 +2,18 @@
 -- The crate serial says what an entry of the log is, what moves done one by one come to (`oneByOne`), and what `Midway` is.
 use mathlib.Core.Path.{_≡_}
 use mathlib.Core.Logic.{_⊎_}
-use Prim.Native.Nat.{ℕ, _<_}
+use Prim.Native.Nat.{ℕ, _+_, _≤_, _<_}
 use mathlib.Core.Bool.{cond}
 use mathlib.Core.List.{List, [], _∷_}
 use lib.Dec.{eqb}
-use lib.ListN.{length}
+use lib.ListN.{length, getD}
 use Rattle.mover.specs.declared.Part.{Part}
 use Rattle.mover.specs.declared.Job.{Job}
 use Rattle.mover.specs.Moved.{moved, moveMemory}
 use Rattle.mover.specs.Within.{jobFault, totalOf, bytesOf}
-use Rattle.mover.specs.Demand2.{FirstsMeant}
+use Rattle.mover.specs.Demand2.{Meant, FirstsMeant}
 use Rattle.serial.specs.Parts as parts
-use Rattle.serial.specs.Machine.{Mover, Entry, released, entered, reporting, ended, edit}
+use Rattle.serial.specs.Machine.{Mover, Entry, wholeMove, released, entered, reporting, ended, edit}
 use Rattle.serial.specs.Claims.{Every, EveryHeld, Finished, Midway, oneByOne}
 use Rattle.transfers.specs.declared.Table.{Table}
 use Rattle.transfers.specs.declared.FreshTable.{FreshTable}
@@ -108,6 +108,19 @@ run (c ∷ cs) w = run cs (after c w)
 
 -- ---- the sentences
 
+-- a whole move of the job over the memory m is an accepted move of demand 2 between the job's two parts
+pub record WholeMeant (j : Job) (m : List ℕ) : Type 0 where
+  pub passed : jobFault (length m) j .status ≡ 0
+  -- its destination part is what demand 2 says; no byte outside that part changes, nor the memory's length
+  pub destination : Meant (j .tensor) (j .config) (bytesOf (j .source) m) (bytesOf (j .destination) m) (bytesOf (j .destination) (wholeMove theMover j m))
+  pub outside : (k : ℕ) → (k < j .destination .start) ⊎ (j .destination .start + j .destination .length ≤ k) → getD (wholeMove theMover j m) k 0 ≡ getD m k 0
+  pub long : length (wholeMove theMover j m) ≡ length m
+
+-- each of the whole moves of a log, over the memory that those accepted before it leave
+abbrev pub EachMeant : List ℕ → Log → Type 0
+EachMeant m₀ [] = Unit {0}
+EachMeant m₀ (e ∷ older) = WholeMeant (e .job) (oneByOne theMover m₀ older) × EachMeant m₀ older
+
 -- what the memory m has of a transfer that is not yet released
 pub record InPlace (m : List ℕ) (e : Entry Job) : Type 0 where
   -- in its destination part its first elements, as many as its steps together reported, are in place as demand 2 says, byte by byte;
@@ -120,8 +133,11 @@ pub record InPlace (m : List ℕ) (e : Entry Job) : Type 0 where
 pub record Demand3 (m₀ : List ℕ) (t : Table) (m : List ℕ) (log : Log) : Type 0 where
   -- if every accepted transfer has finished, the memory is what whole moves give when done one after another in the order of acceptance
   pub serial : Every (Finished theMover) log → m ≡ oneByOne theMover m₀ log
-  -- and each of those whole moves is an accepted one
+  -- and each of those whole moves is an accepted move of demand 2
   pub passed : Every (λ e. jobFault (length m₀) (e .job) .status ≡ 0) log
+  pub moves : EachMeant m₀ log
+  -- the memory keeps its length
+  pub long : length m ≡ length m₀
   -- every accepted transfer has finished if each poll says free or done
   pub finished : ((h : ℕ) → h < 4 → (pollOf t h ≡ says.Free) ⊎ (pollOf t h ≡ says.Done)) → Every (Finished theMover) log
   -- midway, the destination part of each transfer not yet released is what the mover leaves after as many elements as its steps reported
