@@ -1,5 +1,6 @@
 -- Demand 3: calls, refused ones included, from a fresh table and over one memory; the log of the accepted transfers; what is claimed.
--- The crate serial says what an entry of the log is, what moves done one by one come to (`oneByOne`), and what `Midway` is.
+-- The crate serial says what an entry of the log is, what moves done one by one come to (`oneByOne`), and what `Midway` is; the crate
+-- mover says in its Demand2 what a move, and its first elements, leave (`Meant`, `FirstsMeant`).
 use mathlib.Core.Path.{_≡_}
 use mathlib.Core.Logic.{_⊎_}
 use Prim.Native.Nat.{ℕ, _+_, _≤_, _<_}
