@@ -1,4 +1,5 @@
--- Demand 2: what an accepted move leaves of the destination, on the paper's terms alone; and that a refused one leaves it as it was.
+-- Demand 2: what an accepted move, and its first elements, leave of the destination, on the paper's terms alone; and that a refused one
+-- leaves it as it was.
 -- Assumes nothing.
 use Prim.Native.Nat.{ℕ, zero, suc, _+_, _-_, _*_, _≤_, _<_}
 use native.Mathlib.Nat.{zero-add, add-mul, one-mul, mod-lt, not-suc-le-zero, le-of-suc-le-suc, eq-or-lt-of-le}
@@ -18,65 +19,39 @@ use Rattle.plane.specs.Moves.{count, judgeOf}
 use Rattle.plane.proofs.Arrays.{every-all, every-each, every-fails}
 use Rattle.plane.proofs.Good.{GoodConfig, GoodMove}
 use Rattle.mover.specs.Element.{dimOf, kOf, isKept, areKept, sourcePlace, place, element}
-use Rattle.mover.specs.Moved.{extentAt, total, coordOf, moved, moveMemory}
+use Rattle.mover.specs.Moved.{total, coordOf, moved, moveMemory}
+use Rattle.mover.specs.Demand2.{IsCoordinate, KeptAt, Meant, byteOf, FirstsMeant}
 use Rattle.mover.proofs.Laws.{judged, judged-good, moved-length, moved-whole, moved-refused}
-use Rattle.mover.proofs.Keeping.{range-test, test-range, place-same, element-same}
+use Rattle.mover.proofs.Keeping.{range-test, test-range, place-same, source-same}
 use Rattle.mover.proofs.Fitting.{home-fits, place-fits}
 use Rattle.mover.proofs.Spacing.{numberAt, numberAt-lt, numberAt-coord, extent-some, bytes-rise, bytes-apart}
 use Rattle.mover.proofs.Stored.{moved-elsewhere, moved-element}
 
--- ---- what is claimed
-
--- x is a destination coordinate: in each dimension it is below the extent
-abbrev pub Inside : Tensor → Config → (ℕ → ℕ) → Type 0
-Inside t c x = (i : ℕ) → i < t .rank → x i < extentAt t c i
-
--- in destination dimension i, which is source dimension s = perm[i], k = x[i] - pre[s] is from 0 to count - 1
-abbrev pub Kept : Tensor → Config → (ℕ → ℕ) → ℕ → Type 0
-Kept t c x i = (at (c .pre) (at (c .perm) i) ≤ x i) × (x i - at (c .pre) (at (c .perm) i) < count t c (at (c .perm) i))
-
--- the destination dst has become e
-pub record Meant (t : Tensor) (c : Config) (src dst e : List ℕ) : Type 0 where
-  -- it is as long as it was
-  pub long : length e ≡ length dst
-  -- the element of every coordinate lies in it
-  pub inside : (x : ℕ → ℕ) → Inside t c x → place t c x * t .size + t .size ≤ length e
-  -- coordinates that differ have no byte in common
-  pub apart : (x y : ℕ → ℕ) → Inside t c x → Inside t c y → (i : ℕ) → i < t .rank → (x i ≡ y i → ⊥) →
-      (place t c x * t .size + t .size ≤ place t c y * t .size) ⊎ (place t c y * t .size + t .size ≤ place t c x * t .size)
-  -- if every k is from 0 to count - 1, each byte of the element is the source element's, which lies in the source
-  pub source : (x : ℕ → ℕ) → Inside t c x → ((i : ℕ) → i < t .rank → Kept t c x i) → (b : ℕ) → b < t .size →
-      (sourcePlace t c x * t .size + b < length src) × (getD e (place t c x * t .size + b) 0 ≡ getD src (sourcePlace t c x * t .size + b) 0)
-  -- if some k is not, each byte of the element is 0
-  pub zeros : (x : ℕ → ℕ) → Inside t c x → (i : ℕ) → i < t .rank → (Kept t c x i → ⊥) → (b : ℕ) → b < t .size → getD e (place t c x * t .size + b) 0 ≡ 0
-  -- a byte that belongs to the element of no coordinate is as it was
-  pub rest : (k : ℕ) → ((x : ℕ → ℕ) → Inside t c x → (k < place t c x * t .size) ⊎ (place t c x * t .size + t .size ≤ k)) → getD e k 0 ≡ getD dst k 0
-
 -- ---- the test of what is kept says what is claimed, and the bytes of an element
 
 module _ (t : Tensor) (c : Config) (x : ℕ → ℕ) where
-  all-kept : ((i : ℕ) → i < t .rank → Kept t c x i) → areKept t c x ≡ true
+  all-kept : ((i : ℕ) → i < t .rank → KeptAt t c x i) → areKept t c x ≡ true
   unfolding areKept isKept
   all-kept h = every-all (λ i. isKept t c i (x i)) (t .rank) (λ i l. range-test (at (c .pre) (dimOf c i)) (x i) (count t c (dimOf c i)) (h i l))
 
-  each-kept : areKept t c x ≡ true → (i : ℕ) → i < t .rank → Kept t c x i
+  each-kept : areKept t c x ≡ true → (i : ℕ) → i < t .rank → KeptAt t c x i
   unfolding areKept isKept
   each-kept e i l = test-range (at (c .pre) (dimOf c i)) (x i) (count t c (dimOf c i)) (every-each (λ i. isKept t c i (x i)) (t .rank) e i l)
 
-  not-kept : (i : ℕ) → i < t .rank → (Kept t c x i → ⊥) → areKept t c x ≡ false
+  not-kept : (i : ℕ) → i < t .rank → (KeptAt t c x i → ⊥) → areKept t c x ≡ false
   not-kept i l h = by-test (areKept t c x) refl
     where
       by-test : (b : Bool) → areKept t c x ≡ b → areKept t c x ≡ false
       by-test true e = absurd (h (each-kept e i l))
       by-test false e = e
 
-  one-not-kept : areKept t c x ≡ false → (i : ℕ) × (i < t .rank) × (Kept t c x i → ⊥)
+  one-not-kept : areKept t c x ≡ false → (i : ℕ) × (i < t .rank) × (KeptAt t c x i → ⊥)
   unfolding areKept isKept
   one-not-kept e =
       let w = every-fails (λ i. isKept t c i (x i)) (t .rank) e in
       (w .0, w .1, λ k. true≢false (sym (range-test (at (c .pre) (dimOf c (w .0))) (x (w .0)) (count t c (dimOf c (w .0))) k) ∙ w .2))
 
-  source-within : GoodConfig t c → ((i : ℕ) → i < t .rank → Kept t c x i) → sourcePlace t c x * t .size + t .size ≤ span t
+  source-within : GoodConfig t c → ((i : ℕ) → i < t .rank → KeptAt t c x i) → sourcePlace t c x * t .size + t .size ≤ span t
   unfolding sourcePlace
   source-within g h =
       let w = home-fits g (λ i. kOf c i (x i)) (λ i l. omega (arith, h i l .1)) in
@@ -107,116 +82,155 @@ module _ (t : Tensor) (c : Config) (x : ℕ → ℕ) where
     pad-byte : (b : ℕ) → b < t .size → areKept t c x ≡ false → getD (element t c src x) b 0 ≡ 0
     pad-byte b h e = rw (element-pad e, getD-replicate)
 
--- ---- the theorem
+-- ---- the first n elements of an accepted move
 
-module _ (t : Tensor) (c : Config) (src dst : List ℕ) where
-  module _ (g : GoodMove t c (length src) (length dst)) where
-    fits : (x : ℕ → ℕ) → Inside t c x → place t c x * t .size + t .size ≤ length dst
-    fits x w =
-        let f = place-fits (g .config) x w in
-        let r = g .room in
-        omega (arith, rw (add-mul, one-mul) at f)
+module _ (t : Tensor) (c : Config) (src dst : List ℕ) (g : GoodMove t c (length src) (length dst)) where
+  fits : (x : ℕ → ℕ) → IsCoordinate t c x → place t c x * t .size + t .size ≤ length dst
+  fits x w =
+      let f = place-fits (g .config) x w in
+      let r = g .room in
+      omega (arith, rw (add-mul, one-mul) at f)
 
-    -- the coordinates of an element's number
-    coord-inside : (q : ℕ) → Inside t c (coordOf t c q)
-    unfolding coordOf
-    coord-inside q i h = mod-lt _ (extent-some (g .source) (g .config) (g .place) i h)
+  -- the coordinates of an element's number
+  coord-inside : (q : ℕ) → IsCoordinate t c (coordOf t c q)
+  unfolding coordOf
+  coord-inside q i h = mod-lt _ (extent-some (g .source) (g .config) (g .place) i h)
 
-    -- the bytes at the place of each coordinate
-    element-at : (x : ℕ → ℕ) → Inside t c x → (b : ℕ) → b < t .size → getD (moved t c src 0 (total t c) dst) (place t c x * t .size + b) 0 ≡ getD (element t c src x) b 0
-    element-at x w b h =
-        let q = numberAt t c x in
-        let same = numberAt-coord t c x w in
-        let l = element-long t c (coordOf t c q) src (g .config) (g .long) in
-        let m = moved-element t c src (bytes-rise (g .source) (g .config) (g .place)) 0 (total t c) dst q b (λ r k. fits (coordOf t c r) (coord-inside r)) (omega arith) (numberAt-lt t c x w) (rw zero-add (omega arith)) in
-        rw (zero-add, place-same t c (coordOf t c q) x same, element-same t c (coordOf t c q) x same src) at m
+  module _ (n : ℕ) (most : n ≤ total t c) where
+    element-at : (q b : ℕ) → q < n → b < t .size → getD (moved t c src 0 n dst) (byteOf t c q + b) 0 ≡ getD (element t c src (coordOf t c q)) b 0
+    element-at q b l h =
+        let z = element-long t c (coordOf t c q) src (g .config) (g .long) in
+        rw zero-add at
+        (moved-element t c src (bytes-rise (g .source) (g .config) (g .place)) 0 n dst q b (λ r k. fits (coordOf t c r) (coord-inside r)) (omega arith) l (rw zero-add (omega arith)))
 
-    accepted-meant : Meant t c src dst (moved t c src 0 (total t c) dst)
-    accepted-meant =
-        let l = moved-length t c src 0 (total t c) dst in
+    accepted-firsts : FirstsMeant t c src dst n (moved t c src 0 n dst)
+    accepted-firsts =
+        let l = moved-length t c src 0 n dst in
         record {
           long = l;
-          inside = λ x w. rw l (fits x w);
-          apart = λ x y. bytes-apart (g .source) (g .config) (g .place) x y;
-          source = λ x w k b h. let s = source-within t c x (g .config) k in let n = g .long in (omega arith, element-at x w b h ∙ kept-byte t c x src b h (all-kept t c x k));
-          zeros = λ x w i l n b h. element-at x w b h ∙ pad-byte t c x src b h (not-kept t c x i l n);
-          rest = λ k h. moved-elsewhere t c src 0 (total t c) dst k (λ q l. rw zero-add (h (coordOf t c q) (coord-inside q)));
+          inside = λ q k. rw l (fits (coordOf t c q) (coord-inside q));
+          apart = λ q r k m. bytes-rise (g .source) (g .config) (g .place) q r k (omega arith);
+          source = λ q k a b h.
+              let s = source-within t c (coordOf t c q) (g .config) a in
+              let m = g .long in
+              (omega arith, element-at q b k h ∙ kept-byte t c (coordOf t c q) src b h (all-kept t c (coordOf t c q) a));
+          zeros = λ q k i l a b h. element-at q b k h ∙ pad-byte t c (coordOf t c q) src b h (not-kept t c (coordOf t c q) i l a);
+          rest = λ k h. moved-elsewhere t c src 0 n dst k (λ q l. rw zero-add (h q l));
         }
 
-  -- what an accepted move leaves
-  pub demand-2 : judgeOf t c (length src) (length dst) .status ≡ 0 → Meant t c src dst (moveMemory t c src dst)
-  demand-2 z =
-      rw (moved-whole t c src dst (sym (judged t c (length src) (length dst)) ∙ z))
-      (accepted-meant (judged-good t c (length src) (length dst) z))
+  -- ---- all of them: the coordinates are those of the numbers below the total
 
-  -- a refused one leaves the destination as it was
-  pub demand-2-refused : (judgeOf t c (length src) (length dst) .status ≡ 0 → ⊥) → moveMemory t c src dst ≡ dst
-  demand-2-refused h = moved-refused t c src dst h
+  firsts-whole : (e : List ℕ) → FirstsMeant t c src dst (total t c) e → Meant t c src dst e
+  firsts-whole e m =
+      record {
+        long = m .long;
+        inside = λ x w. rw (m .long) (fits x w);
+        apart = λ x y. bytes-apart (g .source) (g .config) (g .place) x y;
+        source = λ x w k b h.
+            let q = numberAt t c x in
+            let same = numberAt-coord t c x w in
+            rw (place-same t c (coordOf t c q) x same, source-same t c (coordOf t c q) x same) at
+            (m .source q (numberAt-lt t c x w) (λ i l. rw (same i l) (k i l)) b h);
+        zeros = λ x w i l a b h.
+            let q = numberAt t c x in
+            let same = numberAt-coord t c x w in
+            rw (place-same t c (coordOf t c q) x same) at
+            (m .zeros q (numberAt-lt t c x w) i l (λ k. a (rw (same i l) at k)) b h);
+        rest = λ k h. m .rest k (λ q l. h (coordOf t c q) (coord-inside q));
+      }
 
--- ---- and it says all: of an accepted move, no other destination is so
+  whole-firsts : (e : List ℕ) → Meant t c src dst e → FirstsMeant t c src dst (total t c) e
+  whole-firsts e m =
+      record {
+        long = m .long;
+        inside = λ q l. m .inside (coordOf t c q) (coord-inside q);
+        apart = bytes-rise (g .source) (g .config) (g .place);
+        source = λ q l. m .source (coordOf t c q) (coord-inside q);
+        zeros = λ q l. m .zeros (coordOf t c q) (coord-inside q);
+        rest = λ k h.
+            m .rest k
+            (λ x w. rw (place-same t c (coordOf t c (numberAt t c x)) x (numberAt-coord t c x w)) at (h (numberAt t c x) (numberAt-lt t c x w)));
+      }
+
+-- ---- no two destinations are so
 
 -- an element below number n that has byte k, or none
 module _ (t : Tensor) (c : Config) (k : ℕ) where
   Owns : ℕ → Type 0
-  Owns q = (place t c (coordOf t c q) * t .size ≤ k) × (k < place t c (coordOf t c q) * t .size + t .size)
+  Owns q = (byteOf t c q ≤ k) × (k < byteOf t c q + t .size)
 
   Spares : ℕ → Type 0
-  Spares q = (k < place t c (coordOf t c q) * t .size) ⊎ (place t c (coordOf t c q) * t .size + t .size ≤ k)
+  Spares q = (k < byteOf t c q) ⊎ (byteOf t c q + t .size ≤ k)
 
   owns : (q : ℕ) → Owns q ⊎ Spares q
   unfolding Owns Spares
-  owns q = elim (decLt k (place t c (coordOf t c q) * t .size)) [
+  owns q = elim (decLt k (byteOf t c q)) [
     | yes l ↦ inr (inl l)
-    | no l ↦ elim (decLt k (place t c (coordOf t c q) * t .size + t .size)) [
+    | no l ↦ elim (decLt k (byteOf t c q + t .size)) [
       | yes m ↦ inl (omega arith, m)
       | no m ↦ inr (inr (omega arith))
     ]
   ]
 
-  owner : (n : ℕ) → ((q : ℕ) × Owns q) ⊎ ((q : ℕ) → q < n → Spares q)
+  owner : (n : ℕ) → ((q : ℕ) × (q < n) × Owns q) ⊎ ((q : ℕ) → q < n → Spares q)
   owner zero = inr (λ q h. absurd (not-suc-le-zero h))
   owner (suc n) =
       ⊎-elim
-      (λ o. inl (n, o))
+      (λ o. inl (n, omega arith, o))
       (λ s.
       ⊎-elim
-      (λ o. inl o)
+      (λ (o : (q : ℕ) × (q < n) × Owns q). inl (o .0, omega (arith, o .1), o .2))
       (λ f. inr (λ q h. ⊎-elim (λ e. subst Spares (sym e) s) (f q) (eq-or-lt-of-le (le-of-suc-le-suc h))))
       (owner n))
       (owns n)
 
-module _ (t : Tensor) (c : Config) (src dst e f : List ℕ) (g : GoodMove t c (length src) (length dst)) (m : Meant t c src dst e) (n : Meant t c src dst f) where
+module _ (t : Tensor) (c : Config) (src dst : List ℕ) (n : ℕ) (e f : List ℕ) (m : FirstsMeant t c src dst n e) (o : FirstsMeant t c src dst n f) where
   -- a byte of an element
-  same-owned : (x : ℕ → ℕ) → Inside t c x → (b : ℕ) → b < t .size → getD e (place t c x * t .size + b) 0 ≡ getD f (place t c x * t .size + b) 0
-  same-owned x w b h = by-test (areKept t c x) refl
+  same-owned : (q b : ℕ) → q < n → b < t .size → getD e (byteOf t c q + b) 0 ≡ getD f (byteOf t c q + b) 0
+  same-owned q b l h = by-test (areKept t c (coordOf t c q)) refl
     where
-      by-test : (d : Bool) → areKept t c x ≡ d → getD e (place t c x * t .size + b) 0 ≡ getD f (place t c x * t .size + b) 0
-      by-test true k = m .source x w (each-kept t c x k) b h .1 ∙ sym (n .source x w (each-kept t c x k) b h .1)
-      by-test false k = let o = one-not-kept t c x k in m .zeros x w (o .0) (o .1) (o .2) b h ∙ sym (n .zeros x w (o .0) (o .1) (o .2) b h)
-
-  -- a byte of none
-  same-spared : (k : ℕ) → ((q : ℕ) → q < total t c → Spares t c k q) → getD e k 0 ≡ getD f k 0
-  unfolding Spares
-  same-spared k s = m .rest k none ∙ sym (n .rest k none)
-    where
-      none : (x : ℕ → ℕ) → Inside t c x → (k < place t c x * t .size) ⊎ (place t c x * t .size + t .size ≤ k)
-      none x w = rw (place-same t c (coordOf t c (numberAt t c x)) x (numberAt-coord t c x w)) at (s (numberAt t c x) (numberAt-lt t c x w))
+      by-test : (d : Bool) → areKept t c (coordOf t c q) ≡ d → getD e (byteOf t c q + b) 0 ≡ getD f (byteOf t c q + b) 0
+      by-test true k = let a = each-kept t c (coordOf t c q) k in m .source q l a b h .1 ∙ sym (o .source q l a b h .1)
+      by-test false k = let a = one-not-kept t c (coordOf t c q) k in m .zeros q l (a .0) (a .1) (a .2) b h ∙ sym (o .zeros q l (a .0) (a .1) (a .2) b h)
 
   same-byte : (k : ℕ) → getD e k 0 ≡ getD f k 0
-  unfolding Owns
+  unfolding Owns Spares
   same-byte k =
       ⊎-elim
-      (λ (o : (q : ℕ) × Owns t c k q).
-      let x = coordOf t c (o .0) in
-      let b = k - place t c x * t .size in
-      let h : place t c x * t .size + b ≡ k = omega (arith, o .1 .0) in
-      rw h at (same-owned x (coord-inside t c src dst g (o .0)) b (omega (arith, o .1 .0, o .1 .1))))
-      (same-spared k)
-      (owner t c k (total t c))
+      (λ (w : (q : ℕ) × (q < n) × Owns t c k q).
+      let b = k - byteOf t c (w .0) in
+      let h : byteOf t c (w .0) + b ≡ k = omega (arith, w .2 .0) in
+      rw h at (same-owned (w .0) b (w .1) (omega (arith, w .2 .0, w .2 .1))))
+      (λ s. m .rest k s ∙ sym (o .rest k s))
+      (owner t c k n)
 
-  same-meant : e ≡ f
-  same-meant = ext-getD 0 e f (m .long ∙ sym (n .long)) (λ k h. same-byte k)
+  same-firsts : e ≡ f
+  same-firsts = ext-getD 0 e f (m .long ∙ sym (o .long)) (λ k h. same-byte k)
 
-pub demand-2-only : (t : Tensor) (c : Config) (src dst e : List ℕ) → judgeOf t c (length src) (length dst) .status ≡ 0 → Meant t c src dst e → e ≡ moveMemory t c src dst
-demand-2-only t c src dst e z m =
-    same-meant t c src dst e (moveMemory t c src dst) (judged-good t c (length src) (length dst) z) m (demand-2 t c src dst z)
+-- ---- the theorems
+
+module _ (t : Tensor) (c : Config) (src dst : List ℕ) where
+  -- a refused move leaves the destination as it was
+  pub demand-2-refused : (judgeOf t c (length src) (length dst) .status ≡ 0 → ⊥) → moveMemory t c src dst ≡ dst
+  demand-2-refused h = moved-refused t c src dst h
+
+  module _ (z : judgeOf t c (length src) (length dst) .status ≡ 0) where
+    good : GoodMove t c (length src) (length dst)
+    good = judged-good t c (length src) (length dst) z
+
+    all : moveMemory t c src dst ≡ moved t c src 0 (total t c) dst
+    all = moved-whole t c src dst (sym (judged t c (length src) (length dst)) ∙ z)
+
+    -- what the first n elements of an accepted one leave; and no other destination is so
+    pub firsts-meant : (n : ℕ) → n ≤ total t c → FirstsMeant t c src dst n (moved t c src 0 n dst)
+    firsts-meant n h = accepted-firsts t c src dst good n h
+
+    pub firsts-only : (n : ℕ) (e : List ℕ) → n ≤ total t c → FirstsMeant t c src dst n e → e ≡ moved t c src 0 n dst
+    firsts-only n e h m = same-firsts t c src dst n e (moved t c src 0 n dst) m (firsts-meant n h)
+
+    -- what all of them leave; and no other destination is so
+    pub demand-2 : Meant t c src dst (moveMemory t c src dst)
+    demand-2 = rw all (firsts-whole t c src dst good (moved t c src 0 (total t c) dst) (firsts-meant (total t c) (omega arith)))
+
+    pub demand-2-only : (e : List ℕ) → Meant t c src dst e → e ≡ moveMemory t c src dst
+    demand-2-only e m = firsts-only (total t c) e (omega arith) (whole-firsts t c src dst good e m) ∙ sym all

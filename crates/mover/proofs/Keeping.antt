@@ -1,18 +1,17 @@
--- The test for what is kept, and what an element looks at. Assumes nothing.
+-- The test for what is kept, and what an element's places look at. Assumes nothing.
 use Prim.Native.Nat.{ℕ, _+_, _-_, _*_, _≤_, _<_}
 use mathlib.Core.Path.{_≡_, ap}
 use mathlib.Core.Bool.{true, _&&_}
 use borrow.Author.Tests.{leb-true, ltb-true, le-leb, lt-ltb}
 use lib.Dec.{leb, ltb}
-use mathlib.Core.List.{List}
 use Rattle.plane.specs.declared.Tensor.{Tensor}
 use Rattle.plane.specs.declared.Config.{Config}
 use Rattle.plane.specs.Arrays.{at}
 use Rattle.plane.specs.Planes.{srcStrides}
 use Rattle.plane.specs.Moves.{dstStrides}
 use Rattle.plane.proofs.Bools.{both-first, both-second}
-use Rattle.plane.proofs.Arrays.{sum-same, every-same}
-use Rattle.mover.specs.Element.{dimOf, kOf, isKept, areKept, sourcePlace, place, element}
+use Rattle.plane.proofs.Arrays.{sum-same}
+use Rattle.mover.specs.Element.{dimOf, kOf, sourcePlace, place}
 
 -- x - p is from 0 to n - 1
 module _ (p x n : ℕ) where
@@ -22,22 +21,14 @@ module _ (p x n : ℕ) where
   pub test-range : (leb p x && ltb (x - p) n) ≡ true → (p ≤ x) × (x - p < n)
   test-range e = (leb-true p x (both-first _ (ltb (x - p) n) e), ltb-true (x - p) n (both-second (leb p x) _ e))
 
--- an element and its place look at the coordinates below the rank alone
+-- the places of an element and of its source look at the coordinates below the rank alone
 module _ (t : Tensor) (c : Config) (x y : ℕ → ℕ) (e : (i : ℕ) → i < t .rank → x i ≡ y i) where
   pub place-same : place t c x ≡ place t c y
   unfolding place
   place-same = sum-same (t .rank) _ _ (λ i h. ap (λ (a : ℕ). (at (c .«dst_offset») i + a) * at (dstStrides t c) i) (e i h))
 
-  kept-same : areKept t c x ≡ areKept t c y
-  unfolding areKept
-  kept-same = every-same (t .rank) _ _ (λ i h. ap (isKept t c i) (e i h))
-
-  source-same : sourcePlace t c x ≡ sourcePlace t c y
+  pub source-same : sourcePlace t c x ≡ sourcePlace t c y
   unfolding sourcePlace
   source-same =
       sum-same (t .rank) _ _
       (λ i h. ap (λ (a : ℕ). (at (c .offset) (dimOf c i) + kOf c i a * at (c .step) (dimOf c i)) * at (srcStrides t) (dimOf c i)) (e i h))
-
-  pub element-same : (src : List ℕ) → element t c src x ≡ element t c src y
-  unfolding element
-  element-same src = rw (kept-same, source-same)

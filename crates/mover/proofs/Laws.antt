@@ -161,11 +161,19 @@ put-back m b l h =
 own : (m e : List ℕ) (b l : ℕ) → length e ≡ l → b + l ≤ length m → take l (drop b (sets m b e)) ≡ e
 own m e b l p h = subst (λ (k : ℕ). take k (drop b (sets m b e)) ≡ e) p (part-own m e b (omega arith))
 
+part-length : (p : Part) (m : List ℕ) → p .start + p .length ≤ length m → length (bytesOf p m) ≡ p .length
+part-length p m h = length-take-le (p .length) (drop (p .start) m) (simp length-drop (omega arith))
+
 module _ (m : List ℕ) (j : Job) (z : jobFault (length m) j .status ≡ 0) where
+  source-length : length (bytesOf (j .source) m) ≡ j .source .length
+  source-length = part-length (j .source) m (source-fits (length m) j z)
+
   destination-length : length (bytesOf (j .destination) m) ≡ j .destination .length
-  destination-length =
-      let f = destination-fits (length m) j z in
-      length-take-le (j .destination .length) (drop (j .destination .start) m) (simp length-drop (omega arith))
+  destination-length = part-length (j .destination) m (destination-fits (length m) j z)
+
+  -- the move between its parts is an accepted one
+  pub job-judged : judgeOf (j .tensor) (j .config) (length (bytesOf (j .source) m)) (length (bytesOf (j .destination) m)) .status ≡ 0
+  job-judged = judged (j .tensor) (j .config) _ _ ∙ rw (source-length, destination-length) (job-clear (length m) j z)
 
   module _ (from n : ℕ) where
     -- what n elements leave of the destination part
@@ -205,6 +213,5 @@ module _ (m : List ℕ) (j : Job) (z : jobFault (length m) j .status ≡ 0) wher
   -- all of them leave in the destination part what the whole move leaves there
   pub advanced-whole : bytesOf (j .destination) (advancedBy j 0 (totalOf j) m) ≡ moveMemory (j .tensor) (j .config) (bytesOf (j .source) m) (bytesOf (j .destination) m)
   advanced-whole =
-      let f = source-fits (length m) j z in
-      let s : length (bytesOf (j .source) m) ≡ j .source .length = length-take-le (j .source .length) (drop (j .source .start) m) (simp length-drop (omega arith)) in
-      advanced-destination 0 (totalOf j) ∙ sym (job-whole (length m) j z (bytesOf (j .source) m) (bytesOf (j .destination) m) s destination-length)
+      advanced-destination 0 (totalOf j) ∙
+      sym (job-whole (length m) j z (bytesOf (j .source) m) (bytesOf (j .destination) m) source-length destination-length)

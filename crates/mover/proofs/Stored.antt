@@ -10,8 +10,9 @@ use lib.ListN.{length, getD, set, take, drop, replicate, length-set, length-repl
 use lib.Seq.{sets, getD-set-same}
 use Rattle.plane.specs.declared.Tensor.{Tensor}
 use Rattle.plane.specs.declared.Config.{Config}
-use Rattle.mover.specs.Element.{areKept, sourcePlace, place, element}
+use Rattle.mover.specs.Element.{areKept, sourcePlace, element}
 use Rattle.mover.specs.Moved.{total, coordOf, stored, moved}
+use Rattle.mover.specs.Demand2.{byteOf}
 use Rattle.mover.proofs.Runs.{getD-sets-out, length-take-most}
 use Rattle.mover.proofs.Laws.{moved-length}
 
@@ -26,10 +27,6 @@ sets-inside (v ∷ vs) l at (suc i) h m =
 length-cond : (b : Bool) (z : ℕ) (l : List ℕ) → length (cond b (take z l) (replicate z 0)) ≤ z
 length-cond true z l = length-take-most z l
 length-cond false z l = rw length-replicate (omega arith)
-
--- the byte at which element number q stands
-abbrev pub byteOf : Tensor → Config → ℕ → ℕ
-byteOf t c q = place t c (coordOf t c q) * t .size
 
 module _ (t : Tensor) (c : Config) (src : List ℕ) where
   pub length-element : (x : ℕ → ℕ) → length (element t c src x) ≤ t .size

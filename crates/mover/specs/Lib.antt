@@ -4,4 +4,5 @@ pub mod Moved
 pub mod Within
 pub mod SubPart
 pub mod Orders
+pub mod Demand2
 pub mod Private

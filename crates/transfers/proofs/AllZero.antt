@@ -17,6 +17,7 @@ use Rattle.transfers.specs.declared.Slot.{Slot}
 use Rattle.plane.specs.Settings.{zeroConfig}
 use Rattle.plane.specs.Planes.{zeroTensor}
 use Rattle.transfers.specs.Slots.{zeroPart, zeroJob, freeSlot, isZeroArray, isZeroPart, isZeroTensor, isZeroConfig, isZeroJob, slotSound}
+use Rattle.transfers.specs.Claims.{FourEntries}
 use Rattle.transfers.proofs.Sounds.{zero-sound}
 
 no-entry : (xs : List ℕ) → length xs ≡ 4 → isZeroArray xs ≡ true → xs ≡ zeros
@@ -35,20 +36,7 @@ no-part p e =
     let b = eqb-true (p .length) 0 (both-second (eqb (p .start) 0) _ e) in
     λ i. record { start = a i; length = b i }
 
--- every array has four entries, as in code it has
-pub record Fours (j : Job) : Type 0 where
-  pub shape : length (j .tensor .shape) ≡ 4
-  pub stride : length (j .tensor .stride) ≡ 4
-  pub offset : length (j .config .offset) ≡ 4
-  pub size : length (j .config .size) ≡ 4
-  pub step : length (j .config .step) ≡ 4
-  pub dst-offset : length (j .config .«dst_offset») ≡ 4
-  pub dst-stride : length (j .config .«dst_stride») ≡ 4
-  pub perm : length (j .config .perm) ≡ 4
-  pub pre : length (j .config .pre) ≡ 4
-  pub post : length (j .config .post) ≡ 4
-
-module _ (j : Job) (f : Fours j) where
+module _ (j : Job) (f : FourEntries j) where
   no-tensor : isZeroTensor (j .tensor) ≡ true → j .tensor ≡ zeroTensor
   unfolding isZeroTensor
   no-tensor e =
@@ -111,7 +99,7 @@ module _ (j : Job) (f : Fours j) where
       let config = no-config (both-second (parts && isZeroTensor (j .tensor)) (isZeroConfig (j .config)) e) in
       λ i. record { source = source i; destination = destination i; tensor = tensor i; config = config i }
 
-pub free-is-zero : (n : ℕ) (s : Slot) → Fours (s .job) → slotSound n s ≡ true → s .state ≡ 0 → s ≡ freeSlot
+pub free-is-zero : (n : ℕ) (s : Slot) → FourEntries (s .job) → slotSound n s ≡ true → s .state ≡ 0 → s ≡ freeSlot
 free-is-zero n s f p z =
     let e = zero-sound n s z ∙ p in
     let job = no-job (s .job) f (both-first _ (eqb (s .moved) 0) e) in

@@ -23,24 +23,13 @@ use Rattle.transfers.specs.declared.Poll.the-variants as says
 use Rattle.transfers.specs.Slots.{slotAt, freeSlot, withSlot, lowestFree, tableSound}
 use Rattle.transfers.specs.Calls.{callFault, prepareFault, newSlot, prepareOf, changed, running, startOf, releaseOf, countOf, later, stepOf, stepMemory, left, pollSlot, pollOf}
 use Rattle.transfers.specs.Demand3.{Call, prepare, start, step, release, poll, World, after, run}
+use Rattle.transfers.specs.Claims.{spends, spend, Unreleased}
 use Rattle.transfers.proofs.Fours.{slot-same, slot-other, lowest-is}
 use Rattle.transfers.proofs.Sounds.{sound-tells, busy}
 use Rattle.transfers.proofs.Answers.{open-0, called, preparing, call-0}
 use Rattle.transfers.proofs.Steps.{running-left, poll-done}
 use Rattle.transfers.proofs.Keeps.{prepare-keeps, start-keeps, step-keeps, release-keeps}
 use Rattle.transfers.proofs.Demand3.{by-fault}
-
--- what a call gives the transfer at h to spend, and what a list of calls gives it together
-unfoldable pub spends : ℕ → Call → ℕ
-spends h (prepare j) = 0
-spends h (start g) = 0
-spends h (step g b) = cond (eqb g h) b 0
-spends h (release g) = 0
-spends h (poll g) = 0
-
-unfoldable pub spend : ℕ → List Call → ℕ
-spend h [] = 0
-spend h (c ∷ cs) = spends h c + spend h cs
 
 -- the transfer at h is done, or it is running with at most n elements left
 abbrev AtMost : Slot → ℕ → Type 0
@@ -139,16 +128,6 @@ step-long t g b m =
     (λ z. advanced-length (slotAt t g .job) (slotAt t g .moved) (countOf (slotAt t g) b) m) (λ z. refl)
 
 -- ---- a list of calls
-
--- none of the calls releases h: a release of it may be asked for, and is refused
-abbrev pub Unreleased : ℕ → List Call → World → Type 0
-Unreleased h [] w = Unit {0}
-Unreleased h (prepare j ∷ cs) w = Unreleased h cs (after (prepare j) w)
-Unreleased h (start g ∷ cs) w = Unreleased h cs (after (start g) w)
-Unreleased h (step g b ∷ cs) w = Unreleased h cs (after (step g b) w)
-Unreleased h (release g ∷ cs) w =
-    (releaseOf (w .table) (length (w .memory)) g .status ≡ 0 → h ≡ g → ⊥) × Unreleased h cs (after (release g) w)
-Unreleased h (poll g ∷ cs) w = Unreleased h cs (after (poll g) w)
 
 module _ (h : ℕ) (q : h < 4) where
   pub going : (cs : List Call) (w : World) → Unreleased h cs w → Going h (spend h cs) w → Going h 0 (run cs w)

@@ -28,7 +28,7 @@ use Rattle.transfers.specs.Calls.{freshOf, prepareFault, callFault, newS
 use Rattle.transfers.specs.Demand3.{theMover, Log, notePrepare, noteStep, noteRelease, Course, made, prepared, started, stepped, freed, Call, prepare, start, step, release, poll, World, begin, after, run, ForCourses, ForRuns}
 use Rattle.transfers.proofs.Fours.{lowest-is}
 use Rattle.transfers.proofs.Answers.{called, preparing}
-use Rattle.transfers.proofs.Lawful.{lawful, applied-advanced, clear-of}
+use Rattle.transfers.proofs.Lawful.{lawful, applied-advanced, each-meant, clear-of}
 use Rattle.transfers.proofs.View.{view, view-with, view-free, view-taken, shown-job, later-view, quiet-view}
 use Rattle.transfers.proofs.Midway.{in-place-each}
 
@@ -152,10 +152,13 @@ listed n m₀ cs = course-run m₀ cs (begin n m₀) (made n refl)
 pub demand-3 : ForCourses
 demand-3 m₀ t m log s =
     let r = shown m₀ s in
+    let p = serial.passed theMover lawful m₀ (view t) m log r in
     let w = serial.midway theMover lawful m₀ (view t) m log r in
     record {
       serial = serial.serial theMover lawful m₀ (view t) m log r;
-      passed = serial.passed theMover lawful m₀ (view t) m log r .1;
+      passed = p .1;
+      moves = each-meant m₀ log (p .1);
+      long = p .0;
       finished = λ q. serial.settled theMover lawful m₀ (view t) m log r (quiet-view t q);
       midway = w;
       in-place = in-place-each m log w;

@@ -22,16 +22,12 @@ use Rattle.transfers.specs.declared.Changed.{Changed}
 use Rattle.transfers.specs.declared.Stepped.{Stepped}
 use Rattle.transfers.specs.Slots.{freeSlot, freshTable, slotAt, withSlot, breaks, clashes, isZeroTensor, isZeroConfig, isZeroJob, movedRight, slotSound, tableSound, limit}
 use Rattle.transfers.specs.Calls.{freshOf, prepareFault, callFault, newSlot, prepareOf, changed, running, startOf, releaseOf, countOf, later, stepOf}
+use Rattle.transfers.specs.Claims.{SoundFor}
 use Rattle.transfers.proofs.Fours.{slot-same, slot-other, with-length, lowest-is}
 use Rattle.transfers.proofs.Meeting.{breaks-either, empty-breaks}
 use Rattle.transfers.proofs.Sounds.{Busy, busy, busy-sound, Sound, sound-tells, tells-sound, right-1, right-2, right-3, right-most}
 use Rattle.transfers.proofs.Answers.{Called, called, preparing}
 use Rattle.transfers.proofs.Steps.{count-within}
-
--- a table that is sound, for a memory of n bytes
-pub record Kept (n : ℕ) (t : Table) : Type 0 where
-  pub sound : tableSound t ≡ true
-  pub long : t .length ≡ n
 
 -- ---- a fresh table
 
@@ -115,7 +111,7 @@ module _ (t : Table) (h : ℕ) (s : Slot) (w : Sound t) (q : h < 4) (one : slotS
     ]
   ]
 
-  pub put-sound : Kept (t .length) (withSlot t h s)
+  pub put-sound : SoundFor (t .length) (withSlot t h s)
   put-sound = record {
     sound = tells-sound (withSlot t h s) (record {
       short = rw (with-length t h s) (w .short);
@@ -135,13 +131,13 @@ either-way f y x P p q = elim (ℕ-discrete (f .status) 0) [
 -- ---- the calls
 
 module _ (t : Table) (p : tableSound t ≡ true) where
-  same : Kept (t .length) t
+  same : SoundFor (t .length) t
   same = record { sound = p; long = refl }
 
-  pub prepare-keeps : (n : ℕ) (j : Job) → Kept (t .length) (prepareOf t n j .table)
+  pub prepare-keeps : (n : ℕ) (j : Job) → SoundFor (t .length) (prepareOf t n j .table)
   unfolding prepareOf clashes
   prepare-keeps n j =
-      either-way (prepareFault t n j) _ _ (λ (r : Prepared). Kept (t .length) (r .table)) same
+      either-way (prepareFault t n j) _ _ (λ (r : Prepared). SoundFor (t .length) (r .table)) same
       (λ z.
       let k = preparing t n j z in
       let r = lowest-is t (k .room) in
@@ -150,10 +146,10 @@ module _ (t : Table) (p : tableSound t ≡ true) where
       (λ i l d. some-clear 4 (λ (i : ℕ). breaks j (slotAt t i .job)) (k .apart) i l))
 
   -- a call on one slot, which is put back with the same job, or freed
-  change-keeps : (n h want : ℕ) (s : Slot) → (Called t n h want → slotSound (t .length) s ≡ true) → ((j : Job) → breaks (slotAt t h .job) j ≡ false → breaks (s .job) j ≡ false) → Kept (t .length) (changed (callFault t n h want) t h s .table)
+  change-keeps : (n h want : ℕ) (s : Slot) → (Called t n h want → slotSound (t .length) s ≡ true) → ((j : Job) → breaks (slotAt t h .job) j ≡ false → breaks (s .job) j ≡ false) → SoundFor (t .length) (changed (callFault t n h want) t h s .table)
   unfolding changed
   change-keeps n h want s one b =
-      either-way (callFault t n h want) _ _ (λ (r : Changed). Kept (t .length) (r .table)) same
+      either-way (callFault t n h want) _ _ (λ (r : Changed). SoundFor (t .length) (r .table)) same
       (λ z.
       let k = called t n h want z in
       let w = sound-tells t p in
@@ -162,7 +158,7 @@ module _ (t : Table) (p : tableSound t ≡ true) where
   its-busy : (n h want : ℕ) → Called t n h want → Busy (t .length) (slotAt t h)
   its-busy n h want k = busy (t .length) (slotAt t h) (k .taken) (sound-tells t p .each h (k .range))
 
-  pub start-keeps : (n h : ℕ) → Kept (t .length) (startOf t n h .table)
+  pub start-keeps : (n h : ℕ) → SoundFor (t .length) (startOf t n h .table)
   unfolding startOf
   start-keeps n h =
       change-keeps n h 1 (running (slotAt t h))
@@ -172,14 +168,14 @@ module _ (t : Table) (p : tableSound t ≡ true) where
       running-sound (t .length) s u (eqb-true (s .moved) 0 (right-1 (s .state) (s .moved) (totalOf (s .job)) (k .state) ∙ u .right)))
       (λ j e. e)
 
-  pub release-keeps : (n h : ℕ) → Kept (t .length) (releaseOf t n h .table)
+  pub release-keeps : (n h : ℕ) → SoundFor (t .length) (releaseOf t n h .table)
   unfolding releaseOf
   release-keeps n h = change-keeps n h 3 freeSlot (λ k. free-sound (t .length)) (λ j e. free-apart j)
 
-  pub step-keeps : (n h budget : ℕ) → Kept (t .length) (stepOf t n h budget .table)
+  pub step-keeps : (n h budget : ℕ) → SoundFor (t .length) (stepOf t n h budget .table)
   unfolding stepOf later
   step-keeps n h budget =
-      either-way (callFault t n h 2) _ _ (λ (r : Stepped). Kept (t .length) (r .table)) same
+      either-way (callFault t n h 2) _ _ (λ (r : Stepped). SoundFor (t .length) (r .table)) same
       (λ z.
       let k = called t n h 2 z in
       let w = sound-tells t p in

@@ -1,26 +1,25 @@
 -- The mover keeps the laws that the crate serial asks for. Assumes nothing.
 use mathlib.Core.Path.{_≡_, refl, sym, _∙_}
-use mathlib.Core.Logic.{_⊎_, ⊎-elim}
-use Prim.Native.Nat.{ℕ, _+_, _≤_, _<_}
+use mathlib.Core.Logic.{⊎-elim}
+use Prim.Native.Nat.{ℕ}
 use native.Mathlib.Omega.{arith}
 use mathlib.Core.Bool.{false, _||_}
-use mathlib.Core.List.{List}
-use lib.ListN.{length, getD, drop, length-drop}
-use lib.Seq.{sets, length-take-le}
+use mathlib.Core.List.{List, [], _∷_}
+use lib.ListN.{length}
+use lib.Seq.{length-sets}
 use borrow.Author.Tests.{ltb-false}
 use Rattle.plane.proofs.Bools.{either-clear}
 use Rattle.mover.specs.declared.Part.{Part}
 use Rattle.mover.specs.declared.Job.{Job}
-use Rattle.mover.specs.Moved.{moveMemory}
 use Rattle.mover.specs.Within.{meets, jobFault, totalOf, bytesOf, advancedBy}
-use Rattle.mover.proofs.Laws.{moved-none, moved-more, moved-length, judged, source-fits, destination-fits, job-clear, job-apart, job-whole, advanced-outside, advanced-whole}
-use Rattle.mover.proofs.Demand2.{Meant, demand-2}
+use Rattle.mover.proofs.Laws.{moved-none, moved-more, moved-length, source-fits, destination-fits, job-apart, job-whole, job-judged, advanced-length, advanced-outside, advanced-whole}
+use Rattle.mover.proofs.Demand2.{demand-2}
 use Rattle.serial.specs.Parts.{Apart, replaced}
 use Rattle.serial.specs.Machine.{applied, wholeMove, Clear}
-use Rattle.serial.specs.Claims.{Lawful}
+use Rattle.serial.specs.Claims.{Lawful, Every, oneByOne}
 use Rattle.serial.proofs.Applied.{applied-whole}
 use Rattle.transfers.specs.Slots.{breaks}
-use Rattle.transfers.specs.Demand3.{partOf, theMover}
+use Rattle.transfers.specs.Demand3.{partOf, theMover, Log, WholeMeant, EachMeant}
 
 own-apart : (n : ℕ) (j : Job) → jobFault n j .status ≡ 0 → Apart (partOf (j .source)) (partOf (j .destination))
 own-apart n j z i a b = ⊎-elim {C = ⊥} (λ u. omega arith) (λ v. omega arith) (job-apart n j z)
@@ -43,30 +42,32 @@ applied-advanced j n k m = refl
 
 -- ---- a whole move inside one memory is the move of demand 2 between the two parts
 
-pub whole-move : (j : Job) (m : List ℕ)
-    → wholeMove theMover j m ≡ sets m (j .destination .start) (moveMemory (j .tensor) (j .config) (bytesOf (j .source) m) (bytesOf (j .destination) m))
-unfolding wholeMove replaced
-whole-move j m = refl
-
-pub part-length : (p : Part) (m : List ℕ) → p .start + p .length ≤ length m → length (bytesOf p m) ≡ p .length
-part-length p m h = length-take-le (p .length) (drop (p .start) m) (rw length-drop (omega arith))
-
 module _ (m : List ℕ) (j : Job) (z : jobFault (length m) j .status ≡ 0) where
   -- all its elements
   whole-advanced : wholeMove theMover j m ≡ advancedBy j 0 (totalOf j) m
   whole-advanced = sym (applied-whole theMover lawful (length m) j z m refl) ∙ applied-advanced j 0 (totalOf j) m
 
-  -- its destination part is what demand 2 says
-  pub whole-meant : Meant (j .tensor) (j .config) (bytesOf (j .source) m) (bytesOf (j .destination) m) (bytesOf (j .destination) (wholeMove theMover j m))
-  whole-meant =
-      let s = part-length (j .source) m (source-fits (length m) j z) in
-      let d = part-length (j .destination) m (destination-fits (length m) j z) in
-      rw (whole-advanced, advanced-whole m j z)
-      (demand-2 (j .tensor) (j .config) (bytesOf (j .source) m) (bytesOf (j .destination) m) (judged (j .tensor) (j .config) _ _ ∙ rw (s, d) (job-clear (length m) j z)))
+  pub whole-meant : WholeMeant j m
+  whole-meant = record {
+    passed = z;
+    destination =
+        rw (whole-advanced, advanced-whole m j z)
+        (demand-2 (j .tensor) (j .config) (bytesOf (j .source) m) (bytesOf (j .destination) m) (job-judged m j z));
+    outside = λ k o. rw whole-advanced (advanced-outside j 0 (totalOf j) m k o);
+    long = rw whole-advanced (advanced-length j 0 (totalOf j) m);
+  }
 
-  -- and no byte outside that part changes
-  pub whole-outside : (k : ℕ) → (k < j .destination .start) ⊎ (j .destination .start + j .destination .length ≤ k) → getD (wholeMove theMover j m) k 0 ≡ getD m k 0
-  whole-outside k o = rw whole-advanced (advanced-outside j 0 (totalOf j) m k o)
+-- and so is each of those done one after another, for every memory between is as long as the first
+module _ (m₀ : List ℕ) where
+  pub one-by-one-long : (log : Log) → length (oneByOne theMover m₀ log) ≡ length m₀
+  unfolding oneByOne wholeMove replaced
+  one-by-one-long [] = refl
+  one-by-one-long (e ∷ older) = simp length-sets (one-by-one-long older)
+
+  pub each-meant : (log : Log) → Every (λ e. jobFault (length m₀) (e .job) .status ≡ 0) log → EachMeant m₀ log
+  each-meant [] p = tt
+  each-meant (e ∷ older) p =
+      (whole-meant (oneByOne theMover m₀ older) (e .job) (rw (one-by-one-long older) (p .0)), each-meant older (p .1))
 
 -- ---- the rule between two slots
 

@@ -1,48 +1,39 @@
--- A run that starts with a fresh table: every table that comes of it is sound, so over memories of its length neither 17 nor 18 is
+-- Calls that start with a fresh table: every table that comes of them is sound, so over memories of its length neither 17 nor 18 is
 -- ever given. Assumes nothing.
 use Prim.Native.Nat.{ℕ, _≤_}
 use native.Mathlib.Omega.{arith}
 use mathlib.Core.Path.{_≡_, refl, sym, ap, subst, _∙_}
 use mathlib.Core.Logic.{inl, inr}
-use mathlib.Core.Bool.{false, not, true≢false}
+use mathlib.Core.Bool.{true, false, not, true≢false}
 use mathlib.Core.List.{List, [], _∷_, _++_}
-use borrow.Author.Tests.{eq-eqb}
+use borrow.Author.Tests.{eq-eqb, le-leb}
 use lib.Dec.{ltb}
+use lib.ListN.{length}
 use Rattle.plane.specs.Exactness.{Rule, whole, Given, Exact}
 use Rattle.plane.proofs.Chains.{has, never-given}
-use Rattle.mover.specs.declared.Job.{Job}
 use Rattle.transfers.specs.declared.Table.{Table}
-use Rattle.transfers.specs.Slots.{freshTable, limit}
-use Rattle.transfers.specs.Calls.{prepareOf, startOf, releaseOf, stepOf, pollOf, pollStatus}
-use Rattle.transfers.specs.Orders.{openRules}
-use Rattle.transfers.proofs.Keeps.{Kept, free-table, prepare-keeps, start-keeps, step-keeps, release-keeps}
+use Rattle.transfers.specs.Slots.{tableSound, limit}
+use Rattle.transfers.specs.Calls.{freshOf, pollOf, pollStatus}
+use Rattle.transfers.specs.Demand3.{Log, Course, made, prepared, started, stepped, freed, Call, prepare, start, step, release, poll, World, begin, after, run}
+use Rattle.transfers.specs.Orders.{openRules, pollRules}
+use Rattle.transfers.specs.Claims.{SoundFor, Handed, by-fresh, by-prepare, by-start, by-step, by-release, Neither17Nor18, NeverClosed}
+use Rattle.transfers.proofs.Keeps.{free-table, fresh-keeps, prepare-keeps, start-keeps, step-keeps, release-keeps}
 use Rattle.transfers.proofs.Exact.{prepare-exact, start-exact, step-exact, release-exact, poll-exact}
+use Rattle.transfers.proofs.Demand3.{listed, demand-3}
 
--- the tables that a caller can come to hold who starts with a fresh one for n bytes, whatever memories and jobs he then hands in
-pub data Run (n : ℕ) : Table → Type 0 where
-  began : n ≤ limit → Run n (freshTable n)
-  prepared : {t : Table} → Run n t → (m : ℕ) (j : Job) → Run n (prepareOf t m j .table)
-  started : {t : Table} → Run n t → (m h : ℕ) → Run n (startOf t m h .table)
-  stepped : {t : Table} → Run n t → (m h budget : ℕ) → Run n (stepOf t m h budget .table)
-  released : {t : Table} → Run n t → (m h : ℕ) → Run n (releaseOf t m h .table)
+onward : {m n : ℕ} {u : Table} → m ≡ n → SoundFor m u → SoundFor n u
+onward {u = u} e k = subst (λ (m : ℕ). SoundFor m u) e k
 
-onward : {m n : ℕ} {u : Table} → m ≡ n → Kept m u → Kept n u
-onward {u = u} e k = subst (λ (m : ℕ). Kept m u) e k
-
-pub run-sound : {n : ℕ} {t : Table} → Run n t → Kept n t
-run-sound {n} (began h) = record { sound = free-table n h; long = refl }
-run-sound (prepared {t} r m j) = let k = run-sound r in onward (k .long) (prepare-keeps t (k .sound) m j)
-run-sound (started {t} r m h) = let k = run-sound r in onward (k .long) (start-keeps t (k .sound) m h)
-run-sound (stepped {t} r m h budget) = let k = run-sound r in onward (k .long) (step-keeps t (k .sound) m h budget)
-run-sound (released {t} r m h) = let k = run-sound r in onward (k .long) (release-keeps t (k .sound) m h)
+pub handed-sound : {n : ℕ} {t : Table} → Handed n t → SoundFor n t
+handed-sound {n} (by-fresh h) = record { sound = free-table n h; long = refl }
+handed-sound (by-prepare {t} r m j) = let k = handed-sound r in onward (k .long) (prepare-keeps t (k .sound) m j)
+handed-sound (by-start {t} r m h) = let k = handed-sound r in onward (k .long) (start-keeps t (k .sound) m h)
+handed-sound (by-step {t} r m h budget) = let k = handed-sound r in onward (k .long) (step-keeps t (k .sound) m h budget)
+handed-sound (by-release {t} r m h) = let k = handed-sound r in onward (k .long) (release-keeps t (k .sound) m h)
 
 -- ---- numbers that are not given
 
-pub record Open (number : ℕ) : Type 0 where
-  pub not-17 : number ≡ 17 → ⊥
-  pub not-18 : number ≡ 18 → ⊥
-
-module _ (t : Table) (n : ℕ) (k : Kept n t) (rest : List Rule) (a : has 17 rest ≡ false) (b : has 18 rest ≡ false) where
+module _ (t : Table) (n : ℕ) (k : SoundFor n t) (rest : List Rule) (a : has 17 rest ≡ false) (b : has 18 rest ≡ false) where
   never-17 : (d : ℕ) → Given (openRules t n ++ rest) 17 d → ⊥
   never-17 d (inl g) = true≢false (sym (g .1 .here) ∙ ap not (eq-eqb n (t .length) (sym (k .long))))
   never-17 d (inr g) = elim (g .1) [
@@ -57,30 +48,70 @@ module _ (t : Table) (n : ℕ) (k : Kept n t) (rest : List Rule) (a : has 17 res
     | inr x ↦ never-given rest 18 d b (x .1)
   ]
 
-  opens : {number dim : ℕ} → Exact (openRules t n ++ rest) number dim → Open number
-  opens {number} {dim} e = record {
+  neither : {number dim : ℕ} → Exact (openRules t n ++ rest) number dim → Neither17Nor18 number
+  neither {number} {dim} e = record {
     not-17 = λ z. never-17 dim (e .gives 17 dim (omega arith) .0 (z, refl));
     not-18 = λ z. never-18 dim (e .gives 18 dim (omega arith) .0 (z, refl));
   }
 
--- ---- the theorems: in a run, over a memory of n bytes
-
-module _ {n : ℕ} {t : Table} (r : Run n t) where
-  pub prepare-open : (j : Job) → Open (prepareOf t n j .status)
-  prepare-open j = opens t n (run-sound r) _ refl refl (prepare-exact t n j)
-
-  pub start-open : (h : ℕ) → Open (startOf t n h .status)
-  start-open h = opens t n (run-sound r) _ refl refl (start-exact t n h)
-
-  pub step-open : (h budget : ℕ) → Open (stepOf t n h budget .status)
-  step-open h budget = opens t n (run-sound r) _ refl refl (step-exact t h budget n)
-
-  pub release-open : (h : ℕ) → Open (releaseOf t n h .status)
-  release-open h = opens t n (run-sound r) _ refl refl (release-exact t n h)
-
-  -- a poll knows no 17
-  pub poll-open : (h : ℕ) → pollStatus (pollOf t h) ≡ 18 → ⊥
-  poll-open h z = elim (poll-exact t h .gives 18 0 (omega arith) .0 (z, refl)) [
-    | inl x ↦ true≢false (sym (x .1 .here) ∙ ap not (run-sound r .sound))
+-- a poll knows no 17
+poll-neither : (t : Table) (h : ℕ) → tableSound t ≡ true → Neither17Nor18 (pollStatus (pollOf t h))
+poll-neither t h p = record {
+  not-17 = λ z. never-given (pollRules t h) 17 0 refl (poll-exact t h .gives 17 0 (omega arith) .0 (z, refl));
+  not-18 = λ z. elim (poll-exact t h .gives 18 0 (omega arith) .0 (z, refl)) [
+    | inl x ↦ true≢false (sym (x .1 .here) ∙ ap not p)
     | inr x ↦ never-given (whole 23 (ltb 3 h) ∷ []) 18 0 refl (x .1)
-  ]
+  ];
+}
+
+sound-open : (t : Table) (n : ℕ) → SoundFor n t → NeverClosed t n
+sound-open t n k = record {
+  prepare = λ j. neither t n k _ refl refl (prepare-exact t n j);
+  start = λ h. neither t n k _ refl refl (start-exact t n h);
+  step = λ h budget. neither t n k _ refl refl (step-exact t h budget n);
+  release = λ h. neither t n k _ refl refl (release-exact t n h);
+  poll = λ h. poll-neither t h (k .sound);
+}
+
+-- ---- a list of calls
+
+after-sound : (c : Call) (w : World) → tableSound (w .table) ≡ true → SoundFor (w .table .length) (after c w .table)
+unfolding after
+after-sound (prepare j) w p = prepare-keeps (w .table) p (length (w .memory)) j
+after-sound (start h) w p = start-keeps (w .table) p (length (w .memory)) h
+after-sound (step h b) w p = step-keeps (w .table) p (length (w .memory)) h b
+after-sound (release h) w p = release-keeps (w .table) p (length (w .memory)) h
+after-sound (poll h) w p = record { sound = p; long = refl }
+
+run-sound : (cs : List Call) (w : World) → tableSound (w .table) ≡ true → SoundFor (w .table .length) (run cs w .table)
+unfolding run
+run-sound [] w p = record { sound = p; long = refl }
+run-sound (c ∷ cs) w p = let k = after-sound c w p in onward (k .long) (run-sound cs (after c w) (k .sound))
+
+begin-sound : (n : ℕ) (m : List ℕ) → n ≤ limit → SoundFor n (begin n m .table)
+unfolding begin freshOf
+begin-sound n m h = rw (le-leb n limit h) (record { sound = free-table n h; long = refl })
+
+-- ---- the theorems: over a memory of the length that the first table was made for, neither 17 nor 18 is given
+
+pub handed-open : {n : ℕ} {t : Table} → Handed n t → NeverClosed t n
+handed-open {n} {t} r = sound-open t n (handed-sound r)
+
+-- the same in the runs of demand 3, for callers whose calls are no list
+pub course-sound : {m₀ : List ℕ} {t : Table} {m : List ℕ} {log : Log} → Course m₀ t m log → tableSound t ≡ true
+course-sound (made n e) = rw e (fresh-keeps n)
+course-sound (prepared {t = t} {m = m} s j e) = rw e (prepare-keeps t (course-sound s) (length m) j .sound)
+course-sound (started {t = t} {m = m} s h e) = rw e (start-keeps t (course-sound s) (length m) h .sound)
+course-sound (stepped {t = t} {m = m} s h b e f) = rw e (step-keeps t (course-sound s) (length m) h b .sound)
+course-sound (freed {t = t} {m = m} s h e) = rw e (release-keeps t (course-sound s) (length m) h .sound)
+
+pub course-open : {m₀ : List ℕ} {t : Table} {m : List ℕ} {log : Log} → Course m₀ t m log → t .length ≡ length m₀ → NeverClosed t (length m)
+course-open {m₀} {t} {m} {log} s own =
+    sound-open t (length m) (record { sound = course-sound s; long = own ∙ sym (demand-3 m₀ t m log s .long) })
+
+-- and for every list of calls
+pub listed-open : (m₀ : List ℕ) (cs : List Call) → length m₀ ≤ limit
+    → NeverClosed (run cs (begin (length m₀) m₀) .table) (length (run cs (begin (length m₀) m₀) .memory))
+listed-open m₀ cs h =
+    let b = begin-sound (length m₀) m₀ h in
+    course-open (listed (length m₀) m₀ cs) (run-sound cs (begin (length m₀) m₀) (b .sound) .long ∙ b .long)

@@ -1,19 +1,20 @@
 -- Demand 3: calls, refused ones included, from a fresh table and over one memory; the log of the accepted transfers; what is claimed.
--- The crate serial says what an entry of the log is, what moves done one by one come to (`oneByOne`), and what `Midway` is.
+-- The crate serial says what an entry of the log is, what moves done one by one come to (`oneByOne`), and what `Midway` is; the crate
+-- mover says in its Demand2 what a move, and its first elements, leave (`Meant`, `FirstsMeant`).
 use mathlib.Core.Path.{_≡_}
 use mathlib.Core.Logic.{_⊎_}
-use Prim.Native.Nat.{ℕ, _+_, _*_, _≤_, _<_}
+use Prim.Native.Nat.{ℕ, _+_, _≤_, _<_}
 use mathlib.Core.Bool.{cond}
 use mathlib.Core.List.{List, [], _∷_}
 use lib.Dec.{eqb}
 use lib.ListN.{length, getD}
 use Rattle.mover.specs.declared.Part.{Part}
 use Rattle.mover.specs.declared.Job.{Job}
-use Rattle.mover.specs.Element.{place, element}
-use Rattle.mover.specs.Moved.{coordOf, moved, moveMemory}
+use Rattle.mover.specs.Moved.{moved, moveMemory}
 use Rattle.mover.specs.Within.{jobFault, totalOf, bytesOf}
+use Rattle.mover.specs.Demand2.{Meant, FirstsMeant}
 use Rattle.serial.specs.Parts as parts
-use Rattle.serial.specs.Machine.{Mover, Entry, released, entered, reporting, ended, edit}
+use Rattle.serial.specs.Machine.{Mover, Entry, wholeMove, released, entered, reporting, ended, edit}
 use Rattle.serial.specs.Claims.{Every, EveryHeld, Finished, Midway, oneByOne}
 use Rattle.transfers.specs.declared.Table.{Table}
 use Rattle.transfers.specs.declared.FreshTable.{FreshTable}
@@ -108,33 +109,36 @@ run (c ∷ cs) w = run cs (after c w)
 
 -- ---- the sentences
 
--- the byte of the destination part at which element number q of the job stands
-abbrev pub byteOf : Job → ℕ → ℕ
-byteOf j q = place (j .tensor) (j .config) (coordOf (j .tensor) (j .config) q) * j .tensor .size
+-- a whole move of the job over the memory m is an accepted move of demand 2 between the job's two parts
+pub record WholeMeant (j : Job) (m : List ℕ) : Type 0 where
+  pub passed : jobFault (length m) j .status ≡ 0
+  -- its destination part is what demand 2 says; no byte outside that part changes, nor the memory's length
+  pub destination : Meant (j .tensor) (j .config) (bytesOf (j .source) m) (bytesOf (j .destination) m) (bytesOf (j .destination) (wholeMove theMover j m))
+  pub outside : (k : ℕ) → (k < j .destination .start) ⊎ (j .destination .start + j .destination .length ≤ k) → getD (wholeMove theMover j m) k 0 ≡ getD m k 0
+  pub long : length (wholeMove theMover j m) ≡ length m
 
--- element number q of the job, as the source bytes s have it
-abbrev pub elementOf : Job → List ℕ → ℕ → List ℕ
-elementOf j s q = element (j .tensor) (j .config) s (coordOf (j .tensor) (j .config) q)
+-- each of the whole moves of a log, over the memory that those accepted before it leave
+abbrev pub EachMeant : List ℕ → Log → Type 0
+EachMeant m₀ [] = Unit {0}
+EachMeant m₀ (e ∷ older) = WholeMeant (e .job) (oneByOne theMover m₀ older) × EachMeant m₀ older
 
--- byte by byte, what the memory m has of a transfer that is not yet released
+-- what the memory m has of a transfer that is not yet released
 pub record InPlace (m : List ℕ) (e : Entry Job) : Type 0 where
-  -- its first elements, as many as its steps together reported, lie in the destination part and are in place there
-  pub inside : (q : ℕ) → q < e .reported → byteOf (e .job) q + e .job .tensor .size ≤ e .job .destination .length
-  pub elements : (q : ℕ) → q < e .reported → (b : ℕ) → b < e .job .tensor .size
-      → getD (bytesOf (e .job .destination) m) (byteOf (e .job) q + b) 0
-      ≡ getD (elementOf (e .job) (bytesOf (e .job .source) (e .before)) q) b 0
-  -- a byte of the destination part that belongs to none of these is as at acceptance
-  pub others : (k : ℕ) → ((q : ℕ) → q < e .reported → (k < byteOf (e .job) q) ⊎ (byteOf (e .job) q + e .job .tensor .size ≤ k))
-      → getD (bytesOf (e .job .destination) m) k 0 ≡ getD (bytesOf (e .job .destination) (e .before)) k 0
-  -- the source part is as at acceptance
+  -- in its destination part its first elements, as many as its steps together reported, are in place as demand 2 says, byte by byte;
+  -- the part's other bytes are as at acceptance
+  pub destination : FirstsMeant (e .job .tensor) (e .job .config) (bytesOf (e .job .source) (e .before)) (bytesOf (e .job .destination) (e .before)) (e .reported) (bytesOf (e .job .destination) m)
+  -- its source part is as at acceptance
   pub source : bytesOf (e .job .source) m ≡ bytesOf (e .job .source) (e .before)
 
 -- what is claimed of a table t, a memory m and a log that calls led to from the memory m₀
 pub record Demand3 (m₀ : List ℕ) (t : Table) (m : List ℕ) (log : Log) : Type 0 where
   -- if every accepted transfer has finished, the memory is what whole moves give when done one after another in the order of acceptance
   pub serial : Every (Finished theMover) log → m ≡ oneByOne theMover m₀ log
-  -- and each of those whole moves is an accepted one
+  -- and each of those whole moves is an accepted move of demand 2
   pub passed : Every (λ e. jobFault (length m₀) (e .job) .status ≡ 0) log
+  pub moves : EachMeant m₀ log
+  -- the memory keeps its length
+  pub long : length m ≡ length m₀
   -- every accepted transfer has finished if each poll says free or done
   pub finished : ((h : ℕ) → h < 4 → (pollOf t h ≡ says.Free) ⊎ (pollOf t h ≡ says.Done)) → Every (Finished theMover) log
   -- midway, the destination part of each transfer not yet released is what the mover leaves after as many elements as its steps reported

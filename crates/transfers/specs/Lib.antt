@@ -3,3 +3,4 @@ pub mod Slots
 pub mod Calls
 pub mod Orders
 pub mod Demand3
+pub mod Claims
