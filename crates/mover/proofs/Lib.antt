@@ -1,8 +1,9 @@
--- Theorems to read first: Demand2 (what an accepted move leaves), Decided (no two outcomes), Exact (refusals), Slices (a sub-tensor copied is a slice),
--- Laws (what the layer above may use).
+-- Theorems to read first: Demand2 (what an accepted move leaves), Decided (no two outcomes), Exact (refusals), Unseen (entries past
+-- the rank are not looked at), Slices (a sub-tensor copied is a slice), Laws (what the layer above may use).
 pub mod Demand2
 pub mod Decided
 pub mod Exact
+pub mod Unseen
 pub mod Slices
 pub mod Laws
 -- Laws over plain values, which the functions' proofs cite.
@@ -16,6 +17,7 @@ pub mod Fitting
 pub mod Stored
 pub mod Spacing
 pub mod Keeping
+pub mod Alike
 pub mod Planned
 pub mod Making
 pub mod Judged

@@ -1,9 +1,9 @@
 -- A sub-tensor that keeps the rank, copied from the part of the source that starts at its byte, is the slice of the whole. Assumes nothing.
-use Prim.Native.Nat.{ℕ, zero, suc, _+_, _-_, _*_, _/_, _%_, _≤_, _<_}
+use Prim.Native.Nat.{ℕ, zero, suc, _+_, _-_, _*_, _≤_, _<_}
 use native.Mathlib.Nat.{add-zero, add-mul, mul-one, div-one, sub-self, not-suc-le-zero, le-of-suc-le-suc, eq-or-lt-of-le}
 use native.Mathlib.Decide.{ℕ-discrete}
 use native.Mathlib.Omega.{arith}
-use mathlib.Core.Path.{_≡_, refl, sym, ap, ap₂, subst, transport, _∙_}
+use mathlib.Core.Path.{_≡_, refl, sym, ap, ap₂, subst, _∙_}
 use mathlib.Core.Logic.{⊎-elim}
 use mathlib.Core.Bool.{_&&_, and-false}
 use mathlib.Core.List.{List}
@@ -15,72 +15,23 @@ use Rattle.plane.specs.declared.Tensor.{Tensor}
 use Rattle.plane.specs.declared.Config.{Config}
 use Rattle.plane.specs.declared.SubConfig.{SubConfig}
 use Rattle.plane.specs.declared.SubTensor.{SubTensor}
-use Rattle.plane.specs.Arrays.{at, table, firsts, zeros, sum, product, howMany}
+use Rattle.plane.specs.Arrays.{at, table, firsts, zeros, sum, howMany}
 use Rattle.plane.specs.Planes.{shapeAt, strides, srcStrides}
-use Rattle.plane.specs.Moves.{taken, count, extent, dstExtents, dstStrides, need, judgeOf}
+use Rattle.plane.specs.Moves.{taken, count, extent, dstExtents, judgeOf}
 use Rattle.plane.specs.Settings.{withOffset, withSize, withDstStride}
 use Rattle.ready_made.specs.ReadyMade.{defaults, cutTo, madeFor, copyOf, sliceOf}
 use Rattle.plane.specs.Helpers.{staying, isUnit, subDim, subFault, noSub, subAnswer, subTensorOf, subOf, subByte}
 use Rattle.plane.proofs.Arrays.{table-at, zeros-at, firsts-at, firsts-same, sum-same}
-use Rattle.plane.proofs.Good.{GoodStrides, GoodConfig, GoodPlace, GoodMove, move-clear}
+use Rattle.plane.proofs.Good.{GoodConfig, GoodMove, move-clear}
 use Rattle.plane.proofs.Faults.{unless-none}
 use Rattle.plane.proofs.Staying.{kept, kept-length, kept-last, kept-before}
 use Rattle.plane.proofs.SubTensors.{GoodSub, sub-clear, sub-told, sub-shape, sub-stride, sub-resolved, sub-source, sub-within}
 use Rattle.mover.specs.Element.{every, isKept, areKept, sourcePlace, place, element}
-use Rattle.mover.specs.Moved.{total, perStep, coordOf, stored, moved, moveMemory}
+use Rattle.mover.specs.Moved.{total, moved, moveMemory}
+use Rattle.mover.proofs.Alike.{Alike, alike-sym, alike-need, alike-total, alike-moved, alike-good}
 use Rattle.mover.proofs.Sums.{sum-joined}
 use Rattle.mover.proofs.Keeping.{every-same}
 use Rattle.mover.proofs.Laws.{judged, judged-good, moved-whole, moved-refused}
-
--- ---- moves that are alike
-
--- two moves with the same rank and size, and the same extents, strides and offsets of the destination
-record Alike (t u : Tensor) (c d : Config) : Type 0 where
-  pub rank : t .rank ≡ u .rank
-  pub size : t .size ≡ u .size
-  pub extents : dstExtents t c ≡ dstExtents u d
-  pub given : c .«dst_stride» ≡ d .«dst_stride»
-  pub offsets : c .«dst_offset» ≡ d .«dst_offset»
-
-alike-sym : {t u : Tensor} {c d : Config} → Alike t u c d → Alike u t d c
-alike-sym a = record { rank = sym (a .rank); size = sym (a .size); extents = sym (a .extents); given = sym (a .given); offsets = sym (a .offsets) }
-
-module _ {t u : Tensor} {c d : Config} (a : Alike t u c d) where
-  alike-strides : dstStrides t c ≡ dstStrides u d
-  alike-strides = λ i. strides (a .rank i) (at (a .extents i)) (at (a .given i))
-
-  alike-need : need t c ≡ need u d
-  unfolding need
-  alike-need = λ i. (1 + sum (a .rank i) (λ j. (at (a .offsets i) j + at (a .extents i) j - 1) * at (alike-strides i) j)) * a .size i
-
-  alike-good : GoodPlace t c → GoodPlace u d
-  alike-good p = record {
-    strides = transport (λ i. GoodStrides (a .rank i) (at (a .extents i)) (at (a .given i))) (p .strides);
-    offset = transport (λ i. (j : ℕ) → j < a .rank i → (at (a .offsets i) j < at (alike-strides i) j) × (at (a .offsets i) j ≤ 65535)) (p .offset);
-  }
-
-  alike-total : total t c ≡ total u d
-  unfolding total
-  alike-total = ap₂ (λ (n : ℕ) (e : List ℕ). product n (at e)) (a .rank) (a .extents)
-
-  alike-coord : (q : ℕ) → coordOf t c q ≡ coordOf u d q
-  unfolding coordOf perStep
-  alike-coord q =
-      ap₂ (λ (n : ℕ) (e : List ℕ). λ (i : ℕ). q / product (n - suc i) (λ k. at e (suc i + k)) % at e i) (a .rank) (a .extents)
-
-  alike-place : (x : ℕ → ℕ) → place t c x * t .size ≡ place u d x * u .size
-  unfolding place
-  alike-place x = λ i. sum (a .rank i) (λ j. (at (a .offsets i) j + x j) * at (alike-strides i) j) * a .size i
-
-  module _ (src from : List ℕ) (e : (x : ℕ → ℕ) → element t c src x ≡ element u d from x) where
-    alike-stored : (q : ℕ) (dst : List ℕ) → stored t c src q dst ≡ stored u d from q dst
-    unfolding stored
-    alike-stored q dst = rw (alike-coord q, alike-place (coordOf u d q), e (coordOf u d q))
-
-    alike-moved : (k n : ℕ) (dst : List ℕ) → moved t c src k n dst ≡ moved u d from k n dst
-    unfolding moved
-    alike-moved k zero dst = refl
-    alike-moved k (suc n) dst = alike-stored (k + n) (moved t c src k n dst) ∙ ap (stored u d from (k + n)) (alike-moved k n dst)
 
 -- ---- moves that take a box, sizes z, and neither pad, step nor permute
 
@@ -217,7 +168,8 @@ module _ (t : Tensor) (o z : List ℕ) {srcLen : ℕ} (g : GoodSub t (boxOf t o 
   same-move : Alike (subOf t (boxOf t o z)) t (copied (t .rank)) (sliced (t .rank) o z)
   unfolding subOf cutTo
   same-move =
-      let e = boxed-extents copy-boxed ∙ sym (boxed-extents slice-boxed) in record { rank = refl; size = refl; extents = e; given = refl; offsets = refl }
+      let e = boxed-extents copy-boxed ∙ sym (boxed-extents slice-boxed) in
+      record { rank = refl; size = refl; extents = e; strides = λ i. strides (t .rank) (at (e i)) (at (firsts (t .rank) (at zeros))); offsets = λ i h. refl }
 
   -- the byte of the sub-tensor and a place in it are the place in the whole
   copy-source : (x : ℕ → ℕ) → sourcePlace (subOf t (boxOf t o z)) (copied (t .rank)) x ≡ sum (t .rank) (λ i. x i * at (srcStrides t) i)
@@ -263,20 +215,22 @@ module _ (t : Tensor) (o z : List ℕ) {srcLen : ℕ} (g : GoodSub t (boxOf t o 
 -- for the lent source and destination
 module _ (t : Tensor) (o z src dst : List ℕ) (g : GoodSub t (boxOf t o z) (length src)) where
   slice-too : GoodMove (subOf t (boxOf t o z)) (copied (t .rank)) (length (drop (subByte t (boxOf t o z)) src)) (length dst) → GoodMove t (sliced (t .rank) o z) (length src) (length dst)
+  unfolding cutTo
   slice-too p = let a = same-move t o z g in record {
     source = g .source;
     long = g .long;
     config = slice-config t o z g;
-    place = alike-good a (p .place);
+    place = alike-good a refl (p .place);
     room = omega (arith, alike-need a, p .room);
   }
 
   copy-too : GoodMove t (sliced (t .rank) o z) (length src) (length dst) → GoodMove (subOf t (boxOf t o z)) (copied (t .rank)) (length (drop (subByte t (boxOf t o z)) src)) (length dst)
+  unfolding cutTo
   copy-too p = let a = same-move t o z g in record {
     source = sub-source g;
     long = rw length-drop (omega (arith, sub-within g, g .long));
     config = copy-config t o z g;
-    place = alike-good (alike-sym a) (p .place);
+    place = alike-good (alike-sym a) refl (p .place);
     room = omega (arith, alike-need a, p .room);
   }
 
