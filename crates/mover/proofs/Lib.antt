@@ -1,10 +1,12 @@
 -- Theorems to read first: Demand2 (what an accepted move leaves), Decided (no two outcomes), Exact (refusals), Unseen (entries past
--- the rank are not looked at), Slices (a sub-tensor copied is a slice), Laws (what the layer above may use).
+-- the rank are not looked at), Slices (a sub-tensor copied is a slice), Meeting (parts that share a byte, or leave the memory),
+-- Laws (what the layer above may use).
 pub mod Demand2
 pub mod Decided
 pub mod Exact
 pub mod Unseen
 pub mod Slices
+pub mod Meeting
 pub mod Laws
 -- Laws over plain values, which the functions' proofs cite.
 pub mod Runs
@@ -22,4 +24,3 @@ pub mod Planned
 pub mod Making
 pub mod Judged
 pub mod SubParts
-pub mod Meeting

@@ -7,7 +7,6 @@ use mathlib.Core.Bool.{false, _||_}
 use mathlib.Core.List.{List}
 use lib.ListN.{length, getD, drop, length-drop}
 use lib.Seq.{sets, length-take-le}
-use borrow.Author.Tests.{ltb-false}
 use Rattle.plane.proofs.Bools.{either-clear}
 use Rattle.mover.specs.declared.Part.{Part}
 use Rattle.mover.specs.declared.Job.{Job}
@@ -15,6 +14,7 @@ use Rattle.mover.specs.Moved.{moveMemory}
 use Rattle.mover.specs.Within.{meets, jobFault, totalOf, bytesOf, advancedBy}
 use Rattle.mover.proofs.Laws.{moved-none, moved-more, moved-length, judged, source-fits, destination-fits, job-clear, job-apart, job-whole, advanced-outside, advanced-whole}
 use Rattle.mover.proofs.Demand2.{Meant, demand-2}
+use Rattle.mover.proofs.Meeting.{meets-apart}
 use Rattle.serial.specs.Parts.{Apart, replaced}
 use Rattle.serial.specs.Machine.{applied, wholeMove, Clear}
 use Rattle.serial.specs.Claims.{Lawful}
@@ -69,9 +69,6 @@ module _ (m : List ℕ) (j : Job) (z : jobFault (length m) j .status ≡ 0) wher
   whole-outside k o = rw whole-advanced (advanced-outside j 0 (totalOf j) m k o)
 
 -- ---- the rule between two slots
-
-meets-apart : (p q : Part) → meets p q ≡ false → Apart (partOf p) (partOf q)
-meets-apart p q e i a b = omega (arith, ltb-false)
 
 pub clear-of : (j k : Job) → breaks j k ≡ false → Clear theMover j k
 unfolding breaks
