@@ -1,96 +1,36 @@
 -- A sub-tensor that keeps the rank, copied from the part of the source that starts at its byte, is the slice of the whole. Assumes nothing.
-use Prim.Native.Nat.{ℕ, zero, suc, _+_, _-_, _*_, _≤_, _<_}
-use native.Mathlib.Nat.{add-zero, add-mul, mul-one, div-one, sub-self, not-suc-le-zero, le-of-suc-le-suc, eq-or-lt-of-le}
+use Prim.Native.Nat.{ℕ, zero, suc, _+_, _*_, _≤_, _<_}
+use native.Mathlib.Nat.{add-mul, sub-self, not-suc-le-zero, le-of-suc-le-suc, eq-or-lt-of-le}
 use native.Mathlib.Decide.{ℕ-discrete}
 use native.Mathlib.Omega.{arith}
 use mathlib.Core.Path.{_≡_, refl, sym, ap, ap₂, subst, _∙_}
 use mathlib.Core.Logic.{⊎-elim}
-use mathlib.Core.Bool.{_&&_, and-false}
+use mathlib.Core.Bool.{and-false}
 use mathlib.Core.List.{List}
-use borrow.Author.Tests.{eq-eqb, ne-eqb, le-ltb}
-use lib.Dec.{leb, ltb}
+use borrow.Author.Tests.{le-ltb}
 use lib.ListN.{length, drop, length-drop}
 use lib.Seq.{drop-drop}
 use Rattle.plane.specs.declared.Tensor.{Tensor}
 use Rattle.plane.specs.declared.Config.{Config}
 use Rattle.plane.specs.declared.SubConfig.{SubConfig}
-use Rattle.plane.specs.declared.SubTensor.{SubTensor}
-use Rattle.plane.specs.Arrays.{at, table, firsts, zeros, sum, howMany}
+use Rattle.plane.specs.Arrays.{at, firsts, zeros, sum, howMany}
 use Rattle.plane.specs.Planes.{shapeAt, strides, srcStrides}
-use Rattle.plane.specs.Moves.{taken, count, extent, dstExtents, judgeOf}
+use Rattle.plane.specs.Moves.{judgeOf}
 use Rattle.plane.specs.Settings.{withOffset, withSize, withDstStride}
-use Rattle.ready_made.specs.ReadyMade.{defaults, cutTo, madeFor, copyOf, sliceOf}
-use Rattle.plane.specs.Helpers.{staying, isUnit, subDim, subFault, noSub, subAnswer, subTensorOf, subOf, subByte}
-use Rattle.plane.proofs.Arrays.{table-at, zeros-at, firsts-at, firsts-same, sum-same}
+use Rattle.ready_made.specs.ReadyMade.{defaults, cutTo, copyOf, sliceOf}
+use Rattle.plane.specs.Helpers.{staying, isUnit, subDim, subTensorOf, subOf, subByte}
+use Rattle.plane.proofs.Arrays.{sum-same}
 use Rattle.plane.proofs.Good.{GoodConfig, GoodMove, move-clear}
-use Rattle.plane.proofs.Faults.{unless-none}
 use Rattle.plane.proofs.Staying.{kept, kept-length, kept-last, kept-before}
-use Rattle.plane.proofs.SubTensors.{GoodSub, sub-clear, sub-told, sub-shape, sub-stride, sub-resolved, sub-source, sub-within}
-use Rattle.mover.specs.Element.{every, isKept, areKept, sourcePlace, place, element}
+use Rattle.plane.proofs.SubTensors.{GoodSub, sub-told, sub-given, sub-shape, sub-stride, sub-resolved, sub-source, sub-within}
+use Rattle.mover.specs.Element.{sourcePlace, place, element}
 use Rattle.mover.specs.Moved.{total, moved, moveMemory}
+use Rattle.mover.specs.SubPart.{subPart}
 use Rattle.mover.proofs.Alike.{Alike, alike-sym, alike-need, alike-total, alike-moved, alike-good}
+use Rattle.mover.proofs.Boxes.{Boxed, boxed-extents, boxed-kept, boxed-source, boxed-config, taken-some, cut-at, cut-zero, cut-table, made, copied, copy-whole}
+use Rattle.mover.proofs.SubParts.{part-here}
 use Rattle.mover.proofs.Sums.{sum-joined}
-use Rattle.mover.proofs.Keeping.{every-same}
 use Rattle.mover.proofs.Laws.{judged, judged-good, moved-whole, moved-refused}
-
--- ---- moves that take a box, sizes z, and neither pad, step nor permute
-
-record Boxed (u : Tensor) (c : Config) (z : List ℕ) : Type 0 where
-  pub perm : (i : ℕ) → i < u .rank → at (c .perm) i ≡ i
-  pub pre : (i : ℕ) → i < u .rank → at (c .pre) i ≡ 0
-  pub post : (i : ℕ) → i < u .rank → at (c .post) i ≡ 0
-  pub step : (i : ℕ) → i < u .rank → at (c .step) i ≡ 1
-  pub size : (i : ℕ) → i < u .rank → taken u c i ≡ at z i
-
-module _ {u : Tensor} {c : Config} {z : List ℕ} (b : Boxed u c z) where
-  boxed-count : (i : ℕ) → i < u .rank → count u c i ≡ at z i
-  unfolding count
-  boxed-count i h = rw (b .step i h, b .size i h, div-one, add-zero)
-
-  boxed-extent : (i : ℕ) → i < u .rank → extent u c i ≡ at z i
-  unfolding extent
-  boxed-extent i h = rw (b .pre i h, b .post i h, boxed-count i h) (omega arith)
-
-  boxed-extents : dstExtents u c ≡ firsts (u .rank) (at z)
-  unfolding dstExtents
-  boxed-extents = firsts-same (u .rank) _ _ (λ i h. ap (extent u c) (b .perm i h) ∙ boxed-extent i h)
-
-  boxed-kept : (x : ℕ → ℕ) → areKept u c x ≡ every (u .rank) (λ i. leb 0 (x i) && ltb (x i - 0) (at z i))
-  unfolding areKept isKept
-  boxed-kept x = every-same (u .rank) _ _ (λ i h. rw (b .perm i h, b .pre i h, boxed-count i h))
-
-  boxed-source : (x : ℕ → ℕ) → sourcePlace u c x ≡ sum (u .rank) (λ i. (at (c .offset) i + x i) * at (srcStrides u) i)
-  unfolding sourcePlace
-  boxed-source x = sum-same (u .rank) _ _ (λ i h. let m : x i - 0 ≡ x i = omega arith in rw (b .perm i h, b .pre i h, b .step i h, mul-one, m))
-
-  -- it is accepted as far as its sizes and offsets are within the shape
-  boxed-config : (one : (i : ℕ) → i < u .rank → at z i ≤ 65535) → ((i : ℕ) → i < u .rank → at (c .offset) i < shapeAt u i) → ((i : ℕ) → i < u .rank → at (c .size) i + at (c .offset) i ≤ shapeAt u i) → GoodConfig u c
-  boxed-config m o l = record {
-    perm = λ i h. omega (arith, b .perm i h);
-    apart = λ i j h k q. omega (arith, b .perm i h, b .perm j (omega arith));
-    offset = o;
-    size = l;
-    step = λ i h. (omega (arith, b .step i h), omega (arith, b .step i h));
-    extent = λ i h. omega (arith, boxed-extent i h, m i h);
-  }
-
--- size 0 from offset 0 on is the shape, and any other size is itself
-taken-all : (u : Tensor) (c : Config) (i : ℕ) → at (c .size) i ≡ 0 → at (c .offset) i ≡ 0 → taken u c i ≡ shapeAt u i
-taken-all u c i e o = rw (eq-eqb (at (c .size) i) 0 e) (omega arith)
-
-taken-some : (u : Tensor) (c : Config) (i : ℕ) → 1 ≤ at (c .size) i → taken u c i ≡ at (c .size) i
-taken-some u c i h = rw (ne-eqb (at (c .size) i) 0 (λ e. omega arith))
-
--- entries of a configuration cut to the rank n
-module _ (n : ℕ) (few : n ≤ 4) where
-  cut-at : (l : List ℕ) (i : ℕ) → i < n → at (firsts n (at l)) i ≡ at l i
-  cut-at l i h = firsts-at n (at l) i few h
-
-  cut-zero : (i : ℕ) → i < n → at (firsts n (at zeros)) i ≡ 0
-  cut-zero i h = cut-at zeros i h ∙ zeros-at i
-
-  cut-table : (f : ℕ → ℕ) (i : ℕ) → i < n → at (firsts n (at (table f))) i ≡ f i
-  cut-table f i h = cut-at (table f) i h ∙ table-at f 0 i (omega arith)
 
 -- ---- dimensions that all stay
 
@@ -111,12 +51,9 @@ stay-all size (suc n) =
 
 -- ---- the sub-tensor and the slice
 
--- the whole plane's configuration for the slice, and the copy's
+-- the whole plane's configuration for the slice
 abbrev sliced : ℕ → List ℕ → List ℕ → Config
 sliced n o z = cutTo n (withDstStride (withSize (withOffset defaults o) z) zeros)
-
-abbrev copied : ℕ → Config
-copied n = cutTo n defaults
 
 -- offsets o and sizes z, and the rank kept
 abbrev boxOf : Tensor → List ℕ → List ℕ → SubConfig
@@ -141,15 +78,13 @@ module _ (t : Tensor) (o z : List ℕ) {srcLen : ℕ} (g : GoodSub t (boxOf t o 
   box-stride i h = ap (λ (l : List ℕ). at l i) (sub-resolved g) ∙ sub-stride g i h ∙ ap (at (srcStrides t)) (same-dim i h)
 
   copy-boxed : Boxed (subOf t (boxOf t o z)) (copied (t .rank)) z
-  unfolding cutTo
-  copy-boxed = record {
-    perm = λ i h. cut-table (t .rank) few (λ d. d) i (ranked i h);
-    pre = λ i h. cut-zero (t .rank) few i (ranked i h);
-    post = λ i h. cut-zero (t .rank) few i (ranked i h);
-    step = λ i h. cut-table (t .rank) few (λ d. 1) i (ranked i h);
-    size = λ i h.
-        let zero = cut-zero (t .rank) few i (ranked i h) in
-        taken-all (subOf t (boxOf t o z)) (copied (t .rank)) i zero zero ∙ box-shape i (ranked i h);
+  unfolding subOf
+  copy-boxed = let w = copy-whole (subOf t (boxOf t o z)) few in record {
+    perm = w .perm;
+    pre = w .pre;
+    post = w .post;
+    step = w .step;
+    size = λ i h. w .size i h ∙ box-shape i h;
   }
 
   slice-boxed : Boxed t (sliced (t .rank) o z) z
@@ -254,23 +189,14 @@ module _ (t : Tensor) (o z src dst : List ℕ) (g : GoodSub t (boxOf t o z) (len
 
 -- ---- the theorem, on what the calls answer
 
-made : (n : ℕ) (c : Config) → 1 ≤ n → n ≤ 4 → madeFor n c .config ≡ cutTo n c
-unfolding madeFor
-made n c l m = rw (le-ltb n 1 l, le-ltb 4 n m)
-
 module _ (t : Tensor) (s : SubConfig) (src : List ℕ) (z : subTensorOf t s (length src) .status ≡ 0) where
-  its-tensor : (subTensorOf t s (length src) .tensor ≡ subOf t s) × (subTensorOf t s (length src) .byte ≡ subByte t s)
-  unfolding subTensorOf subAnswer
-  its-tensor =
-      let w = unless-none (subFault t s (length src)) (noSub (subFault t s (length src))) (record { status = 0; dim = 0; tensor = subOf t s; byte = subByte t s }) (sub-clear t s (length src) (sub-told t s (length src) z)) in
-      (ap (λ (a : SubTensor). a .tensor) w, ap (λ (a : SubTensor). a .byte) w)
-
-  -- the copy of an accepted sub-tensor of the same rank, from the part of the source that starts at its byte, leaves in any destination what the slice of the whole leaves
+  -- the copy of an accepted sub-tensor of the same rank, from the part of the source that the second call hands back, leaves in any
+  -- destination what the slice of the whole leaves
   pub sub-is-slice : (dst : List ℕ) → s .rank ≡ t .rank →
-      moveMemory (subTensorOf t s (length src) .tensor) (copyOf (s .rank) .config) (drop (subTensorOf t s (length src) .byte) src) dst ≡ moveMemory t (sliceOf (t .rank) (s .offset) (s .size) zeros .config) src dst
+      moveMemory (subTensorOf t s (length src) .tensor) (copyOf (s .rank) .config) (subPart t s src) dst ≡ moveMemory t (sliceOf (t .rank) (s .offset) (s .size) zeros .config) src dst
   sub-is-slice dst e =
       let g = sub-told t s (length src) z in
       let r = g .source .rank in
       let same : boxOf t (s .offset) (s .size) ≡ s = λ i. record { offset = s .offset; size = s .size; rank = sym e i } in
-      rw (its-tensor .0, its-tensor .1, e, made (t .rank) defaults (r .0) (r .1), made (t .rank) (withDstStride (withSize (withOffset defaults (s .offset)) (s .size)) zeros) (r .0) (r .1))
+      rw (part-here t s src z, sub-given t s (length src) z, e, made (t .rank) defaults (r .0) (r .1), made (t .rank) (withDstStride (withSize (withOffset defaults (s .offset)) (s .size)) zeros) (r .0) (r .1))
       (slice-memory t (s .offset) (s .size) src dst (subst (λ (v : SubConfig). GoodSub t v (length src)) (sym same) g))

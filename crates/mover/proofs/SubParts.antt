@@ -5,6 +5,7 @@ use native.Mathlib.Omega.{arith}
 use mathlib.Core.Path.{_≡_, sym, ap, _∙_}
 use mathlib.Core.Bool.{cond}
 use mathlib.Core.List.{List, []}
+use borrow.Author.Tests.{eq-eqb}
 use lib.Dec.{eqb}
 use lib.ListN.{length, take, drop, length-drop}
 use lib.Seq.{take-length}
@@ -31,6 +32,9 @@ part-by t s src =
       | no z ↦ unless-fault f [] (drop (subByte t s) src) z ∙ sym (unless-fault f [] (drop 0 src) z) ∙
           ap (λ (r : SubTensor). partBy r src) (sym (unless-fault f (noSub f) x z))
     ]
+
+pub part-here : (t : Tensor) (s : SubConfig) (src : List ℕ) → subTensorOf t s (length src) .status ≡ 0 → subPart t s src ≡ drop (subTensorOf t s (length src) .byte) src
+part-here t s src z = part-by t s src ∙ simp (eq-eqb (subTensorOf t s (length src) .status) 0 z)
 
 module _ (t : Tensor) (s : SubConfig) (src : List ℕ) {r : SubTensor} (e : r ≡ subTensorOf t s (length src)) where
   pub part-refused : (r .status ≡ 0 → ⊥) → take (length src - length src) (drop (length src) src) ≡ subPart t s src

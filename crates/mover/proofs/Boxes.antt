@@ -1,0 +1,105 @@
+-- Moves that take a box of the plane and neither pad, step nor permute; the copy among them. Assumes nothing.
+use Prim.Native.Nat.{ℕ, _+_, _-_, _*_, _≤_, _<_}
+use native.Mathlib.Nat.{add-zero, zero-add, mul-one, div-one}
+use native.Mathlib.Omega.{arith}
+use mathlib.Core.Path.{_≡_, ap, _∙_}
+use mathlib.Core.Bool.{_&&_}
+use mathlib.Core.List.{List}
+use borrow.Author.Tests.{eq-eqb, ne-eqb, le-ltb}
+use lib.Dec.{leb, ltb}
+use Rattle.plane.specs.declared.Tensor.{Tensor}
+use Rattle.plane.specs.declared.Config.{Config}
+use Rattle.plane.specs.Arrays.{at, table, firsts, zeros, sum}
+use Rattle.plane.specs.Planes.{shapeAt, srcStrides}
+use Rattle.plane.specs.Moves.{taken, count, extent, dstExtents}
+use Rattle.ready_made.specs.ReadyMade.{defaults, cutTo, madeFor}
+use Rattle.plane.proofs.Arrays.{table-at, zeros-at, firsts-at, firsts-same, sum-same}
+use Rattle.plane.proofs.Good.{GoodConfig}
+use Rattle.mover.specs.Element.{every, isKept, areKept, sourcePlace}
+use Rattle.mover.proofs.Keeping.{every-same}
+
+-- sizes z are taken
+pub record Boxed (u : Tensor) (c : Config) (z : List ℕ) : Type 0 where
+  pub perm : (i : ℕ) → i < u .rank → at (c .perm) i ≡ i
+  pub pre : (i : ℕ) → i < u .rank → at (c .pre) i ≡ 0
+  pub post : (i : ℕ) → i < u .rank → at (c .post) i ≡ 0
+  pub step : (i : ℕ) → i < u .rank → at (c .step) i ≡ 1
+  pub size : (i : ℕ) → i < u .rank → taken u c i ≡ at z i
+
+module _ {u : Tensor} {c : Config} {z : List ℕ} (b : Boxed u c z) where
+  pub boxed-count : (i : ℕ) → i < u .rank → count u c i ≡ at z i
+  unfolding count
+  boxed-count i h = rw (b .step i h, b .size i h, div-one, add-zero)
+
+  boxed-extent : (i : ℕ) → i < u .rank → extent u c i ≡ at z i
+  unfolding extent
+  boxed-extent i h = rw (b .pre i h, b .post i h, boxed-count i h) (omega arith)
+
+  pub boxed-extents : dstExtents u c ≡ firsts (u .rank) (at z)
+  unfolding dstExtents
+  boxed-extents = firsts-same (u .rank) _ _ (λ i h. ap (extent u c) (b .perm i h) ∙ boxed-extent i h)
+
+  pub boxed-kept : (x : ℕ → ℕ) → areKept u c x ≡ every (u .rank) (λ i. leb 0 (x i) && ltb (x i - 0) (at z i))
+  unfolding areKept isKept
+  boxed-kept x = every-same (u .rank) _ _ (λ i h. rw (b .perm i h, b .pre i h, boxed-count i h))
+
+  pub boxed-source : (x : ℕ → ℕ) → sourcePlace u c x ≡ sum (u .rank) (λ i. (at (c .offset) i + x i) * at (srcStrides u) i)
+  unfolding sourcePlace
+  boxed-source x = sum-same (u .rank) _ _ (λ i h. let m : x i - 0 ≡ x i = omega arith in rw (b .perm i h, b .pre i h, b .step i h, mul-one, m))
+
+  -- it is accepted as far as its sizes and offsets are within the shape
+  pub boxed-config : (one : (i : ℕ) → i < u .rank → at z i ≤ 65535) → ((i : ℕ) → i < u .rank → at (c .offset) i < shapeAt u i) → ((i : ℕ) → i < u .rank → at (c .size) i + at (c .offset) i ≤ shapeAt u i) → GoodConfig u c
+  boxed-config m o l = record {
+    perm = λ i h. omega (arith, b .perm i h);
+    apart = λ i j h k q. omega (arith, b .perm i h, b .perm j (omega arith));
+    offset = o;
+    size = l;
+    step = λ i h. (omega (arith, b .step i h), omega (arith, b .step i h));
+    extent = λ i h. omega (arith, boxed-extent i h, m i h);
+  }
+
+-- size 0 from offset 0 on is the shape, and any other size is itself
+pub taken-all : (u : Tensor) (c : Config) (i : ℕ) → at (c .size) i ≡ 0 → at (c .offset) i ≡ 0 → taken u c i ≡ shapeAt u i
+taken-all u c i e o = rw (eq-eqb (at (c .size) i) 0 e) (omega arith)
+
+pub taken-some : (u : Tensor) (c : Config) (i : ℕ) → 1 ≤ at (c .size) i → taken u c i ≡ at (c .size) i
+taken-some u c i h = rw (ne-eqb (at (c .size) i) 0 (λ e. omega arith))
+
+-- entries of a configuration cut to the rank n
+module _ (n : ℕ) (few : n ≤ 4) where
+  pub cut-at : (l : List ℕ) (i : ℕ) → i < n → at (firsts n (at l)) i ≡ at l i
+  cut-at l i h = firsts-at n (at l) i few h
+
+  pub cut-zero : (i : ℕ) → i < n → at (firsts n (at zeros)) i ≡ 0
+  cut-zero i h = cut-at zeros i h ∙ zeros-at i
+
+  pub cut-table : (f : ℕ → ℕ) (i : ℕ) → i < n → at (firsts n (at (table f))) i ≡ f i
+  cut-table f i h = cut-at (table f) i h ∙ table-at f 0 i (omega arith)
+
+-- ---- ready-made configurations of a rank that is taken
+
+pub made : (n : ℕ) (c : Config) → 1 ≤ n → n ≤ 4 → madeFor n c .config ≡ cutTo n c
+unfolding madeFor
+made n c l m = rw (le-ltb n 1 l, le-ltb 4 n m)
+
+-- the copy takes the whole shape
+abbrev pub copied : ℕ → Config
+copied n = cutTo n defaults
+
+module _ (u : Tensor) (few : u .rank ≤ 4) where
+  pub copy-whole : Boxed u (copied (u .rank)) (u .shape)
+  unfolding cutTo
+  copy-whole = record {
+    perm = cut-table (u .rank) few (λ d. d);
+    pre = cut-zero (u .rank) few;
+    post = cut-zero (u .rank) few;
+    step = cut-table (u .rank) few (λ d. 1);
+    size = λ i h. taken-all u (copied (u .rank)) i (cut-zero (u .rank) few i h) (cut-zero (u .rank) few i h);
+  }
+
+  -- and reads at each coordinate the element of that coordinate
+  pub copy-place : (x : ℕ → ℕ) → sourcePlace u (copied (u .rank)) x ≡ sum (u .rank) (λ i. x i * at (srcStrides u) i)
+  unfolding cutTo
+  copy-place x =
+      boxed-source copy-whole x ∙
+      sum-same (u .rank) _ _ (λ i h. ap (λ (o : ℕ). (o + x i) * at (srcStrides u) i) (cut-zero (u .rank) few i h) ∙ simp zero-add)
