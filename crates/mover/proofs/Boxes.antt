@@ -1,22 +1,22 @@
 -- Moves that take a box of the plane and neither pad, step nor permute; the copy among them. Assumes nothing.
-use Prim.Native.Nat.{ℕ, _+_, _-_, _*_, _≤_, _<_}
+use Prim.Native.Nat.{ℕ, suc, _+_, _-_, _*_, _≤_, _<_}
 use native.Mathlib.Nat.{add-zero, zero-add, mul-one, div-one}
 use native.Mathlib.Omega.{arith}
-use mathlib.Core.Path.{_≡_, ap, _∙_}
-use mathlib.Core.Bool.{_&&_}
+use mathlib.Core.Path.{_≡_, sym, ap, ap₂, _∙_}
 use mathlib.Core.List.{List}
 use borrow.Author.Tests.{eq-eqb, ne-eqb, le-ltb}
-use lib.Dec.{leb, ltb}
 use Rattle.plane.specs.declared.Tensor.{Tensor}
 use Rattle.plane.specs.declared.Config.{Config}
-use Rattle.plane.specs.Arrays.{at, table, firsts, zeros, sum}
-use Rattle.plane.specs.Planes.{shapeAt, srcStrides}
-use Rattle.plane.specs.Moves.{taken, count, extent, dstExtents}
+use Rattle.plane.specs.Arrays.{at, table, firsts, zeros, sum, product}
+use Rattle.plane.specs.Planes.{shapeAt, strideAt, resolved, srcStrides}
+use Rattle.plane.specs.Moves.{taken, count, extent, dstExtents, dstStrides}
 use Rattle.ready_made.specs.ReadyMade.{defaults, cutTo, madeFor}
-use Rattle.plane.proofs.Arrays.{table-at, zeros-at, firsts-at, firsts-same, sum-same}
-use Rattle.plane.proofs.Good.{GoodConfig}
-use Rattle.mover.specs.Element.{every, isKept, areKept, sourcePlace}
-use Rattle.mover.proofs.Keeping.{every-same}
+use Rattle.plane.proofs.Arrays.{table-at, zeros-at, firsts-at, firsts-same, sum-same, product-same}
+use Rattle.plane.proofs.Good.{GoodSource, GoodConfig, GoodPlace}
+use Rattle.plane.proofs.Falling.{stride-positive}
+use Rattle.mover.specs.Element.{sourcePlace}
+use Rattle.mover.proofs.Compact.{compact-at, compact-good}
+use Rattle.mover.proofs.Demand2.{Inside, Kept}
 
 -- sizes z are taken
 pub record Boxed (u : Tensor) (c : Config) (z : List ℕ) : Type 0 where
@@ -27,7 +27,7 @@ pub record Boxed (u : Tensor) (c : Config) (z : List ℕ) : Type 0 where
   pub size : (i : ℕ) → i < u .rank → taken u c i ≡ at z i
 
 module _ {u : Tensor} {c : Config} {z : List ℕ} (b : Boxed u c z) where
-  pub boxed-count : (i : ℕ) → i < u .rank → count u c i ≡ at z i
+  boxed-count : (i : ℕ) → i < u .rank → count u c i ≡ at z i
   unfolding count
   boxed-count i h = rw (b .step i h, b .size i h, div-one, add-zero)
 
@@ -35,13 +35,9 @@ module _ {u : Tensor} {c : Config} {z : List ℕ} (b : Boxed u c z) where
   unfolding extent
   boxed-extent i h = rw (b .pre i h, b .post i h, boxed-count i h) (omega arith)
 
-  pub boxed-extents : dstExtents u c ≡ firsts (u .rank) (at z)
+  boxed-extents : dstExtents u c ≡ firsts (u .rank) (at z)
   unfolding dstExtents
   boxed-extents = firsts-same (u .rank) _ _ (λ i h. ap (extent u c) (b .perm i h) ∙ boxed-extent i h)
-
-  pub boxed-kept : (x : ℕ → ℕ) → areKept u c x ≡ every (u .rank) (λ i. leb 0 (x i) && ltb (x i - 0) (at z i))
-  unfolding areKept isKept
-  boxed-kept x = every-same (u .rank) _ _ (λ i h. rw (b .perm i h, b .pre i h, boxed-count i h))
 
   pub boxed-source : (x : ℕ → ℕ) → sourcePlace u c x ≡ sum (u .rank) (λ i. (at (c .offset) i + x i) * at (srcStrides u) i)
   unfolding sourcePlace
@@ -58,8 +54,37 @@ module _ {u : Tensor} {c : Config} {z : List ℕ} (b : Boxed u c z) where
     extent = λ i h. omega (arith, boxed-extent i h, m i h);
   }
 
+  pub boxed-extent-at : u .rank ≤ 4 → (i : ℕ) → i < u .rank → at (dstExtents u c) i ≡ at z i
+  boxed-extent-at few i h = ap (λ (l : List ℕ). at l i) boxed-extents ∙ firsts-at (u .rank) (at z) i few h
+
+  -- nothing is padded, so every element of the destination is the source's
+  pub boxed-kept : u .rank ≤ 4 → (x : ℕ → ℕ) → Inside u c x → (i : ℕ) → i < u .rank → Kept u c x i
+  boxed-kept few x w i h =
+      rw (b .perm i h, b .pre i h, boxed-count i h) (omega arith, omega (arith, w i h, boxed-extent-at few i h))
+
+  -- strides that are asked for by 0
+  pub boxed-stride : u .rank ≤ 4 → ((i : ℕ) → i < u .rank → at (c .«dst_stride») i ≡ 0) → (i : ℕ) → i < u .rank → product (suc i) (at z) * at (dstStrides u c) i ≡ product (u .rank) (at z)
+  boxed-stride few p i h =
+      ap₂ (λ (x y : ℕ). x * y)
+      (sym (product-same (suc i) _ _ (λ j l. boxed-extent-at few j (omega arith))))
+      (firsts-at (u .rank) (resolved (u .rank) (at (dstExtents u c)) (at (c .«dst_stride»))) i few h) ∙
+      compact-at (u .rank) (at (dstExtents u c)) (at (c .«dst_stride»)) p i h ∙
+      product-same (u .rank) _ _ (boxed-extent-at few)
+
+  -- and so is its destination, where strides are asked for by 0 and there are no offsets
+  pub boxed-place : GoodSource u → ((i : ℕ) → i < u .rank → (1 ≤ at z i) × (at z i ≤ shapeAt u i)) → ((i : ℕ) → i < u .rank → at (c .«dst_stride») i ≡ 0) → ((i : ℕ) → i < u .rank → at (c .«dst_offset») i ≡ 0) → GoodPlace u c
+  boxed-place g w p o =
+      let few = g .rank .1 in
+      let s = compact-good (u .rank) (at (dstExtents u c)) (at (c .«dst_stride»)) p (shapeAt u) (strideAt u) (λ i h. rw (boxed-extent-at few i h) (w i h .1)) (g .strides) in
+      record {
+        strides = s;
+        offset = λ i h.
+            rw (o i h, firsts-at (u .rank) (resolved (u .rank) (at (dstExtents u c)) (at (c .«dst_stride»))) i few h)
+            (stride-positive (u .rank) (at (dstExtents u c)) (at (c .«dst_stride»)) (λ j l. rw (boxed-extent-at few j l) (w j l .0)) s i h, omega arith);
+      }
+
 -- size 0 from offset 0 on is the shape, and any other size is itself
-pub taken-all : (u : Tensor) (c : Config) (i : ℕ) → at (c .size) i ≡ 0 → at (c .offset) i ≡ 0 → taken u c i ≡ shapeAt u i
+taken-all : (u : Tensor) (c : Config) (i : ℕ) → at (c .size) i ≡ 0 → at (c .offset) i ≡ 0 → taken u c i ≡ shapeAt u i
 taken-all u c i e o = rw (eq-eqb (at (c .size) i) 0 e) (omega arith)
 
 pub taken-some : (u : Tensor) (c : Config) (i : ℕ) → 1 ≤ at (c .size) i → taken u c i ≡ at (c .size) i

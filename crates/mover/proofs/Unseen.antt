@@ -1,8 +1,8 @@
 -- Entries at or past the rank are not looked at: with records and configurations that agree below the rank, moves leave the same
 -- memory and answer the same. Assumes nothing.
-use Prim.Native.Nat.{ℕ, _+_, _-_, _*_, _<_, min}
+use Prim.Native.Nat.{ℕ, zero, suc, _+_, _-_, _*_, _/_, _%_, _<_, min}
 use native.Mathlib.Decide.{ℕ-discrete}
-use mathlib.Core.Path.{_≡_, sym, ap, ap₂, _∙_}
+use mathlib.Core.Path.{_≡_, refl, sym, ap, ap₂, _∙_}
 use mathlib.Core.Bool.{cond, _||_, _&&_}
 use mathlib.Core.List.{List}
 use lib.Dec.{leb, ltb}
@@ -13,21 +13,20 @@ use Rattle.plane.specs.declared.Config.{Config}
 use Rattle.plane.specs.declared.SubConfig.{SubConfig}
 use Rattle.plane.specs.declared.SubTensor.{SubTensor}
 use Rattle.plane.specs.declared.Fault.{Fault}
-use Rattle.plane.specs.Arrays.{at, sum}
+use Rattle.plane.specs.Arrays.{at, sum, product}
 use Rattle.plane.specs.Faults.{when, unless}
 use Rattle.plane.specs.Planes.{srcStrides}
-use Rattle.plane.specs.Moves.{count, moveFault}
+use Rattle.plane.specs.Moves.{count, dstStrides, moveFault}
 use Rattle.plane.proofs.Arrays.{sum-same}
 use Rattle.plane.proofs.Faults.{status, or-path, unless-fault, unless-none}
 use Rattle.plane.proofs.Good.{GoodConfig, move-good}
 use Rattle.plane.proofs.Unseen.{SameTensor, SameConfig, SameSub, fault-unseen, strides-unseen, kept-unseen, extents-unseen, dst-strides-unseen, sub-unseen}
 use Rattle.mover.specs.declared.Job.{Job}
-use Rattle.mover.specs.Element.{dimOf, kOf, every, isKept, areKept, sourcePlace, element}
-use Rattle.mover.specs.Moved.{total, moved, moveMemory}
+use Rattle.mover.specs.Element.{dimOf, kOf, every, isKept, areKept, sourcePlace, place, element}
+use Rattle.mover.specs.Moved.{total, perStep, coordOf, stored, moved, moveMemory}
 use Rattle.mover.specs.Within.{leaves, meets, jobFault, totalOf, verdictOf, bytesOf, advancedBy, advance, advanceOf, advanceMemory}
 use Rattle.mover.specs.SubPart.{subPart}
 use Rattle.mover.proofs.Keeping.{every-same}
-use Rattle.mover.proofs.Alike.{Alike, alike-total, alike-moved}
 use Rattle.mover.proofs.Laws.{job-good}
 use Rattle.mover.proofs.SubParts.{partBy, part-by}
 
@@ -43,15 +42,6 @@ same-unless f f′ y x x′ e h = elim (ℕ-discrete (f .status) 0) [
 module _ (t t′ : Tensor) (c c′ : Config) (a : SameTensor t t′) (b : SameConfig (t .rank) c c′) where
   -- a configuration whose permutation is refused names dimensions past the rank; such a move is refused
   module _ (g : GoodConfig t c) where
-    alike : Alike t t′ c c′
-    alike = record {
-      rank = a .rank;
-      size = a .size;
-      extents = extents-unseen t t′ a c c′ b g;
-      strides = dst-strides-unseen t t′ a c c′ b g;
-      offsets = b .dst-offset;
-    }
-
     -- what is read at the source dimension of destination dimension i
     at-dim : (f f′ : ℕ → ℕ) → ((d : ℕ) → d < t .rank → f d ≡ f′ d) → (i : ℕ) → i < t .rank → f (dimOf c i) ≡ f′ (dimOf c′ i)
     at-dim f f′ e i h = e (dimOf c i) (g .perm i h) ∙ ap f′ (b .perm i h)
@@ -83,12 +73,33 @@ module _ (t t′ : Tensor) (c c′ : Config) (a : SameTensor t t′) (b : SameCo
     same-element src x =
         λ i. cond (same-kept x i) (take (a .size i) (drop (same-source x i * a .size i) src)) (replicate (a .size i) 0)
 
+    -- it goes to the same place
+    same-place : (x : ℕ → ℕ) → place t c x ≡ place t′ c′ x
+    unfolding place
+    same-place x =
+        sum-same (t .rank) _ _ (λ i h. ap (λ (y : ℕ). (y + x i) * at (dstStrides t c) i) (b .dst-offset i h)) ∙
+        ap₂ (λ (n : ℕ) (w : List ℕ). sum n (λ i. (at (c′ .«dst_offset») i + x i) * at w i)) (a .rank) (dst-strides-unseen t t′ a c c′ b g)
+
+    -- in the same order
+    same-coord : (q : ℕ) → coordOf t c q ≡ coordOf t′ c′ q
+    unfolding coordOf perStep
+    same-coord q =
+        ap₂ (λ (n : ℕ) (e : List ℕ). λ (i : ℕ). q / product (n - suc i) (λ k. at e (suc i + k)) % at e i) (a .rank) (extents-unseen t t′ a c c′ b g)
+
     pub total-unseen : total t c ≡ total t′ c′
-    total-unseen = alike-total alike
+    unfolding total
+    total-unseen = ap₂ (λ (n : ℕ) (e : List ℕ). product n (at e)) (a .rank) (extents-unseen t t′ a c c′ b g)
+
+    same-stored : (src : List ℕ) (q : ℕ) (dst : List ℕ) → stored t c src q dst ≡ stored t′ c′ src q dst
+    unfolding stored
+    same-stored src q dst = rw (same-coord q, same-place (coordOf t′ c′ q), same-element src (coordOf t′ c′ q), a .size)
 
     -- any stretch of elements
     pub moved-unseen : (src : List ℕ) (from n : ℕ) (dst : List ℕ) → moved t c src from n dst ≡ moved t′ c′ src from n dst
-    moved-unseen src from n dst = alike-moved alike src src (same-element src) from n dst
+    unfolding moved
+    moved-unseen src from zero dst = refl
+    moved-unseen src from (suc n) dst =
+        same-stored src (from + n) (moved t c src from n dst) ∙ ap (stored t′ c′ src (from + n)) (moved-unseen src from n dst)
 
   -- a whole move
   pub move-unseen : (src dst : List ℕ) → moveMemory t c src dst ≡ moveMemory t′ c′ src dst
