@@ -1,9 +1,13 @@
--- Theorems to read first: Demand2 (what an accepted move leaves), Decided (no two outcomes), Exact (refusals), Slices (a sub-tensor copied is a slice),
--- Laws (what the layer above may use).
+-- Theorems to read first: Demand2 (what an accepted move leaves), Decided (no two outcomes), Exact (refusals), Unseen (entries past
+-- the rank are not looked at), SubElements (a sub-tensor's elements are the plane's), Slices (a sub-tensor copied is a slice),
+-- Meeting (parts that share a byte, or leave the memory), Laws (what the layer above may use).
 pub mod Demand2
 pub mod Decided
 pub mod Exact
+pub mod Unseen
+pub mod SubElements
 pub mod Slices
+pub mod Meeting
 pub mod Laws
 -- Laws over plain values, which the functions' proofs cite.
 pub mod Runs
@@ -16,8 +20,10 @@ pub mod Fitting
 pub mod Stored
 pub mod Spacing
 pub mod Keeping
+pub mod Compact
+pub mod Spread
+pub mod Boxes
 pub mod Planned
 pub mod Making
 pub mod Judged
 pub mod SubParts
-pub mod Meeting

@@ -1,206 +1,57 @@
--- A sub-tensor that keeps the rank, copied from the part of the source that starts at its byte, is the slice of the whole. Assumes nothing.
-use Prim.Native.Nat.{ℕ, zero, suc, _+_, _-_, _*_, _/_, _%_, _≤_, _<_}
-use native.Mathlib.Nat.{add-zero, add-mul, mul-one, div-one, sub-self, not-suc-le-zero, le-of-suc-le-suc, eq-or-lt-of-le}
-use native.Mathlib.Decide.{ℕ-discrete}
+-- A sub-tensor, copied from the part of the source that starts at its byte, is the slice of the whole: also where unit dimensions are
+-- removed. Assumes nothing.
+use Prim.Native.Nat.{ℕ, suc, _+_, _-_, _*_, _≤_, _<_}
+use native.Mathlib.Nat.{zero-add, add-assoc, zero-mul, eq-of-mul-eq-mul-left}
+use native.Mathlib.Decide.{decLe}
 use native.Mathlib.Omega.{arith}
-use mathlib.Core.Path.{_≡_, refl, sym, ap, ap₂, subst, transport, _∙_}
-use mathlib.Core.Logic.{⊎-elim}
-use mathlib.Core.Bool.{_&&_, and-false}
+use mathlib.Core.Path.{_≡_, sym, ap, ap₂, _∙_}
 use mathlib.Core.List.{List}
-use borrow.Author.Tests.{eq-eqb, ne-eqb, le-ltb}
-use lib.Dec.{leb, ltb}
-use lib.ListN.{length, drop, length-drop}
-use lib.Seq.{drop-drop}
+use lib.ListN.{length, getD, drop, length-drop}
+use lib.Seq.{getD-drop}
 use Rattle.plane.specs.declared.Tensor.{Tensor}
 use Rattle.plane.specs.declared.Config.{Config}
 use Rattle.plane.specs.declared.SubConfig.{SubConfig}
-use Rattle.plane.specs.declared.SubTensor.{SubTensor}
-use Rattle.plane.specs.Arrays.{at, table, firsts, zeros, sum, product, howMany, every}
-use Rattle.plane.specs.Planes.{shapeAt, strides, srcStrides}
-use Rattle.plane.specs.Moves.{taken, count, extent, dstExtents, dstStrides, need, judgeOf}
+use Rattle.plane.specs.Arrays.{at, zeros, sum, product}
+use Rattle.plane.specs.Planes.{shapeAt, srcStrides}
+use Rattle.plane.specs.Moves.{dstStrides, need}
 use Rattle.plane.specs.Settings.{withOffset, withSize, withDstStride}
-use Rattle.ready_made.specs.ReadyMade.{defaults, cutTo, madeFor, copyOf, sliceOf}
-use Rattle.plane.specs.Helpers.{staying, isUnit, subDim, subFault, noSub, subAnswer, subTensorOf, subOf, subByte}
-use Rattle.plane.proofs.Arrays.{table-at, zeros-at, firsts-at, firsts-same, sum-same, every-same}
-use Rattle.plane.proofs.Good.{GoodStrides, GoodConfig, GoodPlace, GoodMove, move-clear}
-use Rattle.plane.proofs.Faults.{unless-none}
-use Rattle.plane.proofs.Staying.{kept, kept-length, kept-last, kept-before}
-use Rattle.plane.proofs.SubTensors.{GoodSub, sub-clear, sub-told, sub-shape, sub-stride, sub-resolved, sub-source, sub-within}
-use Rattle.mover.specs.Element.{isKept, areKept, sourcePlace, place, element}
-use Rattle.mover.specs.Moved.{total, perStep, coordOf, stored, moved, moveMemory}
-use Rattle.mover.proofs.Sums.{sum-joined}
-use Rattle.mover.proofs.Laws.{judged, judged-good, moved-whole, moved-refused}
+use Rattle.plane.specs.Helpers.{excess, subDim, subTensorOf, subOf, subByte}
+use Rattle.ready_made.specs.ReadyMade.{defaults, cutTo, copyOf, sliceOf}
+use Rattle.plane.proofs.Arrays.{sum-same, product-same}
+use Rattle.plane.proofs.Counting.{product-grows}
+use Rattle.plane.proofs.Good.{GoodConfig, GoodPlace, GoodMove, move-clear}
+use Rattle.plane.proofs.Staying.{staying-sum}
+use Rattle.plane.proofs.SubTensors.{GoodSub, sub-told, sub-given, sub-count, subDim-below, sub-shape, sub-source, sub-within}
+use Rattle.mover.specs.Element.{sourcePlace, place}
+use Rattle.mover.specs.Moved.{extentAt, moveMemory}
+use Rattle.mover.specs.SubPart.{subPart}
+use Rattle.mover.proofs.Keeping.{place-same}
+use Rattle.mover.proofs.Spread.{staying-product, staying-heads, spread, spread-at, spread-below, spread-sum, spread-back}
+use Rattle.mover.proofs.Boxes.{Boxed, boxed-extent-at, boxed-kept, boxed-stride, boxed-source, boxed-config, boxed-place, taken-some, cut-at, cut-zero, cut-table, made, copied, copy-whole, copy-place}
+use Rattle.mover.proofs.SubParts.{part-here}
+use Rattle.mover.proofs.SubElements.{place-whole}
+use Rattle.mover.proofs.Laws.{judged, judged-good, moved-refused}
+use Rattle.mover.specs.Demand2.{IsCoordinate, Meant}
+use Rattle.mover.proofs.Demand2.{demand-2, demand-2-only}
 
--- ---- moves that are alike
+-- the whole plane's configuration for the slice
+abbrev sliced : Tensor → SubConfig → Config
+sliced t s = cutTo (t .rank) (withDstStride (withSize (withOffset defaults (s .offset)) (s .size)) zeros)
 
--- two moves with the same rank and size, and the same extents, strides and offsets of the destination
-record Alike (t u : Tensor) (c d : Config) : Type 0 where
-  pub rank : t .rank ≡ u .rank
-  pub size : t .size ≡ u .size
-  pub extents : dstExtents t c ≡ dstExtents u d
-  pub given : c .«dst_stride» ≡ d .«dst_stride»
-  pub offsets : c .«dst_offset» ≡ d .«dst_offset»
-
-alike-sym : {t u : Tensor} {c d : Config} → Alike t u c d → Alike u t d c
-alike-sym a = record { rank = sym (a .rank); size = sym (a .size); extents = sym (a .extents); given = sym (a .given); offsets = sym (a .offsets) }
-
-module _ {t u : Tensor} {c d : Config} (a : Alike t u c d) where
-  alike-strides : dstStrides t c ≡ dstStrides u d
-  alike-strides = λ i. strides (a .rank i) (at (a .extents i)) (at (a .given i))
-
-  alike-need : need t c ≡ need u d
-  unfolding need
-  alike-need = λ i. (1 + sum (a .rank i) (λ j. (at (a .offsets i) j + at (a .extents i) j - 1) * at (alike-strides i) j)) * a .size i
-
-  alike-good : GoodPlace t c → GoodPlace u d
-  alike-good p = record {
-    strides = transport (λ i. GoodStrides (a .rank i) (at (a .extents i)) (at (a .given i))) (p .strides);
-    offset = transport (λ i. (j : ℕ) → j < a .rank i → (at (a .offsets i) j < at (alike-strides i) j) × (at (a .offsets i) j ≤ 65535)) (p .offset);
-  }
-
-  alike-total : total t c ≡ total u d
-  unfolding total
-  alike-total = ap₂ (λ (n : ℕ) (e : List ℕ). product n (at e)) (a .rank) (a .extents)
-
-  alike-coord : (q : ℕ) → coordOf t c q ≡ coordOf u d q
-  unfolding coordOf perStep
-  alike-coord q =
-      ap₂ (λ (n : ℕ) (e : List ℕ). λ (i : ℕ). q / product (n - suc i) (λ k. at e (suc i + k)) % at e i) (a .rank) (a .extents)
-
-  alike-place : (x : ℕ → ℕ) → place t c x * t .size ≡ place u d x * u .size
-  unfolding place
-  alike-place x = λ i. sum (a .rank i) (λ j. (at (a .offsets i) j + x j) * at (alike-strides i) j) * a .size i
-
-  module _ (src from : List ℕ) (e : (x : ℕ → ℕ) → element t c src x ≡ element u d from x) where
-    alike-stored : (q : ℕ) (dst : List ℕ) → stored t c src q dst ≡ stored u d from q dst
-    unfolding stored
-    alike-stored q dst = rw (alike-coord q, alike-place (coordOf u d q), e (coordOf u d q))
-
-    alike-moved : (k n : ℕ) (dst : List ℕ) → moved t c src k n dst ≡ moved u d from k n dst
-    unfolding moved
-    alike-moved k zero dst = refl
-    alike-moved k (suc n) dst = alike-stored (k + n) (moved t c src k n dst) ∙ ap (stored u d from (k + n)) (alike-moved k n dst)
-
--- ---- moves that take a box, sizes z, and neither pad, step nor permute
-
-record Boxed (u : Tensor) (c : Config) (z : List ℕ) : Type 0 where
-  pub perm : (i : ℕ) → i < u .rank → at (c .perm) i ≡ i
-  pub pre : (i : ℕ) → i < u .rank → at (c .pre) i ≡ 0
-  pub post : (i : ℕ) → i < u .rank → at (c .post) i ≡ 0
-  pub step : (i : ℕ) → i < u .rank → at (c .step) i ≡ 1
-  pub size : (i : ℕ) → i < u .rank → taken u c i ≡ at z i
-
-module _ {u : Tensor} {c : Config} {z : List ℕ} (b : Boxed u c z) where
-  boxed-count : (i : ℕ) → i < u .rank → count u c i ≡ at z i
-  unfolding count
-  boxed-count i h = rw (b .step i h, b .size i h, div-one, add-zero)
-
-  boxed-extent : (i : ℕ) → i < u .rank → extent u c i ≡ at z i
-  unfolding extent
-  boxed-extent i h = rw (b .pre i h, b .post i h, boxed-count i h) (omega arith)
-
-  boxed-extents : dstExtents u c ≡ firsts (u .rank) (at z)
-  unfolding dstExtents
-  boxed-extents = firsts-same (u .rank) _ _ (λ i h. ap (extent u c) (b .perm i h) ∙ boxed-extent i h)
-
-  boxed-kept : (x : ℕ → ℕ) → areKept u c x ≡ every (u .rank) (λ i. leb 0 (x i) && ltb (x i - 0) (at z i))
-  unfolding areKept isKept
-  boxed-kept x = every-same (u .rank) _ _ (λ i h. rw (b .perm i h, b .pre i h, boxed-count i h))
-
-  boxed-source : (x : ℕ → ℕ) → sourcePlace u c x ≡ sum (u .rank) (λ i. (at (c .offset) i + x i) * at (srcStrides u) i)
-  unfolding sourcePlace
-  boxed-source x = sum-same (u .rank) _ _ (λ i h. let m : x i - 0 ≡ x i = omega arith in rw (b .perm i h, b .pre i h, b .step i h, mul-one, m))
-
-  -- it is accepted as far as its sizes and offsets are within the shape
-  boxed-config : (one : (i : ℕ) → i < u .rank → at z i ≤ 65535) → ((i : ℕ) → i < u .rank → at (c .offset) i < shapeAt u i) → ((i : ℕ) → i < u .rank → at (c .size) i + at (c .offset) i ≤ shapeAt u i) → GoodConfig u c
-  boxed-config m o l = record {
-    perm = λ i h. omega (arith, b .perm i h);
-    apart = λ i j h k q. omega (arith, b .perm i h, b .perm j (omega arith));
-    offset = o;
-    size = l;
-    step = λ i h. (omega (arith, b .step i h), omega (arith, b .step i h));
-    extent = λ i h. omega (arith, boxed-extent i h, m i h);
-  }
-
--- size 0 from offset 0 on is the shape, and any other size is itself
-taken-all : (u : Tensor) (c : Config) (i : ℕ) → at (c .size) i ≡ 0 → at (c .offset) i ≡ 0 → taken u c i ≡ shapeAt u i
-taken-all u c i e o = rw (eq-eqb (at (c .size) i) 0 e) (omega arith)
-
-taken-some : (u : Tensor) (c : Config) (i : ℕ) → 1 ≤ at (c .size) i → taken u c i ≡ at (c .size) i
-taken-some u c i h = rw (ne-eqb (at (c .size) i) 0 (λ e. omega arith))
-
--- entries of a configuration cut to the rank n
-module _ (n : ℕ) (few : n ≤ 4) where
-  cut-at : (l : List ℕ) (i : ℕ) → i < n → at (firsts n (at l)) i ≡ at l i
-  cut-at l i h = firsts-at n (at l) i few h
-
-  cut-zero : (i : ℕ) → i < n → at (firsts n (at zeros)) i ≡ 0
-  cut-zero i h = cut-at zeros i h ∙ zeros-at i
-
-  cut-table : (f : ℕ → ℕ) (i : ℕ) → i < n → at (firsts n (at (table f))) i ≡ f i
-  cut-table f i h = cut-at (table f) i h ∙ table-at f 0 i (omega arith)
-
--- ---- dimensions that all stay
-
-stay-all : (size : ℕ → ℕ) (n : ℕ) → (length (staying size 0 n) ≡ n) × ((i : ℕ) → i < n → at (staying size 0 n) i ≡ i)
-unfolding staying
-stay-all size zero = (refl, λ i h. absurd (not-suc-le-zero h))
-stay-all size (suc n) =
-    let w = stay-all size n in
-    let l = w .0 in
-    let k = kept size 0 n (rw (le-ltb (howMany n (isUnit size)) 0 (omega arith)) (and-false (isUnit size n))) in (
-      kept-length size 0 n k ∙ ap suc l,
-      λ i h.
-          ⊎-elim
-          (λ (q : i ≡ n). let v : at (staying size 0 (suc n)) n ≡ n = rw l at (kept-last size 0 n k) in rw q v)
-          (λ q. kept-before size 0 n k i (omega arith) ∙ w .1 i q)
-          (eq-or-lt-of-le (le-of-suc-le-suc h)),
-    )
-
--- ---- the sub-tensor and the slice
-
--- the whole plane's configuration for the slice, and the copy's
-abbrev sliced : ℕ → List ℕ → List ℕ → Config
-sliced n o z = cutTo n (withDstStride (withSize (withOffset defaults o) z) zeros)
-
-abbrev copied : ℕ → Config
-copied n = cutTo n defaults
-
--- offsets o and sizes z, and the rank kept
-abbrev boxOf : Tensor → List ℕ → List ℕ → SubConfig
-boxOf t o z = record { offset = o; size = z; rank = t .rank }
-
-module _ (t : Tensor) (o z : List ℕ) {srcLen : ℕ} (g : GoodSub t (boxOf t o z) srcLen) where
+module _ {t : Tensor} {s : SubConfig} {srcLen : ℕ} (g : GoodSub t s srcLen) where
   few : t .rank ≤ 4
   few = g .source .rank .1
 
-  -- the sub-tensor's rank is the whole's
-  ranked : (i : ℕ) → i < subOf t (boxOf t o z) .rank → i < t .rank
+  few-stay : s .rank ≤ 4
+  few-stay = omega (arith, g .rank .1, few)
+
+  -- ---- both take a box
+
+  copy-boxed : Boxed (subOf t s) (copied (s .rank)) (subOf t s .shape)
   unfolding subOf
-  ranked i h = h
+  copy-boxed = copy-whole (subOf t s) few-stay
 
-  same-dim : (i : ℕ) → i < t .rank → subDim t (boxOf t o z) i ≡ i
-  same-dim i h = rw (sub-self (t .rank)) (stay-all (at z) (t .rank) .1 i h)
-
-  box-shape : (i : ℕ) → i < t .rank → shapeAt (subOf t (boxOf t o z)) i ≡ at z i
-  box-shape i h = sub-shape g i h ∙ ap (at z) (same-dim i h)
-
-  box-stride : (i : ℕ) → i < t .rank → at (srcStrides (subOf t (boxOf t o z))) i ≡ at (srcStrides t) i
-  box-stride i h = ap (λ (l : List ℕ). at l i) (sub-resolved g) ∙ sub-stride g i h ∙ ap (at (srcStrides t)) (same-dim i h)
-
-  copy-boxed : Boxed (subOf t (boxOf t o z)) (copied (t .rank)) z
-  unfolding cutTo
-  copy-boxed = record {
-    perm = λ i h. cut-table (t .rank) few (λ d. d) i (ranked i h);
-    pre = λ i h. cut-zero (t .rank) few i (ranked i h);
-    post = λ i h. cut-zero (t .rank) few i (ranked i h);
-    step = λ i h. cut-table (t .rank) few (λ d. 1) i (ranked i h);
-    size = λ i h.
-        let zero = cut-zero (t .rank) few i (ranked i h) in
-        taken-all (subOf t (boxOf t o z)) (copied (t .rank)) i zero zero ∙ box-shape i (ranked i h);
-  }
-
-  slice-boxed : Boxed t (sliced (t .rank) o z) z
+  slice-boxed : Boxed t (sliced t s) (s .size)
   unfolding cutTo
   slice-boxed = record {
     perm = cut-table (t .rank) few (λ d. d);
@@ -208,114 +59,175 @@ module _ (t : Tensor) (o z : List ℕ) {srcLen : ℕ} (g : GoodSub t (boxOf t o 
     post = cut-zero (t .rank) few;
     step = cut-table (t .rank) few (λ d. 1);
     size = λ i h.
-        let e = cut-at (t .rank) few z i h in
-        taken-some t (sliced (t .rank) o z) i (omega (arith, g .size i h .0)) ∙ e;
+        let e = cut-at (t .rank) few (s .size) i h in
+        taken-some t (sliced t s) i (omega (arith, g .size i h .0)) ∙ e;
   }
 
-  -- so the two moves are alike
-  same-move : Alike (subOf t (boxOf t o z)) t (copied (t .rank)) (sliced (t .rank) o z)
-  unfolding subOf cutTo
-  same-move =
-      let e = boxed-extents copy-boxed ∙ sym (boxed-extents slice-boxed) in record { rank = refl; size = refl; extents = e; given = refl; offsets = refl }
+  copy-extent : (i : ℕ) → i < s .rank → extentAt (subOf t s) (copied (s .rank)) i ≡ at (s .size) (subDim t s i)
+  unfolding subOf
+  copy-extent i h = boxed-extent-at copy-boxed few-stay i h ∙ sub-shape g i h
 
-  -- the byte of the sub-tensor and a place in it are the place in the whole
-  copy-source : (x : ℕ → ℕ) → sourcePlace (subOf t (boxOf t o z)) (copied (t .rank)) x ≡ sum (t .rank) (λ i. x i * at (srcStrides t) i)
+  slice-extent : (d : ℕ) → d < t .rank → extentAt t (sliced t s) d ≡ at (s .size) d
+  slice-extent d h = boxed-extent-at slice-boxed few d h
+
+  -- ---- the destination's strides are the same in the dimensions that stay
+
+  -- the strides of the copy, and of the slice
+  abbrev ours : ℕ → ℕ
+  ours i = at (dstStrides (subOf t s) (copied (s .rank))) i
+
+  abbrev theirs : ℕ → ℕ
+  theirs d = at (dstStrides t (sliced t s)) d
+
+  stride-same : (i : ℕ) → i < s .rank → ours i ≡ theirs (subDim t s i)
+  unfolding product subOf cutTo
+  stride-same i h =
+      let d = subDim t s i in
+      let sizes : ℕ → ℕ = λ j. at (s .size) (subDim t s j) in
+      let heads = product-same (suc i) (shapeAt (subOf t s)) sizes (λ j l. sub-shape g j (omega arith)) ∙ staying-heads (at (s .size)) (excess t s) (t .rank) i (rw (sub-count g) h) in
+      let all = product-same (s .rank) (shapeAt (subOf t s)) sizes (sub-shape g) ∙ ap (λ (m : ℕ). product m sizes) (sym (sub-count g)) ∙ staying-product (at (s .size)) (excess t s) (t .rank) in
+      eq-of-mul-eq-mul-left (product (suc d) (at (s .size)))
+      (product-grows (suc d) 0 (at (s .size)) (λ j q. g .size j (omega (arith, subDim-below g i h)) .0) (omega arith)) (ours i) (theirs d)
+      (ap (λ (y : ℕ). y * ours i) (sym heads) ∙
+      boxed-stride copy-boxed few-stay (cut-zero (s .rank) few-stay) i h ∙
+      all ∙
+      sym (boxed-stride slice-boxed few (cut-zero (t .rank) few) d (subDim-below g i h)))
+
+  -- so are the places and the need
+  module _ (x : ℕ → ℕ) where
+    abbrev wide : ℕ → ℕ
+    wide d = spread (at (s .size)) (excess t s) x d
+
+    places : place (subOf t s) (copied (s .rank)) x ≡ place t (sliced t s) wide
+    unfolding place subOf cutTo
+    places =
+        sum-same (s .rank) _ _ (λ i h. ap₂ (λ (a b : ℕ). (a + x i) * b) (cut-zero (s .rank) few-stay i h) (stride-same i h) ∙ simp zero-add) ∙
+        ap (λ (m : ℕ). sum m (λ i. x i * theirs (subDim t s i))) (sym (sub-count g)) ∙
+        spread-sum (at (s .size)) (excess t s) x theirs (t .rank) ∙
+        sum-same (t .rank) _ _ (λ d h. sym (ap (λ (a : ℕ). (a + wide d) * theirs d) (cut-zero (t .rank) few d h) ∙ simp zero-add))
+
+    -- the byte of the sub-tensor and a place in it are the place in the whole
+    sources : subByte t s + sourcePlace (subOf t s) (copied (s .rank)) x * t .size ≡ sourcePlace t (sliced t s) wide * t .size
+    unfolding subOf cutTo
+    sources =
+        rw (copy-place (subOf t s) few-stay x, boxed-source slice-boxed wide)
+        (place-whole g x ∙
+        ap (λ (y : ℕ). y * t .size)
+        (sum-same (t .rank) _ _ (λ d h. ap (λ (a : ℕ). (a + wide d) * at (srcStrides t) d) (sym (cut-at (t .rank) few (s .offset) d h)))))
+
+  needs : need (subOf t s) (copied (s .rank)) ≡ need t (sliced t s)
+  unfolding need subOf cutTo
+  needs =
+      ap (λ (y : ℕ). (1 + y) * t .size)
+      (sum-same (s .rank) _ _
+      (λ i h. let z = cut-zero (s .rank) few-stay i h in ap₂ (λ (a b : ℕ). a * b) (omega (arith, z, copy-extent i h)) (stride-same i h)) ∙
+      ap (λ (m : ℕ). sum m (λ i. (at (s .size) (subDim t s i) - 1) * theirs (subDim t s i))) (sym (sub-count g)) ∙
+      staying-sum (at (s .size)) (excess t s) (λ d. (at (s .size) d - 1) * theirs d) (λ d u. rw u (zero-mul (theirs d))) (t .rank) ∙
+      sum-same (t .rank) _ _
+      (λ d h. let z = cut-zero (t .rank) few d h in ap (λ (a : ℕ). a * theirs d) (omega (arith, z, slice-extent d h))))
+
+  -- ---- both are accepted but for the need
+
+  copy-config : GoodConfig (subOf t s) (copied (s .rank))
   unfolding cutTo subOf
-  copy-source x =
-      boxed-source copy-boxed x ∙
-      sum-same (t .rank) _ _ (λ i h. ap₂ (λ (a b : ℕ). a * b) (omega (arith, cut-zero (t .rank) few i h)) (box-stride i h))
-
-  slice-source : (x : ℕ → ℕ) → sourcePlace t (sliced (t .rank) o z) x ≡ sum (t .rank) (λ i. (at o i + x i) * at (srcStrides t) i)
-  unfolding cutTo
-  slice-source x =
-      boxed-source slice-boxed x ∙
-      sum-same (t .rank) _ _ (λ i h. ap (λ (a : ℕ). (a + x i) * at (srcStrides t) i) (cut-at (t .rank) few o i h))
-
-  same-source : (x : ℕ → ℕ) → subByte t (boxOf t o z) + sourcePlace (subOf t (boxOf t o z)) (copied (t .rank)) x * t .size ≡ sourcePlace t (sliced (t .rank) o z) x * t .size
-  unfolding subByte
-  same-source x =
-      rw (copy-source x, slice-source x)
-      (sum-joined (t .rank) _ _ _ (t .size) (λ i h. sym (add-mul (at o i) (x i) (at (srcStrides t) i))))
-
-  same-element : (src : List ℕ) (x : ℕ → ℕ) → element (subOf t (boxOf t o z)) (copied (t .rank)) (drop (subByte t (boxOf t o z)) src) x ≡ element t (sliced (t .rank) o z) src x
-  unfolding element subOf
-  same-element src x = rw (boxed-kept copy-boxed x, boxed-kept slice-boxed x, drop-drop, same-source x)
-
-  -- both are accepted, or neither is
-  small : (i : ℕ) → i < t .rank → at z i ≤ 65535
-  small i h = omega (arith, g .size i h .1, g .source .shape i h .1)
-
-  copy-config : GoodConfig (subOf t (boxOf t o z)) (copied (t .rank))
-  unfolding cutTo
   copy-config =
-      boxed-config copy-boxed (λ i h. small i (ranked i h))
-      (λ i h. let y = cut-zero (t .rank) few i (ranked i h) in omega (arith, box-shape i (ranked i h), g .size i (ranked i h) .0))
-      (λ i h. let y = cut-zero (t .rank) few i (ranked i h) in omega arith)
+      boxed-config copy-boxed
+      (λ i h. sub-source g .shape i h .1)
+      (λ i h. omega (arith, cut-zero (s .rank) few-stay i h, sub-source g .shape i h .0))
+      (λ i h. omega (arith, cut-zero (s .rank) few-stay i h))
 
-  slice-config : GoodConfig t (sliced (t .rank) o z)
+  copy-good : GoodPlace (subOf t s) (copied (s .rank))
+  unfolding cutTo subOf
+  copy-good =
+      boxed-place copy-boxed (sub-source g) (λ i h. (sub-source g .shape i h .0, omega arith))
+      (cut-zero (s .rank) few-stay) (cut-zero (s .rank) few-stay)
+
+  slice-config : GoodConfig t (sliced t s)
   unfolding cutTo
   slice-config =
-      boxed-config slice-boxed small
-      (λ i h. omega (arith, cut-at (t .rank) few o i h, g .offset i h))
-      (λ i h. omega (arith, cut-at (t .rank) few o i h, cut-at (t .rank) few z i h, g .size i h .1))
+      boxed-config slice-boxed
+      (λ d h. omega (arith, g .size d h .1, g .source .shape d h .1))
+      (λ d h. omega (arith, cut-at (t .rank) few (s .offset) d h, g .offset d h))
+      (λ d h. omega (arith, cut-at (t .rank) few (s .offset) d h, cut-at (t .rank) few (s .size) d h, g .size d h .1))
+
+  slice-good : GoodPlace t (sliced t s)
+  unfolding cutTo
+  slice-good =
+      boxed-place slice-boxed (g .source) (λ d h. (g .size d h .0, omega (arith, g .size d h .1)))
+      (cut-zero (t .rank) few) (cut-zero (t .rank) few)
+
+  -- ---- the elements are the same
+
+  wide-inside : (x : ℕ → ℕ) → IsCoordinate (subOf t s) (copied (s .rank)) x → IsCoordinate t (sliced t s) (wide x)
+  unfolding subOf
+  wide-inside x w d h =
+      rw (slice-extent d h)
+      (spread-below (at (s .size)) (excess t s) x (t .rank) (λ e l. g .size e l .0)
+      (λ i l. let k : i < s .rank = rw (sub-count g) at l in rw (← copy-extent i k) (w i k)) d h)
+
+  -- what the slice leaves is what the copy is to leave
+  slice-meant : (src dst e : List ℕ) → Meant t (sliced t s) src dst e → Meant (subOf t s) (copied (s .rank)) (drop (subByte t s) src) dst e
+  unfolding subOf
+  slice-meant src dst e m = record {
+    long = m .long;
+    inside = λ x w. rw (places x) (m .inside (wide x) (wide-inside x w));
+    apart = λ x y v w i h n.
+        rw (places x, places y)
+        (m .apart (wide x) (wide y) (wide-inside x v) (wide-inside y w) (subDim t s i) (subDim-below g i h)
+        (λ q. n (sym (own x i h) ∙ q ∙ own y i h)));
+    source = λ x w k b h.
+        let o = m .source (wide x) (wide-inside x w) (boxed-kept slice-boxed few (wide x) (wide-inside x w)) b h in
+        let f = sources x in (
+          rw length-drop (omega (arith, o .0)),
+          rw (places x) (o .1 ∙ ap (λ (j : ℕ). getD src j 0) (ap (λ (j : ℕ). j + b) (sym f) ∙ add-assoc _ _ b) ∙ sym (getD-drop (subByte t s) src _ 0)),
+        );
+    zeros = λ x w i h n b l. absurd (n (boxed-kept copy-boxed few-stay x w i h));
+    rest = λ k h. m .rest k (λ y w.
+        let x : ℕ → ℕ = λ i. y (subDim t s i) in
+        rw (← place-same t (sliced t s) (wide x) y (spread-back (at (s .size)) (excess t s) y (t .rank) (λ d l. rw (← slice-extent d l) (w d l))), ← places x)
+        (h x (λ i l. rw (copy-extent i l, ← slice-extent (subDim t s i) (subDim-below g i l)) (w (subDim t s i) (subDim-below g i l)))));
+  }
+    where
+      own : (x : ℕ → ℕ) (i : ℕ) → i < s .rank → wide x (subDim t s i) ≡ x i
+      own x i h = spread-at (at (s .size)) (excess t s) x (t .rank) i (rw (sub-count g) h)
 
 -- for the lent source and destination
-module _ (t : Tensor) (o z src dst : List ℕ) (g : GoodSub t (boxOf t o z) (length src)) where
-  slice-too : GoodMove (subOf t (boxOf t o z)) (copied (t .rank)) (length (drop (subByte t (boxOf t o z)) src)) (length dst) → GoodMove t (sliced (t .rank) o z) (length src) (length dst)
-  slice-too p = let a = same-move t o z g in record {
-    source = g .source;
-    long = g .long;
-    config = slice-config t o z g;
-    place = alike-good a (p .place);
-    room = omega (arith, alike-need a, p .room);
-  }
+module _ (t : Tensor) (s : SubConfig) (src dst : List ℕ) (g : GoodSub t s (length src)) where
+  abbrev part : List ℕ
+  part = drop (subByte t s) src
 
-  copy-too : GoodMove t (sliced (t .rank) o z) (length src) (length dst) → GoodMove (subOf t (boxOf t o z)) (copied (t .rank)) (length (drop (subByte t (boxOf t o z)) src)) (length dst)
-  copy-too p = let a = same-move t o z g in record {
+  copy-too : need t (sliced t s) ≤ length dst → GoodMove (subOf t s) (copied (s .rank)) (length part) (length dst)
+  copy-too h = record {
     source = sub-source g;
     long = rw length-drop (omega (arith, sub-within g, g .long));
-    config = copy-config t o z g;
-    place = alike-good (alike-sym a) (p .place);
-    room = omega (arith, alike-need a, p .room);
+    config = copy-config g;
+    place = copy-good g;
+    room = rw (needs g) h;
   }
 
-  slice-memory : moveMemory (subOf t (boxOf t o z)) (copied (t .rank)) (drop (subByte t (boxOf t o z)) src) dst ≡ moveMemory t (sliced (t .rank) o z) src dst
-  slice-memory =
-      let u = subOf t (boxOf t o z) in
-      let part = drop (subByte t (boxOf t o z)) src in
-      elim (ℕ-discrete (judgeOf t (sliced (t .rank) o z) (length src) (length dst) .status) 0) [
-        | yes e ↦
-            let w = judged-good t (sliced (t .rank) o z) (length src) (length dst) e in
-            let a = same-move t o z g in
-            moved-whole u (copied (t .rank)) part dst (move-clear u (copied (t .rank)) (length part) (length dst) (copy-too w)) ∙
-            alike-moved a part src (same-element t o z g src) 0 (total u (copied (t .rank))) dst ∙
-            ap (λ (n : ℕ). moved t (sliced (t .rank) o z) src 0 n dst) (alike-total a) ∙
-            sym (moved-whole t (sliced (t .rank) o z) src dst (move-clear t (sliced (t .rank) o z) (length src) (length dst) w))
-        | no h ↦
-            moved-refused u (copied (t .rank)) part dst
-            (λ e. h (judged t (sliced (t .rank) o z) (length src) (length dst) ∙ move-clear t (sliced (t .rank) o z) (length src) (length dst) (slice-too (judged-good u (copied (t .rank)) (length part) (length dst) e)))) ∙
-            sym (moved-refused t (sliced (t .rank) o z) src dst h)
-      ]
+  slice-too : need t (sliced t s) ≤ length dst → GoodMove t (sliced t s) (length src) (length dst)
+  slice-too h = record { source = g .source; long = g .long; config = slice-config g; place = slice-good g; room = h }
+
+  slice-memory : moveMemory (subOf t s) (copied (s .rank)) part dst ≡ moveMemory t (sliced t s) src dst
+  slice-memory = elim (decLe (need t (sliced t s)) (length dst)) [
+    | yes h ↦
+        let z = judged t (sliced t s) (length src) (length dst) ∙ move-clear t (sliced t s) (length src) (length dst) (slice-too h) in
+        let y = judged (subOf t s) (copied (s .rank)) (length part) (length dst) ∙ move-clear (subOf t s) (copied (s .rank)) (length part) (length dst) (copy-too h) in
+        sym (demand-2-only (subOf t s) (copied (s .rank)) part dst y (moveMemory t (sliced t s) src dst) (slice-meant g src dst _ (demand-2 t (sliced t s) src dst z)))
+    | no h ↦
+        moved-refused (subOf t s) (copied (s .rank)) part dst
+        (λ e. h (rw (← needs g) (judged-good (subOf t s) (copied (s .rank)) (length part) (length dst) e .room))) ∙
+        sym (moved-refused t (sliced t s) src dst (λ e. h (judged-good t (sliced t s) (length src) (length dst) e .room)))
+  ]
 
 -- ---- the theorem, on what the calls answer
 
-made : (n : ℕ) (c : Config) → 1 ≤ n → n ≤ 4 → madeFor n c .config ≡ cutTo n c
-unfolding madeFor
-made n c l m = rw (le-ltb n 1 l, le-ltb 4 n m)
-
-module _ (t : Tensor) (s : SubConfig) (src : List ℕ) (z : subTensorOf t s (length src) .status ≡ 0) where
-  its-tensor : (subTensorOf t s (length src) .tensor ≡ subOf t s) × (subTensorOf t s (length src) .byte ≡ subByte t s)
-  unfolding subTensorOf subAnswer
-  its-tensor =
-      let w = unless-none (subFault t s (length src)) (noSub (subFault t s (length src))) (record { status = 0; dim = 0; tensor = subOf t s; byte = subByte t s }) (sub-clear t s (length src) (sub-told t s (length src) z)) in
-      (ap (λ (a : SubTensor). a .tensor) w, ap (λ (a : SubTensor). a .byte) w)
-
-  -- the copy of an accepted sub-tensor of the same rank, from the part of the source that starts at its byte, leaves in any destination what the slice of the whole leaves
-  pub sub-is-slice : (dst : List ℕ) → s .rank ≡ t .rank →
-      moveMemory (subTensorOf t s (length src) .tensor) (copyOf (s .rank) .config) (drop (subTensorOf t s (length src) .byte) src) dst ≡ moveMemory t (sliceOf (t .rank) (s .offset) (s .size) zeros .config) src dst
-  sub-is-slice dst e =
-      let g = sub-told t s (length src) z in
-      let r = g .source .rank in
-      let same : boxOf t (s .offset) (s .size) ≡ s = λ i. record { offset = s .offset; size = s .size; rank = sym e i } in
-      rw (its-tensor .0, its-tensor .1, e, made (t .rank) defaults (r .0) (r .1), made (t .rank) (withDstStride (withSize (withOffset defaults (s .offset)) (s .size)) zeros) (r .0) (r .1))
-      (slice-memory t (s .offset) (s .size) src dst (subst (λ (v : SubConfig). GoodSub t v (length src)) (sym same) g))
+-- the copy of an accepted sub-tensor, from the part of the source that the second call hands back, leaves in any destination what the
+-- slice of the whole leaves
+pub sub-is-slice : (t : Tensor) (s : SubConfig) (src dst : List ℕ) → subTensorOf t s (length src) .status ≡ 0 →
+    moveMemory (subTensorOf t s (length src) .tensor) (copyOf (s .rank) .config) (subPart t s src) dst ≡ moveMemory t (sliceOf (t .rank) (s .offset) (s .size) zeros .config) src dst
+sub-is-slice t s src dst z =
+    let g = sub-told t s (length src) z in
+    let n = g .source .rank in
+    rw (part-here t s src z, sub-given t s (length src) z, made (s .rank) defaults (g .rank .0) (few-stay g), made (t .rank) (withDstStride (withSize (withOffset defaults (s .offset)) (s .size)) zeros) (n .0) (n .1))
+    (slice-memory t s src dst g)

@@ -1,18 +1,40 @@
 -- Laws of the part of a source at which a sub-tensor starts. Assumes nothing.
 use Prim.Native.Nat.{ℕ, _-_, _≤_}
+use native.Mathlib.Decide.{ℕ-discrete}
 use native.Mathlib.Omega.{arith}
 use mathlib.Core.Path.{_≡_, sym, ap, _∙_}
+use mathlib.Core.Bool.{cond}
 use mathlib.Core.List.{List, []}
+use borrow.Author.Tests.{eq-eqb}
+use lib.Dec.{eqb}
 use lib.ListN.{length, take, drop, length-drop}
 use lib.Seq.{take-length}
 use Rattle.plane.specs.declared.Tensor.{Tensor}
 use Rattle.plane.specs.declared.SubConfig.{SubConfig}
 use Rattle.plane.specs.declared.SubTensor.{SubTensor}
-use Rattle.plane.specs.Helpers.{subFault, subOf, subByte, subTensorOf}
+use Rattle.plane.specs.Helpers.{subFault, subOf, subByte, noSub, subAnswer, subTensorOf}
 use Rattle.plane.proofs.Faults.{unless-fault, unless-none}
 use Rattle.plane.proofs.SubAnswers.{sub-status}
 use Rattle.plane.proofs.SubTensors.{sub-taken, sub-given, sub-fits}
 use Rattle.mover.specs.SubPart.{subPart}
+
+-- the part told by the sub-tensor's answer: the first call's byte is where it starts
+abbrev pub partBy : SubTensor → List ℕ → List ℕ
+partBy r src = cond (eqb (r .status) 0) (drop (r .byte) src) []
+
+pub part-by : (t : Tensor) (s : SubConfig) (src : List ℕ) → subPart t s src ≡ partBy (subTensorOf t s (length src)) src
+unfolding subPart subTensorOf subAnswer
+part-by t s src =
+    let f = subFault t s (length src) in
+    let x : SubTensor = record { status = 0; dim = 0; tensor = subOf t s; byte = subByte t s } in
+    elim (ℕ-discrete (f .status) 0) [
+      | yes z ↦ unless-none f [] (drop (subByte t s) src) z ∙ ap (λ (r : SubTensor). partBy r src) (sym (unless-none f (noSub f) x z))
+      | no z ↦ unless-fault f [] (drop (subByte t s) src) z ∙ sym (unless-fault f [] (drop 0 src) z) ∙
+          ap (λ (r : SubTensor). partBy r src) (sym (unless-fault f (noSub f) x z))
+    ]
+
+pub part-here : (t : Tensor) (s : SubConfig) (src : List ℕ) → subTensorOf t s (length src) .status ≡ 0 → subPart t s src ≡ drop (subTensorOf t s (length src) .byte) src
+part-here t s src z = part-by t s src ∙ simp (eq-eqb (subTensorOf t s (length src) .status) 0 z)
 
 module _ (t : Tensor) (s : SubConfig) (src : List ℕ) {r : SubTensor} (e : r ≡ subTensorOf t s (length src)) where
   pub part-refused : (r .status ≡ 0 → ⊥) → take (length src - length src) (drop (length src) src) ≡ subPart t s src

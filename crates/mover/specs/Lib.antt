@@ -5,4 +5,5 @@ pub mod Within
 pub mod SubPart
 pub mod Orders
 pub mod Demand2
+pub mod Claims
 pub mod Private

@@ -12,15 +12,15 @@ use Rattle.plane.specs.declared.Config.{Config}
 use Rattle.plane.specs.declared.SubConfig.{SubConfig}
 use Rattle.plane.specs.declared.Fault.{Fault}
 use Rattle.plane.specs.declared.SubTensor.{SubTensor}
-use Rattle.plane.specs.Arrays.{at, or0}
+use Rattle.plane.specs.Arrays.{at, zeros, or0}
 use Rattle.plane.specs.Faults.{when, _orElse_, lowest, unless}
-use Rattle.plane.specs.Planes.{badShape, badStride, shapeAt, strideAt, inner, resolved, badStrideAt, strides, srcStrides, span, sourceFault}
+use Rattle.plane.specs.Planes.{badShape, badStride, shapeAt, strideAt, inner, resolved, badStrideAt, strides, srcStrides, span, sourceFault, sourceOf}
 use Rattle.plane.specs.Moves.{upward, count, extent, dstExtents, dstStrides, need, badPermAt, badOffset, badStep, badExtent, badDstOffset, configFault, placeFault, moveFault, roomFault, accepted, answerOf, judgeOf, roomOf}
 use Rattle.plane.specs.Helpers.{elements, countFault, countAnswer, countOf, isUnit, staying, subDim, rankFault, subFault, subOf, subByte, noSub, subAnswer, subTensorOf}
 use Rattle.plane.specs.Unseen.{SameTensor, SameConfig, SameSub}
 use Rattle.plane.proofs.Arrays.{firsts-same, sum-same, product-same, howMany-same, some-same}
 use Rattle.plane.proofs.Faults.{status, or-path, or-found, or-clear, lowest-same, outward-same, unless-fault, unless-none}
-use Rattle.plane.proofs.Good.{config-good}
+use Rattle.plane.proofs.Good.{GoodConfig, config-good, config-clear}
 use Rattle.plane.proofs.Rules.{answer-refused, answer-given}
 use Rattle.plane.proofs.SubTensors.{sub-good, subDim-below}
 
@@ -74,6 +74,11 @@ module _ (n z : ℕ) (s s′ p p′ : List ℕ) (a : SameTensor (tensor n z s p)
   span-same =
       ap (λ (x : ℕ). (1 + x) * z)
       (sum-same n _ _ (λ d h. ap₂ (λ (x : ℕ) (l : List ℕ). (x - 1) * at l d) (a .shape d h) src-strides-same))
+
+  its-same : sourceOf T ≡ sourceOf T′
+  unfolding sourceOf
+  its-same =
+      λ i. record { fault = source-same i; stride = unless (source-same i) zeros (src-strides-same i); span = unless (source-same i) 0 (span-same i) }
 
   -- ---- the move
 
@@ -151,13 +156,18 @@ module _ (n z : ℕ) (s s′ p p′ : List ℕ) (a : SameTensor (tensor n z s p)
         let v : unless (roomFault T c) 0 (span T) ≡ unless (roomFault T′ c′) 0 (span T′) = ap₂ (λ (f : Fault) (x : ℕ). unless f 0 x) e span-same in
         λ i. record { answer = w i; span = v i }
 
+    move-same : (sl dl : ℕ) → moveFault T c sl dl ≡ moveFault T′ c′ sl dl
+    unfolding moveFault
+    move-same sl dl =
+        or-path source-same
+        (or-path (ap (λ (x : ℕ). when 5 0 (ltb sl x)) span-same)
+        (behind _ _ (λ y. or-path (place-same y) (ap (λ (x : ℕ). when 13 0 (ltb dl x)) (need-same y)))))
+
     judge-same : (sl dl : ℕ) → judgeOf T c sl dl ≡ judgeOf T′ c′ sl dl
     unfolding judgeOf moveFault
     judge-same sl dl =
-        let e : moveFault T c sl dl ≡ moveFault T′ c′ sl dl =
-        or-path source-same (or-path (ap (λ (x : ℕ). when 5 0 (ltb sl x)) span-same)
-        (behind _ _ (λ y. or-path (place-same y) (ap (λ (x : ℕ). when 13 0 (ltb dl x)) (need-same y))))) in
-        answer-same (moveFault T c sl dl) (λ y. or-clear _ _ (or-clear _ _ (or-clear _ _ y .1) .1) .0) ∙ ap (λ (f : Fault). answerOf f T′ c′) e
+        answer-same (moveFault T c sl dl) (λ y. or-clear _ _ (or-clear _ _ (or-clear _ _ y .1) .1) .0) ∙
+        ap (λ (f : Fault). answerOf f T′ c′) (move-same sl dl)
 
   -- ---- the helpers
 
@@ -251,11 +261,34 @@ module _ (t t′ : Tensor) (a : SameTensor t t′) where
   agrees : SameTensor t like
   agrees = record { rank = refl; size = refl; shape = a .shape; stride = a .stride }
 
+  pub source-unseen : sourceOf t ≡ sourceOf t′
+  source-unseen = its-same _ _ _ _ _ _ agrees ∙ across (λ (x : Tensor). sourceOf x)
+
   pub room-unseen : (c c′ : Config) → SameConfig (t .rank) c c′ → roomOf t c ≡ roomOf t′ c′
   room-unseen c c′ b = room-same _ _ _ _ _ _ agrees c c′ b ∙ across (λ (x : Tensor). roomOf x c′)
 
   pub judge-unseen : (c c′ : Config) → SameConfig (t .rank) c c′ → (srcLen dstLen : ℕ) → judgeOf t c srcLen dstLen ≡ judgeOf t′ c′ srcLen dstLen
   judge-unseen c c′ b sl dl = judge-same _ _ _ _ _ _ agrees c c′ b sl dl ∙ across (λ (x : Tensor). judgeOf x c′ sl dl)
+
+  -- for the layers above: the fault of a move, and what an accepted move looks at
+  pub fault-unseen : (c c′ : Config) → SameConfig (t .rank) c c′ → (srcLen dstLen : ℕ) → moveFault t c srcLen dstLen ≡ moveFault t′ c′ srcLen dstLen
+  fault-unseen c c′ b sl dl = move-same _ _ _ _ _ _ agrees c c′ b sl dl ∙ across (λ (x : Tensor). moveFault x c′ sl dl)
+
+  pub strides-unseen : srcStrides t ≡ srcStrides t′
+  strides-unseen = src-strides-same _ _ _ _ _ _ agrees ∙ across (λ (x : Tensor). srcStrides x)
+
+  module _ (c c′ : Config) (b : SameConfig (t .rank) c c′) where
+    pub kept-unseen : (d : ℕ) → d < t .rank → count t c d ≡ count t′ c′ d
+    unfolding count
+    kept-unseen d h =
+        ap₂ upward (ap₂ or0 (b .size d h) (ap₂ (λ (x y : ℕ). x - y) (a .shape d h) (b .offset d h))) (b .step d h)
+
+    module _ (g : GoodConfig t c) where
+      pub extents-unseen : dstExtents t c ≡ dstExtents t′ c′
+      extents-unseen = extents-same _ _ _ _ _ _ agrees c c′ b (config-clear t c g) ∙ across (λ (x : Tensor). dstExtents x c′)
+
+      pub dst-strides-unseen : dstStrides t c ≡ dstStrides t′ c′
+      dst-strides-unseen = dst-strides-same _ _ _ _ _ _ agrees c c′ b (config-clear t c g) ∙ across (λ (x : Tensor). dstStrides x c′)
 
   pub count-unseen : (start : ℕ) → countOf t start ≡ countOf t′ start
   count-unseen start = count-same _ _ _ _ _ _ agrees start ∙ across (λ (x : Tensor). countOf x start)

@@ -14,6 +14,7 @@ use Rattle.mover.specs.declared.Job.{Job}
 use Rattle.mover.specs.Within.{meets, jobFault, totalOf, bytesOf, advancedBy}
 use Rattle.mover.proofs.Laws.{moved-none, moved-more, moved-length, source-fits, destination-fits, job-apart, job-whole, job-judged, advanced-length, advanced-outside, advanced-whole}
 use Rattle.mover.proofs.Demand2.{demand-2}
+use Rattle.mover.proofs.Meeting.{meets-apart}
 use Rattle.serial.specs.Parts.{Apart, replaced}
 use Rattle.serial.specs.Machine.{applied, wholeMove, Clear}
 use Rattle.serial.specs.Claims.{Lawful, Every, oneByOne}
@@ -70,9 +71,6 @@ module _ (m₀ : List ℕ) where
       (whole-meant (oneByOne theMover m₀ older) (e .job) (rw (one-by-one-long older) (p .0)), each-meant older (p .1))
 
 -- ---- the rule between two slots
-
-meets-apart : (p q : Part) → meets p q ≡ false → Apart (partOf p) (partOf q)
-meets-apart p q e i a b = omega (arith, ltb-false)
 
 pub clear-of : (j k : Job) → breaks j k ≡ false → Clear theMover j k
 unfolding breaks
