@@ -19,7 +19,7 @@ use Rattle.plane.specs.Helpers.{noCount, countOf, subTensorOf}
 use Rattle.mover.specs.declared.Job.{Job}
 use Rattle.mover.specs.Moved.{moveMemory}
 use Rattle.mover.specs.SubPart.{subPart}
-use Rattle.transfers.specs.Calls.{prepareOf, startOf, stepOf, releaseOf, pollOf, pollStatus, pollState, pollLeft}
+use Rattle.transfers.specs.Calls.{prepareOf, startOf, stepOf, releaseOf, pollOf, pollNumbers}
 use Rattle.transfers.specs.Demand3.{Call, prepare, start, step, release, poll, World, begin, after}
 
 -- ---- what an example is
@@ -49,7 +49,7 @@ reply (prepare j) w = let a = prepareOf (w .table) (length (w .memory)) j in a .
 reply (start h) w = startOf (w .table) (length (w .memory)) h .status ∷ []
 reply (step h b) w = let a = stepOf (w .table) (length (w .memory)) h b in a .status ∷ a .count ∷ []
 reply (release h) w = releaseOf (w .table) (length (w .memory)) h .status ∷ []
-reply (poll h) w = let a = pollOf (w .table) h in pollStatus a ∷ pollState a ∷ pollLeft a ∷ []
+reply (poll h) w = pollNumbers (pollOf (w .table) h)
 
 -- each call answers what it is said to, and the last leaves that memory
 abbrev pub Answered : List Asked → List ℕ → World → Type 0

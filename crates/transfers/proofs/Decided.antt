@@ -30,4 +30,4 @@ pub release-decided : Decided release.Pre release.Post
 release-decided = by-equation
 
 pub poll-decided : Decided poll.Pre poll.Post
-poll-decided = by-equation
+poll-decided = by-first

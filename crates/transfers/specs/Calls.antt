@@ -1,7 +1,7 @@
 -- What each call on a table answers. A refusal hands back the table that was given, with zeros besides its number and dimension.
 use Prim.Native.Nat.{ℕ, _+_, _-_}
 use mathlib.Core.Bool.{cond, not, _||_}
-use mathlib.Core.List.{List}
+use mathlib.Core.List.{List, [], _∷_}
 use lib.Dec.{ltb, leb, eqb}
 use lib.ListN.{length}
 use Rattle.plane.specs.declared.Fault.{Fault}
@@ -144,3 +144,20 @@ pollLeft (poll.Prepared k) = k
 pollLeft (poll.Running k) = k
 pollLeft poll.Done = 0
 pollLeft (poll.Refused n) = 0
+
+-- the three, in that order
+abbrev pub pollNumbers : Poll → List ℕ
+pollNumbers p = pollStatus p ∷ pollState p ∷ pollLeft p ∷ []
+
+-- and what a poll of the table tells in them
+unfoldable pub slotNumbers : Slot → List ℕ
+slotNumbers s =
+    cond (eqb (s .state) 0) (0 ∷ 0 ∷ 0 ∷ [])
+    (cond (eqb (s .state) 1) (0 ∷ 1 ∷ left s ∷ [])
+    (cond (eqb (s .state) 2) (0 ∷ 2 ∷ left s ∷ []) (0 ∷ 3 ∷ 0 ∷ [])))
+
+unfoldable pub tableNumbers : Table → ℕ → List ℕ
+tableNumbers t h =
+    cond (tableSound t)
+    (cond (ltb 3 h) (23 ∷ 0 ∷ 0 ∷ []) (slotNumbers (slotAt t h)))
+    (18 ∷ 0 ∷ 0 ∷ [])
