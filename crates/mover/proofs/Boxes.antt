@@ -12,7 +12,7 @@ use Rattle.plane.specs.Planes.{shapeAt, strideAt, resolved, srcStrides}
 use Rattle.plane.specs.Moves.{taken, count, extent, dstExtents, dstStrides}
 use Rattle.ready_made.specs.ReadyMade.{defaults, cutTo, madeFor}
 use Rattle.plane.proofs.Arrays.{table-at, zeros-at, firsts-at, firsts-same, sum-same, product-same}
-use Rattle.plane.proofs.Good.{GoodSource, GoodConfig, GoodPlace}
+use Rattle.plane.specs.Good.{GoodSource, GoodConfig, GoodPlace}
 use Rattle.plane.proofs.Falling.{stride-positive}
 use Rattle.mover.specs.Element.{sourcePlace}
 use Rattle.mover.proofs.Compact.{compact-at, compact-good}

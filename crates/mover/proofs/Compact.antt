@@ -6,7 +6,7 @@ use mathlib.Core.Path.{_≡_, sym, ap, _∙_}
 use borrow.Author.Tests.{eq-eqb}
 use Rattle.plane.specs.Arrays.{product}
 use Rattle.plane.specs.Planes.{inner, resolved}
-use Rattle.plane.proofs.Good.{GoodStrides}
+use Rattle.plane.specs.Good.{GoodStrides}
 
 module _ (n : ℕ) (extent asked : ℕ → ℕ) (none : (d : ℕ) → d < n → asked d ≡ 0) where
   resolved-inner : (d : ℕ) → d < n → resolved n extent asked d ≡ inner n extent asked (n - suc d)

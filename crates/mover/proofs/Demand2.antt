@@ -17,7 +17,7 @@ use Rattle.plane.specs.Arrays.{at}
 use Rattle.plane.specs.Planes.{span}
 use Rattle.plane.specs.Moves.{count, judgeOf}
 use Rattle.plane.proofs.Arrays.{every-all, every-each, every-fails}
-use Rattle.plane.proofs.Good.{GoodConfig, GoodMove}
+use Rattle.plane.specs.Good.{GoodConfig, GoodMove}
 use Rattle.mover.specs.Element.{dimOf, kOf, isKept, areKept, sourcePlace, place, element}
 use Rattle.mover.specs.Moved.{total, coordOf, moved, moveMemory}
 use Rattle.mover.specs.Demand2.{IsCoordinate, KeptAt, Meant, byteOf, FirstsMeant}

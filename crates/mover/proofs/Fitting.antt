@@ -11,7 +11,8 @@ use Rattle.plane.specs.declared.Config.{Config}
 use Rattle.plane.specs.Arrays.{at, sum}
 use Rattle.plane.specs.Planes.{shapeAt, srcStrides, span}
 use Rattle.plane.specs.Moves.{upward, taken, count, dstExtents, dstStrides, need}
-use Rattle.plane.proofs.Good.{GoodConfig, positive}
+use Rattle.plane.specs.Good.{GoodConfig}
+use Rattle.plane.proofs.Good.{positive}
 use Rattle.mover.specs.Element.{dimOf, place}
 use Rattle.mover.specs.Moved.{extentAt}
 use Rattle.mover.proofs.Sums.{sum-least, sum-perm}

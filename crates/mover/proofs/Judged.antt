@@ -16,7 +16,8 @@ use Rattle.plane.specs.Faults.{none, fault, when, _orElse_}
 use Rattle.plane.specs.Moves.{moveFault, roomFault, refused, accepted, answerOf, judgeOf}
 use Rattle.plane.proofs.Bools.{either-first, either-second, neither}
 use Rattle.plane.proofs.Faults.{status, or-none, or-found, or-clear, or-zero, when-bad, when-good, when-clear, given, spared, unless-fault, unless-none}
-use Rattle.plane.proofs.Good.{GoodMove, source-clear, config-clear, place-clear, move-clear}
+use Rattle.plane.specs.Good.{GoodMove}
+use Rattle.plane.proofs.Good.{source-clear, config-clear, place-clear, move-clear}
 use Rattle.plane.proofs.Rules.{refuses, answer-refused, answer-given, answer-status}
 use Rattle.mover.specs.declared.Job.{Job}
 use Rattle.mover.specs.declared.plan.Plan.{Plan}

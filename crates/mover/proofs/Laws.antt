@@ -19,7 +19,8 @@ use Rattle.plane.specs.Planes.{span}
 use Rattle.plane.specs.Moves.{need, moveFault, judgeOf}
 use Rattle.plane.proofs.Bools.{either-clear}
 use Rattle.plane.proofs.Faults.{or-clear, when-clear, unless-fault, unless-none}
-use Rattle.plane.proofs.Good.{GoodMove, GoodSource, GoodConfig, move-good}
+use Rattle.plane.specs.Good.{GoodMove, GoodSource, GoodConfig}
+use Rattle.plane.proofs.Good.{move-good}
 use Rattle.plane.proofs.Bounds.{element-small}
 use Rattle.plane.proofs.Rules.{answer-status, dst-extent}
 use Rattle.mover.specs.declared.Part.{Part}

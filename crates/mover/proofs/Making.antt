@@ -20,7 +20,8 @@ use Rattle.plane.specs.Moves.{count, extent, dstExtents, roomFault, accepted}
 use Rattle.plane.proofs.Arrays.{firsts-at}
 use Rattle.plane.proofs.Bounds.{product-fits, element-small}
 use Rattle.plane.proofs.Faults.{status, or-clear}
-use Rattle.plane.proofs.Good.{GoodSource, GoodConfig, GoodPlace, source-good, config-good, place-good}
+use Rattle.plane.specs.Good.{GoodSource, GoodConfig, GoodPlace}
+use Rattle.plane.proofs.Good.{source-good, config-good, place-good}
 use Rattle.plane.proofs.Rules.{dst-extent, its-fault, its-strides}
 use Rattle.mover.specs.declared.plan.Axis.{Axis}
 use Rattle.mover.specs.Element.{dimOf}

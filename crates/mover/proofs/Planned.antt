@@ -15,7 +15,7 @@ use Rattle.plane.specs.declared.Config.{Config}
 use Rattle.plane.specs.Arrays.{at, sum, product, every}
 use Rattle.plane.specs.Planes.{srcStrides, span}
 use Rattle.plane.specs.Moves.{count, dstExtents, dstStrides, need}
-use Rattle.plane.proofs.Good.{GoodSource, GoodConfig}
+use Rattle.plane.specs.Good.{GoodSource, GoodConfig}
 use Rattle.plane.proofs.Rules.{dst-extent}
 use Rattle.plane.proofs.Bounds.{element-small}
 use Rattle.mover.specs.declared.engine.Origin.the-variants.{Lent}

@@ -19,9 +19,10 @@ use Rattle.plane.specs.Helpers.{excess, subDim, subTensorOf, subOf, subByte}
 use Rattle.ready_made.specs.ReadyMade.{defaults, cutTo, copyOf, sliceOf}
 use Rattle.plane.proofs.Arrays.{sum-same, product-same}
 use Rattle.plane.proofs.Counting.{product-grows}
-use Rattle.plane.proofs.Good.{GoodConfig, GoodPlace, GoodMove, move-clear}
+use Rattle.plane.specs.Good.{GoodConfig, GoodPlace, GoodMove, GoodSub}
+use Rattle.plane.proofs.Good.{move-clear}
 use Rattle.plane.proofs.Staying.{staying-sum}
-use Rattle.plane.proofs.SubTensors.{GoodSub, sub-told, sub-given, sub-count, subDim-below, sub-shape, sub-source, sub-within}
+use Rattle.plane.proofs.SubTensors.{sub-told, sub-given, sub-count, subDim-below, sub-shape, sub-source, sub-within}
 use Rattle.mover.specs.Element.{sourcePlace, place}
 use Rattle.mover.specs.Moved.{extentAt, moveMemory}
 use Rattle.mover.specs.SubPart.{subPart}

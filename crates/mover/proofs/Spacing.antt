@@ -11,7 +11,7 @@ use Rattle.plane.specs.Arrays.{at, sum}
 use Rattle.plane.specs.Planes.{resolved}
 use Rattle.plane.specs.Moves.{dstExtents, dstStrides}
 use Rattle.plane.proofs.Arrays.{firsts-at}
-use Rattle.plane.proofs.Good.{GoodSource, GoodConfig, GoodPlace}
+use Rattle.plane.specs.Good.{GoodSource, GoodConfig, GoodPlace}
 use Rattle.plane.proofs.Falling.{stride-positive, strides-fall}
 use Rattle.plane.proofs.Rules.{dst-extent}
 use Rattle.mover.specs.Element.{place}

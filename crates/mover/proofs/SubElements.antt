@@ -17,7 +17,8 @@ use Rattle.plane.specs.Planes.{shapeAt, srcStrides}
 use Rattle.plane.specs.Helpers.{removed, excess, subDim, subOf, subByte, subTensorOf}
 use Rattle.ready_made.specs.ReadyMade.{defaults, copyOf}
 use Rattle.plane.proofs.Arrays.{sum-same}
-use Rattle.plane.proofs.SubTensors.{GoodSub, sub-count, sub-shape, sub-stride, sub-resolved, sub-told, sub-given}
+use Rattle.plane.specs.Good.{GoodSub}
+use Rattle.plane.proofs.SubTensors.{sub-count, sub-shape, sub-stride, sub-resolved, sub-told, sub-given}
 use Rattle.mover.specs.Element.{sourcePlace}
 use Rattle.mover.specs.SubPart.{subPart}
 use Rattle.mover.specs.Claims.{wholeAt}

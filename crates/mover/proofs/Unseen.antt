@@ -19,7 +19,8 @@ use Rattle.plane.specs.Planes.{srcStrides}
 use Rattle.plane.specs.Moves.{count, dstStrides, moveFault}
 use Rattle.plane.proofs.Arrays.{sum-same, every-same}
 use Rattle.plane.proofs.Faults.{status, or-path, unless-fault, unless-none}
-use Rattle.plane.proofs.Good.{GoodConfig, move-good}
+use Rattle.plane.specs.Good.{GoodConfig}
+use Rattle.plane.proofs.Good.{move-good}
 use Rattle.plane.specs.Unseen.{SameTensor, SameConfig, SameSub}
 use Rattle.plane.proofs.Unseen.{fault-unseen, strides-unseen, kept-unseen, extents-unseen, dst-strides-unseen, sub-unseen}
 use Rattle.mover.specs.declared.Job.{Job}

@@ -15,7 +15,7 @@ use Rattle.plane.specs.Planes.{elementSize, shapeAt, strideAt, inner, re
 use Rattle.plane.specs.Moves.{dstExtents, dstStrides, need}
 use Rattle.plane.proofs.Bools.{either-cases}
 use Rattle.plane.proofs.Arrays.{firsts-at}
-use Rattle.plane.proofs.Good.{GoodStrides, GoodSource, GoodConfig, GoodPlace}
+use Rattle.plane.specs.Good.{GoodStrides, GoodSource, GoodConfig, GoodPlace}
 use Rattle.plane.proofs.Rules.{dst-extent}
 
 pub sum-most : (n : ℕ) (f : ℕ → ℕ) (m : ℕ) → ((d : ℕ) → d < n → f d ≤ m) → sum n f ≤ n * m

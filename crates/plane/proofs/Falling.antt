@@ -7,7 +7,7 @@ use mathlib.Core.Logic.{⊎-elim}
 use borrow.Author.Tests.{ne-eqb}
 use Rattle.plane.specs.Planes.{inner, resolved}
 use Rattle.plane.proofs.Resolving.{inner-out}
-use Rattle.plane.proofs.Good.{GoodStrides}
+use Rattle.plane.specs.Good.{GoodStrides}
 
 module _ (n : ℕ) (shape stride : ℕ → ℕ) where
   inner-last : inner n shape stride 0 ≡ 1

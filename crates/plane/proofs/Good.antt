@@ -1,5 +1,4 @@
--- What acceptance tells: the paper's conditions as plain inequalities, a record for each stretch of the numbers of refusal, and
--- that a stretch gives no number exactly if its conditions hold. Assumes nothing.
+-- What acceptance tells: a stretch of the numbers of refusal gives none exactly if its conditions hold. Assumes nothing.
 use Prim.Native.Nat.{ℕ, zero, suc, _+_, _-_, _≤_, _<_}
 use native.Mathlib.Omega.{arith}
 use mathlib.Core.Path.{_≡_, refl}
@@ -12,43 +11,10 @@ use Rattle.plane.specs.Arrays.{at, some}
 use Rattle.plane.specs.Faults.{lowest, outward}
 use Rattle.plane.specs.Planes.{badRank, elementSize, badElement, badShape, shapeAt, strideAt, inner, resolved, badStrideAt, span, sourceFault}
 use Rattle.plane.specs.Moves.{extent, dstExtents, dstStrides, need, badPermAt, badOffset, badSize, badStep, badExtent, badDstOffset, configFault, placeFault, moveFault}
+use Rattle.plane.specs.Good.{GoodStrides, GoodSource, GoodConfig, GoodPlace, GoodMove}
 use Rattle.plane.proofs.Bools.{either-clear, neither, in-range}
 use Rattle.plane.proofs.Arrays.{some-clear, some-none}
 use Rattle.plane.proofs.Faults.{or-clear, or-zero, when-clear, when-zero, lowest-clear, lowest-zero, outward-clear, outward-zero}
-
--- every stride is at least its inner product and within the limit
-pub record GoodStrides (n : ℕ) (shape stride : ℕ → ℕ) : Type 0 where
-  pub least : (d : ℕ) → d < n → inner n shape stride (n - suc d) ≤ resolved n shape stride d
-  pub most : (d : ℕ) → d < n → resolved n shape stride d ≤ 2147483647
-
--- 1 to 4
-pub record GoodSource (t : Tensor) : Type 0 where
-  pub rank : (1 ≤ t .rank) × (t .rank ≤ 4)
-  pub element : elementSize (t .size) ≡ 0 → ⊥
-  pub shape : (d : ℕ) → d < t .rank → (1 ≤ shapeAt t d) × (shapeAt t d ≤ 65535)
-  pub strides : GoodStrides (t .rank) (shapeAt t) (strideAt t)
-
--- 6 to 10
-pub record GoodConfig (t : Tensor) (c : Config) : Type 0 where
-  pub perm : (i : ℕ) → i < t .rank → at (c .perm) i < t .rank
-  pub apart : (i j : ℕ) → i < t .rank → j < i → at (c .perm) j ≡ at (c .perm) i → ⊥
-  pub offset : (d : ℕ) → d < t .rank → at (c .offset) d < shapeAt t d
-  pub size : (d : ℕ) → d < t .rank → at (c .size) d + at (c .offset) d ≤ shapeAt t d
-  pub step : (d : ℕ) → d < t .rank → (1 ≤ at (c .step) d) × (at (c .step) d ≤ 65535)
-  pub extent : (d : ℕ) → d < t .rank → extent t c d ≤ 65535
-
--- 11 and 12
-pub record GoodPlace (t : Tensor) (c : Config) : Type 0 where
-  pub strides : GoodStrides (t .rank) (at (dstExtents t c)) (at (c .«dst_stride»))
-  pub offset : (i : ℕ) → i < t .rank → (at (c .«dst_offset») i < at (dstStrides t c) i) × (at (c .«dst_offset») i ≤ 65535)
-
--- 1 to 13
-pub record GoodMove (t : Tensor) (c : Config) (srcLen dstLen : ℕ) : Type 0 where
-  pub source : GoodSource t
-  pub long : span t ≤ srcLen
-  pub config : GoodConfig t c
-  pub place : GoodPlace t c
-  pub room : need t c ≤ dstLen
 
 pub positive : (x : ℕ) → (x ≡ 0 → ⊥) → 1 ≤ x
 positive zero h = absurd (h refl)

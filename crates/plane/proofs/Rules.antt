@@ -22,7 +22,8 @@ use Rattle.plane.proofs.Bools.{either-clear, in-range}
 use Rattle.plane.proofs.Arrays.{zeros-at, sum-same, firsts-at}
 use Rattle.plane.proofs.Faults.{status, or-none, or-found, or-assoc, passed, stopped, unless-fault, unless-none, given, spared, when-bad, when-good, lowest-clear}
 use Rattle.plane.proofs.Resolving.{strides-fault, strides-ok}
-use Rattle.plane.proofs.Good.{GoodSource, GoodConfig, positive, source-good}
+use Rattle.plane.specs.Good.{GoodSource, GoodConfig}
+use Rattle.plane.proofs.Good.{positive, source-good}
 
 -- ---- a tensor record by itself
 

@@ -22,7 +22,8 @@ use Rattle.plane.specs.Helpers.{isUnit, staying, excess, subDim, rankFau
 use Rattle.plane.specs.Private.{stayingOf}
 use Rattle.plane.proofs.Bools.{either-clear}
 use Rattle.plane.proofs.Faults.{status, passed, given, spared, when-bad, when-good, unless-fault, unless-none, lowest-clear}
-use Rattle.plane.proofs.Good.{GoodSource, positive}
+use Rattle.plane.specs.Good.{GoodSource}
+use Rattle.plane.proofs.Good.{positive}
 use Rattle.plane.proofs.Rules.{its-fault, its-span}
 use Rattle.plane.proofs.Staying.{staying-count}
 

@@ -16,21 +16,13 @@ use Rattle.plane.specs.Helpers.{isUnit, staying, excess, subDim, badSubS
 use Rattle.plane.proofs.Bools.{either-clear, neither}
 use Rattle.plane.proofs.Arrays.{firsts-at, firsts-same, sum-same}
 use Rattle.plane.proofs.Faults.{or-clear, or-zero, when-clear, when-zero, lowest-clear, lowest-zero, unless-none}
-use Rattle.plane.proofs.Good.{GoodSource, positive, source-good, source-clear}
+use Rattle.plane.specs.Good.{GoodSource, GoodSub}
+use Rattle.plane.proofs.Good.{positive, source-good, source-clear}
 use Rattle.plane.proofs.Falling.{stride-positive, strides-fall, written-stays, written-good}
 use Rattle.plane.proofs.SubAnswers.{sub-status}
 use Rattle.plane.proofs.Staying.{staying-count, staying-below, staying-rises, staying-sum}
 
 -- ---- what acceptance of a sub-tensor tells
-
--- 1 to 5, 7, 8, 14 and 15
-pub record GoodSub (t : Tensor) (s : SubConfig) (srcLen : ℕ) : Type 0 where
-  pub source : GoodSource t
-  pub long : span t ≤ srcLen
-  pub offset : (d : ℕ) → d < t .rank → at (s .offset) d < shapeAt t d
-  pub size : (d : ℕ) → d < t .rank → (1 ≤ at (s .size) d) × (at (s .size) d + at (s .offset) d ≤ shapeAt t d)
-  pub rank : (1 ≤ s .rank) × (s .rank ≤ t .rank)
-  pub units : excess t s ≤ howMany (t .rank) (isUnit (at (s .size)))
 
 module _ (t : Tensor) (s : SubConfig) (srcLen : ℕ) where
   pub sub-good : subFault t s srcLen .status ≡ 0 → GoodSub t s srcLen

@@ -20,7 +20,8 @@ use Rattle.plane.specs.Helpers.{elements, countFault, countAnswer, count
 use Rattle.plane.specs.Unseen.{SameTensor, SameConfig, SameSub}
 use Rattle.plane.proofs.Arrays.{firsts-same, sum-same, product-same, howMany-same, some-same}
 use Rattle.plane.proofs.Faults.{status, or-path, or-found, or-clear, lowest-same, outward-same, unless-fault, unless-none}
-use Rattle.plane.proofs.Good.{GoodConfig, config-good, config-clear}
+use Rattle.plane.specs.Good.{GoodConfig}
+use Rattle.plane.proofs.Good.{config-good, config-clear}
 use Rattle.plane.proofs.Rules.{answer-refused, answer-given}
 use Rattle.plane.proofs.SubTensors.{sub-good, subDim-below}
 

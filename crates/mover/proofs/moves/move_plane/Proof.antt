@@ -3,7 +3,7 @@ use mathlib.Core.Path.{_≡_, sym}
 use native.Mathlib.Omega.{arith}
 use borrow.Author.Needs.{needs}
 use Rattle.plane.specs.Moves.{roomFault, accepted}
-use Rattle.plane.proofs.Good.{GoodMove}
+use Rattle.plane.specs.Good.{GoodMove}
 use lib.ListN.{length}
 use Rattle.mover.proofs.Laws.{moved-refused}
 use Rattle.mover.proofs.Making.{answer-fit}

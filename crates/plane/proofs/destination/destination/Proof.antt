@@ -5,7 +5,8 @@ use borrow.Author.Needs.{needs}
 use Rattle.plane.specs.declared.Fault.{Fault}
 use Rattle.plane.specs.Moves.{answerOf, placeFault}
 use Rattle.plane.proofs.Faults.{status, passed, stopped}
-use Rattle.plane.proofs.Good.{GoodConfig, config-good}
+use Rattle.plane.specs.Good.{GoodConfig}
+use Rattle.plane.proofs.Good.{config-good}
 use Rattle.plane.proofs.Rules.{refuses, dst-extent}
 use Rattle.plane.proofs.destination.destination.Statement.{statement}
 use Rattle.plane.proofs.destination.destination.Tie as tie

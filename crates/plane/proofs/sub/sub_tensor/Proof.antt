@@ -9,7 +9,7 @@ use Rattle.plane.specs.Planes.{span, sourceFault}
 use Rattle.plane.specs.Helpers.{subFault, subTensorOf}
 use Rattle.plane.proofs.Faults.{passed, stopped}
 use Rattle.plane.proofs.Rules.{its-fault, its-good, its-strides}
-use Rattle.plane.proofs.Good.{GoodSource}
+use Rattle.plane.specs.Good.{GoodSource}
 use Rattle.plane.proofs.SubAnswers.{sub-refuses, sub-defers, sub-short, sub-long, offset-small}
 use Rattle.plane.proofs.sub.sub_tensor.Statement.{statement}
 use Rattle.plane.proofs.sub.sub_tensor.Tie as tie
