@@ -1,0 +1,106 @@
+//! Jobs: moves from one part of a memory to another, by themselves.
+
+use super::moving::draw_at_extent_limit;
+use super::numbers::{draw_numbers, start_beside};
+use super::planes::{good, Drawn, Scale};
+use super::spoil::{vary, Lent};
+use super::values::any_u64;
+use super::Work;
+use crate::job::{judge_job as judge, Job, Part};
+use crate::random::Random;
+use crate::wire::{Memory, MEMORY_LIMIT};
+
+/// A job for this move, its two parts side by side, and the length of the memory around them.
+pub fn lay_out(random: &mut Random, drawn: &Drawn) -> (Job, u64) {
+    let gap = |random: &mut Random| random.pick(&[0, 0, 1, 2, 3]);
+    let first = Part { start: gap(random), length: 0 };
+    let source_first = random.chance(50);
+    let (one, two) = if source_first { (drawn.source, drawn.destination) } else { (drawn.destination, drawn.source) };
+    let first = Part { length: one, ..first };
+    let second = Part { start: first.start.saturating_add(one).saturating_add(gap(random)), length: two };
+    let length = second.start.saturating_add(two).saturating_add(gap(random));
+    let (source, destination) = if source_first { (first, second) } else { (second, first) };
+    (Job { source, destination, tensor: drawn.tensor, config: drawn.config }, length)
+}
+
+/// Moves a part so that it leaves the memory, meets the other one, is empty, or starts anywhere.
+pub fn misplace(random: &mut Random, job: &mut Job, length: u64) {
+    let (part, other) =
+        if random.chance(50) { (&mut job.source, job.destination) } else { (&mut job.destination, job.source) };
+    match random.below(16) {
+        0 => part.start = length.saturating_sub(part.length).saturating_add(1),
+        1 => part.length = length.saturating_sub(part.start).saturating_add(1),
+        2 => *part = Part { start: length, length: 0 },
+        3 => *part = Part { start: length.saturating_add(1), length: 0 },
+        4 => part.start = any_u64(random),
+        5 => part.length = any_u64(random),
+        // start + length wraps to a small number
+        6 => part.start = 0u64.wrapping_sub(part.length).wrapping_add(random.below(3)),
+        _ => part.start = start_beside(random, &other, part.length),
+    }
+}
+
+pub fn judge_job(work: &mut Work) {
+    let random = &mut work.random;
+    let drawn = draw_numbers(random);
+    let (mut job, mut length) = lay_out(random, &drawn);
+    match random.below(10) {
+        0..=2 => misplace(random, &mut job, length),
+        3 => length = any_u64(random),
+        4 => length = length.saturating_sub(1),
+        _ => {}
+    }
+    work.call(0x21, &(length, job));
+}
+
+pub fn advance(work: &mut Work) {
+    let random = &mut work.random;
+    let mut drawn = good(random, Scale::Small);
+    vary(random, &mut drawn, Lent::Bytes);
+    let (mut job, length) = lay_out(random, &drawn);
+    let mut length = length.min(MEMORY_LIMIT as u64);
+    match random.below(10) {
+        0..=1 => misplace(random, &mut job, length),
+        2 => length = length.saturating_sub(1),
+        _ => {}
+    }
+    advance_job(work, job, length);
+}
+
+/// The longest source that a memory can hold beside a destination, which is too short: 10 or 13.
+pub fn advance_at_extent_limit(work: &mut Work) {
+    let drawn = draw_at_extent_limit(work);
+    let length = MEMORY_LIMIT as u64;
+    let source = Part { start: 0, length: drawn.source };
+    let destination = Part { start: drawn.source, length: length.saturating_sub(drawn.source) };
+    advance_job(work, Job { source, destination, tensor: drawn.tensor, config: drawn.config }, length);
+}
+
+fn advance_job(work: &mut Work, job: Job, length: u64) {
+    let random = &mut work.random;
+    let total = judge(length, &job).total;
+    let from = match random.below(8) {
+        0..=2 => 0,
+        3..=5 => random.below(total),
+        6 => random.pick(&[total, total.saturating_sub(1), total.saturating_add(1)]),
+        _ => any_u64(random),
+    };
+    let budget = draw_budget(random, total.saturating_sub(from));
+    let memory = random.bytes(length as usize);
+    work.call(0x22, &(job, from, budget, Memory(memory)));
+}
+
+/// A budget for a transfer that has so much left.
+pub fn draw_budget(random: &mut Random, left: u64) -> u64 {
+    match random.below(12) {
+        0 => 0,
+        1..=3 => 1,
+        4..=5 => random.between(2, 4),
+        6 => left,
+        7 => left.saturating_sub(1),
+        8 => left.saturating_add(1),
+        9 => random.below(left.max(1)),
+        10 => u64::MAX,
+        _ => any_u64(random),
+    }
+}

@@ -1,0 +1,130 @@
+//! Moves in which one number stands just at its limit or beside it, and moves with the largest numbers there are.
+
+use super::planes::Drawn;
+use crate::moves::room;
+use crate::random::Random;
+use crate::ready_made::copy;
+use crate::tensor::{source_of, Tensor, EXTENT_LIMIT, LIMIT};
+
+/// The limit, one less, or one more.
+fn beside(random: &mut Random, limit: u64) -> u64 {
+    (limit + random.below(3)).saturating_sub(1)
+}
+
+/// More than any move needs.
+const ENOUGH: u64 = 1 << 56;
+
+/// A plain copy of a small plane, but for one number.
+pub fn at_limit(random: &mut Random) -> Drawn {
+    let rank = random.between(1, 4) as usize;
+    let mut tensor = Tensor { rank: rank as u8, element_size: random.pick(&[1, 2, 4]), ..Tensor::default() };
+    for d in 0..rank {
+        tensor.shape[d] = random.between(1, 3) as u32;
+    }
+    let mut drawn = Drawn { tensor, config: copy(rank as u8).config, source: ENOUGH, destination: ENOUGH };
+    if random.chance(50) {
+        drawn.config.perm[..rank].reverse();
+    }
+    let d = random.index(rank);
+    match random.below(4) {
+        0 => source_at_limit(random, &mut drawn, d),
+        1 => cut_at_limit(random, &mut drawn, d),
+        2 => destination_at_limit(random, &mut drawn, d),
+        _ => {
+            // Lengths at their limits.
+            let room = room(&drawn.tensor, &drawn.config);
+            drawn.source = beside(random, room.span);
+            drawn.destination = beside(random, room.answer.need);
+        }
+    }
+    drawn
+}
+
+fn source_at_limit(random: &mut Random, drawn: &mut Drawn, d: usize) {
+    let inner_product = source_of(&drawn.tensor).stride[d] as u64;
+    let tensor = &mut drawn.tensor;
+    match random.below(4) {
+        0 => tensor.shape[d] = beside(random, EXTENT_LIMIT) as u32,
+        1 => tensor.shape[d] = beside(random, 1) as u32,
+        2 => tensor.stride[d] = beside(random, LIMIT) as u32,
+        _ => tensor.stride[d] = beside(random, inner_product) as u32,
+    }
+}
+
+fn cut_at_limit(random: &mut Random, drawn: &mut Drawn, d: usize) {
+    let shape = drawn.tensor.shape[d] as u64;
+    let config = &mut drawn.config;
+    match random.below(5) {
+        0 => config.offset[d] = beside(random, shape) as u32,
+        1 => {
+            config.offset[d] = random.below(shape) as u32;
+            config.size[d] = beside(random, shape - config.offset[d] as u64) as u32;
+        }
+        2 => config.step[d] = beside(random, EXTENT_LIMIT) as u32,
+        3 => config.step[d] = beside(random, 1) as u32,
+        _ => {
+            config.pre[d] = random.pick(&[0, 1, 255]);
+            config.post[d] = random.pick(&[0, 1, 255]);
+            let padding = config.pre[d] as u64 + config.post[d] as u64;
+            drawn.tensor.shape[d] = beside(random, EXTENT_LIMIT - padding).min(EXTENT_LIMIT) as u32;
+        }
+    }
+}
+
+fn destination_at_limit(random: &mut Random, drawn: &mut Drawn, i: usize) {
+    let inner_product = room(&drawn.tensor, &drawn.config).answer.stride[i] as u64;
+    let config = &mut drawn.config;
+    match random.below(4) {
+        0 => config.dst_stride[i] = beside(random, LIMIT) as u32,
+        1 => config.dst_stride[i] = beside(random, inner_product) as u32,
+        2 => {
+            let stride = inner_product + random.below(3);
+            config.dst_stride[i] = stride as u32;
+            config.dst_offset[i] = beside(random, stride) as u32;
+        }
+        _ => {
+            config.dst_stride[i] = random.pick(&[65_535, 65_536, 65_537, 1 << 20, LIMIT as u32]);
+            config.dst_offset[i] = beside(random, EXTENT_LIMIT) as u32;
+        }
+    }
+}
+
+/// The largest span and need there are, or nearly: every stride at its limit, which only unit dimensions allow.
+pub fn extreme(random: &mut Random) -> Drawn {
+    let rank = random.between(1, 4) as usize;
+    let mut tensor = Tensor { rank: rank as u8, element_size: random.pick(&[1, 2, 4]), ..Tensor::default() };
+    let mut config = copy(rank as u8).config;
+    for d in 0..rank {
+        tensor.shape[d] = if d == 0 { random.pick(&[65_280, 65_534, 65_535]) } else { 1 };
+        tensor.stride[d] = LIMIT as u32;
+        config.dst_stride[d] = LIMIT as u32;
+        config.dst_offset[d] = random.pick(&[0, EXTENT_LIMIT, EXTENT_LIMIT, EXTENT_LIMIT - 1]) as u32;
+    }
+    with_lengths(random, tensor, config)
+}
+
+/// Many elements: as many as the limit of strides allows in the inner dimensions, or just too many.
+pub fn vast(random: &mut Random) -> Drawn {
+    let shape = random.pick(&[
+        [65_535, 65_535, 2, 0],
+        [65_535, 32_768, 65_535, 0],
+        [65_535, 32_769, 65_535, 0],
+        [65_535, 32_767, 65_535, 1],
+        [2, 65_535, 32_767, 65_535],
+        [65_535, 3, 10_922, 65_535],
+        [65_535, 65_535, 1, 32_768],
+    ]);
+    let rank = if shape[3] == 0 { 3 } else { 4 };
+    let tensor = Tensor { rank, element_size: random.pick(&[1, 2, 4]), shape, ..Tensor::default() };
+    let config = copy(rank).config;
+    with_lengths(random, tensor, config)
+}
+
+fn with_lengths(random: &mut Random, tensor: Tensor, config: crate::moves::Config) -> Drawn {
+    let mut drawn = Drawn::of(tensor, config);
+    if random.chance(50) {
+        drawn.source = beside(random, drawn.source);
+        drawn.destination = beside(random, drawn.destination);
+    }
+    drawn
+}

@@ -1,0 +1,113 @@
+//! Draws the calls to compare: the same ones for the same seed.
+
+mod broken;
+mod frames;
+mod histories;
+mod jobs;
+mod limits;
+mod moving;
+mod numbers;
+mod planes;
+mod records;
+mod shows;
+mod spoil;
+mod values;
+
+use crate::lines::hex;
+use crate::random::Random;
+use crate::wire::Wire;
+pub use shows::show_inputs;
+
+/// The lines drawn so far, without their newlines.
+pub struct Work {
+    pub random: Random,
+    pub lines: Vec<Vec<u8>>,
+}
+
+impl Work {
+    /// Adds a call with these arguments.
+    pub fn call<A: Wire>(&mut self, number: u8, arguments: &A) {
+        let mut bytes = vec![number];
+        arguments.write(&mut bytes);
+        let mut line = hex(&bytes);
+        // "Digits a to f may be upper case in a call."
+        if self.random.chance(5) {
+            line.make_ascii_uppercase();
+        }
+        self.lines.push(line);
+    }
+}
+
+/// A kind of call or of several calls, and how often it is drawn.
+type Kind = (u64, fn(&mut Work));
+
+const KINDS: [Kind; 24] = [
+    (1, numbers::version),
+    (9, numbers::source_of),
+    (22, numbers::room),
+    (56, numbers::judge),
+    (2, numbers::element_size),
+    (2, numbers::rank_is_bad),
+    (2, numbers::zero),
+    (2, numbers::answer_refused),
+    (12, numbers::element_count),
+    (22, numbers::sub_tensor),
+    (14, numbers::ready_made),
+    (10, numbers::settings),
+    (8, numbers::meets),
+    (28, jobs::judge_job),
+    (28, jobs::advance),
+    (64, moving::move_plane),
+    (4, moving::move_sub_tensor),
+    (22, records::read),
+    (16, records::write),
+    (2, histories::fresh_table),
+    (3, histories::short),
+    (1, histories::narrow),
+    (2, broken::wide_polls),
+    (8, frames::damaged),
+];
+
+/// The whole input of `rmvcalls`: `count` lines, the last of which has no newline.
+pub fn calls(count: usize, seed: u64) -> Vec<u8> {
+    let mut work = Work { random: Random::new(seed), lines: Vec::new() };
+    let all: u64 = KINDS.iter().map(|kind| kind.0).sum();
+    let mut longest = false;
+    while work.lines.len() + 1 < count {
+        if !longest && work.lines.len() > count / 2 {
+            longest = true;
+            frames::longest(&mut work);
+            histories::beyond_steps(&mut work);
+        }
+        seldom(&mut work);
+        let mut number = work.random.below(all);
+        for (often, draw) in KINDS {
+            if number < often {
+                draw(&mut work);
+                break;
+            }
+            number -= often;
+        }
+    }
+    work.lines.truncate(count.saturating_sub(1));
+    let mut input = Vec::new();
+    for line in &work.lines {
+        input.extend_from_slice(line);
+        input.push(b'\n');
+    }
+    if count > 0 {
+        input.extend(frames::unfinished(&mut work));
+    }
+    input
+}
+
+/// Long lines.
+fn seldom(work: &mut Work) {
+    match work.random.below(800) {
+        0..=11 => moving::large(work),
+        12..=13 => moving::at_extent_limit(work),
+        14 => jobs::advance_at_extent_limit(work),
+        15..=16 => histories::large(work),
+        _ => {}
+    }
+}

@@ -1,0 +1,83 @@
+//! Whole moves over lent bytes.
+
+use super::numbers::draw_sub_config;
+use super::planes::{good, Drawn, Scale};
+use super::spoil::{vary, Lent};
+use super::Work;
+use crate::helpers::{sub_part, sub_tensor};
+use crate::moves::Config;
+use crate::ready_made::copy;
+use crate::tensor::Tensor;
+use crate::wire::{Counted, Memory, Rest, MEMORY_LIMIT};
+
+/// A source of at most this many bytes is lent, so that the line is not too long.
+const SOURCE_LIMIT: u64 = 65_600;
+
+pub fn move_plane(work: &mut Work) {
+    let mut drawn = good(&mut work.random, Scale::Small);
+    vary(&mut work.random, &mut drawn, Lent::Bytes);
+    move_drawn(work, &drawn);
+}
+
+pub fn large(work: &mut Work) {
+    let mut drawn = good(&mut work.random, Scale::Large);
+    drawn.source += work.random.below(3);
+    drawn.destination = (drawn.destination + work.random.below(100)).min(MEMORY_LIMIT as u64);
+    move_drawn(work, &drawn);
+}
+
+fn move_drawn(work: &mut Work, drawn: &Drawn) {
+    let source = work.random.bytes(drawn.source.min(SOURCE_LIMIT) as usize);
+    let destination = work.random.bytes(drawn.destination.min(MEMORY_LIMIT as u64) as usize);
+    work.call(0x20, &(drawn.tensor, drawn.config, Counted(source), Memory(destination)));
+}
+
+/// "size 65,280 with pre 255 is accepted, 65,281 gives 10", in any of the dimensions and with any step.
+pub fn at_extent_limit(work: &mut Work) {
+    let drawn = draw_at_extent_limit(work);
+    move_drawn(work, &drawn);
+}
+
+pub fn draw_at_extent_limit(work: &mut Work) -> Drawn {
+    let random = &mut work.random;
+    let rank = random.between(1, 3) as u8;
+    let d = random.index(rank as usize);
+    let mut tensor = Tensor { rank, element_size: 1, ..Tensor::default() };
+    tensor.shape[..rank as usize].fill(1);
+    let (pre, post) = random.pick(&[(255, 0), (0, 255), (255, 255), (100, 100), (1, 1)]);
+    let count = 65_535 - pre as u32 - post as u32;
+    let size = random.pick(&[count, count, count + 1]);
+    tensor.shape[d] = size + random.below(2) as u32;
+    let mut config = Config { size: [0; 4], ..copy(rank).config };
+    config.size[d] = size;
+    config.pre[d] = pre;
+    config.post[d] = post;
+    if random.chance(50) {
+        config.perm[..rank as usize].reverse();
+    }
+    let mut drawn = Drawn::of(tensor, config);
+    drawn.source = tensor.shape[d] as u64;
+    drawn.destination = random.pick(&[65_534, 65_535, 65_535, 65_536, 65_536, 100]);
+    drawn
+}
+
+/// "A move reads a sub-tensor from a part that starts inside the plane."
+pub fn move_sub_tensor(work: &mut Work) {
+    let random = &mut work.random;
+    let plane = good(random, Scale::Small);
+    let config = draw_sub_config(random, &plane.tensor);
+    let source = random.bytes(plane.source as usize);
+    work.call(0x25, &(plane.tensor, config, Rest(source.clone())));
+    work.call(0x24, &(plane.tensor, config, Rest(source.clone())));
+    let sub = sub_tensor(&plane.tensor, &config, plane.source);
+    if sub.status != 0 {
+        return;
+    }
+    let part = sub_part(&plane.tensor, &config, &source);
+    let mut drawn = Drawn::of(sub.tensor, copy(sub.tensor.rank).config);
+    if work.random.chance(50) {
+        drawn.config.perm[..sub.tensor.rank as usize].reverse();
+    }
+    let destination = work.random.bytes(drawn.destination as usize);
+    work.call(0x20, &(drawn.tensor, drawn.config, Counted(part.to_vec()), Memory(destination)));
+}

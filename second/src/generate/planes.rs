@@ -1,0 +1,208 @@
+//! Draws records and configurations that a move accepts, at three scales.
+
+use super::values::{any_u32s, any_u8s};
+use crate::moves::{extents, kept_counts, room, Config};
+use crate::random::Random;
+use crate::ready_made::copy;
+use crate::tensor::{wide, Tensor, EXTENT_LIMIT, LIMIT};
+
+#[derive(Clone, Copy, PartialEq)]
+pub enum Scale {
+    /// A few elements.
+    Small,
+    /// Some thousand elements, in a destination of at most 65,536 bytes.
+    Large,
+    /// Numbers up to every limit, too large to be moved.
+    Wide,
+}
+
+/// A move as it is drawn: record, configuration, and the lengths of what is lent.
+#[derive(Clone)]
+pub struct Drawn {
+    pub tensor: Tensor,
+    pub config: Config,
+    pub source: u64,
+    pub destination: u64,
+}
+
+impl Drawn {
+    /// With lengths that are just enough.
+    pub fn of(tensor: Tensor, config: Config) -> Drawn {
+        let room = room(&tensor, &config);
+        Drawn { tensor, config, source: room.span, destination: room.answer.need }
+    }
+
+    /// The rank, held within 1 to 4, so that a dimension can be drawn whatever the rank is.
+    pub fn dimensions(&self) -> usize {
+        self.tensor.rank.clamp(1, 4) as usize
+    }
+}
+
+/// A move that is accepted at the scales that are moved, and mostly accepted at the wide one.
+pub fn good(random: &mut Random, scale: Scale) -> Drawn {
+    for _ in 0..40 {
+        let drawn = draw(random, scale);
+        let (source, destination) = match scale {
+            Scale::Small => (300, 600),
+            Scale::Large => (60_000, 65_536),
+            Scale::Wide => (u64::MAX, u64::MAX),
+        };
+        if drawn.source <= source && drawn.destination <= destination && drawn.destination > 0 {
+            return drawn;
+        }
+    }
+    tiny(random)
+}
+
+/// A copy of at most three bytes.
+pub fn tiny(random: &mut Random) -> Drawn {
+    let shape = random.between(1, 3) as u32;
+    let tensor = Tensor { rank: 1, element_size: 1, shape: [shape, 0, 0, 0], stride: [0; 4] };
+    Drawn::of(tensor, copy(1).config)
+}
+
+fn draw(random: &mut Random, scale: Scale) -> Drawn {
+    let tensor = draw_tensor(random, scale);
+    let config = draw_config(random, &tensor, scale);
+    Drawn::of(tensor, config)
+}
+
+fn draw_tensor(random: &mut Random, scale: Scale) -> Tensor {
+    let rank = random.between(1, 4) as usize;
+    let mut tensor = Tensor { rank: rank as u8, element_size: random.pick(&[1, 2, 4]), ..Tensor::default() };
+    // Entries at or past the rank: 0 or anything.
+    if random.chance(25) {
+        tensor.shape = any_u32s(random);
+        tensor.stride = any_u32s(random);
+    }
+    for d in 0..rank {
+        tensor.shape[d] = draw_shape(random, rank, scale);
+    }
+    draw_strides(random, rank, &wide(&tensor.shape), scale, &mut tensor.stride);
+    tensor
+}
+
+fn draw_shape(random: &mut Random, rank: usize, scale: Scale) -> u32 {
+    let shape = match (scale, rank) {
+        (Scale::Small, 1) => random.between(1, 20),
+        (Scale::Small, _) => random.pick(&[1, 1, 2, 2, 3, 4, 5]),
+        (Scale::Large, 1) => random.between(2_000, 40_000),
+        (Scale::Large, 2) => random.between(20, 180),
+        (Scale::Large, 3) => random.between(6, 30),
+        (Scale::Large, _) => random.between(3, 12),
+        (Scale::Wide, _) => match random.below(3) {
+            0 => random.between(1, 4),
+            1 => random.pick(&[1, 2, 255, 256, 32_768, 65_280, 65_534, 65_535]),
+            _ => random.between(1, EXTENT_LIMIT) >> random.below(16),
+        },
+    };
+    shape.max(1) as u32
+}
+
+/// Strides below the rank: 0, the inner product, or more.
+pub fn draw_strides(random: &mut Random, rank: usize, shape: &[u64; 4], scale: Scale, into: &mut [u32; 4]) {
+    let mut inner_product: u64 = 1;
+    for d in (0..rank).rev() {
+        let widest = match scale {
+            Scale::Small => 3,
+            Scale::Large => 8,
+            Scale::Wide => random.pick(&[1, 255, 65_536, LIMIT.saturating_sub(inner_product)]),
+        };
+        let gap = if random.chance(20) { random.between(1, widest) } else { 0 };
+        let stride = (inner_product + gap).min(u32::MAX as u64);
+        into[d] = if gap == 0 && random.chance(50) { 0 } else { stride as u32 };
+        inner_product = stride * shape[d];
+    }
+}
+
+fn draw_config(random: &mut Random, tensor: &Tensor, scale: Scale) -> Config {
+    let mut config = Config::default();
+    if random.chance(25) {
+        config = any_config(random);
+    }
+    let rank = tensor.rank as usize;
+    for d in 0..rank {
+        draw_cut(random, tensor.shape[d], d, &mut config);
+        draw_padding(random, scale, d, &mut config);
+        config.perm[d] = d as u8;
+    }
+    if random.chance(50) {
+        shuffle(random, &mut config.perm[..rank]);
+    }
+    draw_destination(random, tensor, scale, &mut config);
+    config
+}
+
+/// A configuration of any numbers.
+pub fn any_config(random: &mut Random) -> Config {
+    Config {
+        offset: any_u32s(random),
+        size: any_u32s(random),
+        step: any_u32s(random),
+        dst_offset: any_u32s(random),
+        dst_stride: any_u32s(random),
+        perm: any_u8s(random),
+        pre: any_u8s(random),
+        post: any_u8s(random),
+    }
+}
+
+/// Offset, size and step of a dimension of that shape.
+fn draw_cut(random: &mut Random, shape: u32, d: usize, config: &mut Config) {
+    let shape = shape as u64;
+    let offset = match random.below(10) {
+        0..=2 => random.below(shape),
+        3 => shape - 1,
+        _ => 0,
+    };
+    let size = match random.below(10) {
+        0..=4 => 0,
+        5..=8 => random.between(1, shape - offset),
+        _ => shape - offset,
+    };
+    let step = match random.below(10) {
+        0..=5 => 1,
+        6..=8 => random.between(2, 4),
+        _ => random.pick(&[shape, shape + 1, shape.saturating_sub(1), EXTENT_LIMIT]).clamp(1, EXTENT_LIMIT),
+    };
+    config.offset[d] = offset as u32;
+    config.size[d] = size as u32;
+    config.step[d] = step as u32;
+}
+
+fn draw_padding(random: &mut Random, scale: Scale, d: usize, config: &mut Config) {
+    let widest = match scale {
+        Scale::Small => 2,
+        Scale::Large => random.pick(&[2, 20]),
+        Scale::Wide => 255,
+    };
+    let mut padding = || if random.chance(25) { random.between(0, widest) as u8 } else { 0 };
+    config.pre[d] = padding();
+    config.post[d] = padding();
+}
+
+fn shuffle(random: &mut Random, entries: &mut [u8]) {
+    for last in (1..entries.len()).rev() {
+        entries.swap(last, random.index(last + 1));
+    }
+}
+
+/// Destination strides and offsets that fit the extents.
+fn draw_destination(random: &mut Random, tensor: &Tensor, scale: Scale, config: &mut Config) {
+    let rank = tensor.rank as usize;
+    let Ok(extent) = extents(rank, config, &kept_counts(rank, tensor, config)) else {
+        return;
+    };
+    draw_strides(random, rank, &extent, scale, &mut config.dst_stride);
+    let plain = Config { dst_offset: [0; 4], ..*config };
+    let stride = room(tensor, &plain).answer.stride;
+    for i in 0..rank {
+        let most = (stride[i].max(1) as u64 - 1).min(EXTENT_LIMIT);
+        config.dst_offset[i] = match random.below(20) {
+            0..=2 => random.below(most + 1) as u32,
+            3..=4 => random.below(most.min(3) + 1) as u32,
+            5 => most as u32,
+            _ => 0,
+        };
+    }
+}

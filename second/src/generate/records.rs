@@ -1,0 +1,120 @@
+//! Move records: sound ones, and damaged ones.
+
+use super::planes::{any_config, good, Drawn, Scale};
+use super::spoil::{vary, Lent};
+use super::values::{any_tensor, any_u32, any_u8};
+use super::Work;
+use crate::moves::Config;
+use crate::random::Random;
+use crate::record::{pack, LENGTH};
+use crate::tensor::Tensor;
+use crate::wire::{Memory, Rest};
+
+/// Sets the entries at or past the rank to 0, as a record wants it.
+pub fn clear_tail(tensor: &mut Tensor, config: &mut Config) {
+    for d in tensor.rank.min(4) as usize..4 {
+        for group in [
+            &mut tensor.shape,
+            &mut tensor.stride,
+            &mut config.offset,
+            &mut config.size,
+            &mut config.step,
+            &mut config.dst_offset,
+            &mut config.dst_stride,
+        ] {
+            group[d] = 0;
+        }
+        for group in [&mut config.perm, &mut config.pre, &mut config.post] {
+            group[d] = 0;
+        }
+    }
+}
+
+/// Any fields, not only those of moves that are accepted.
+fn draw_fields(random: &mut Random) -> (Tensor, Config) {
+    let (mut tensor, mut config) = if random.chance(60) {
+        let mut drawn: Drawn = good(random, Scale::Wide);
+        vary(random, &mut drawn, Lent::NumbersOnly);
+        (drawn.tensor, drawn.config)
+    } else {
+        (any_tensor(random), any_config(random))
+    };
+    if random.chance(75) {
+        clear_tail(&mut tensor, &mut config);
+    }
+    if random.chance(30) {
+        set_tail_entry(random, &mut tensor, &mut config);
+    }
+    (tensor, config)
+}
+
+/// Puts a number into one entry, mostly at or past the rank (28).
+fn set_tail_entry(random: &mut Random, tensor: &mut Tensor, config: &mut Config) {
+    let d = random.between(tensor.rank.min(3) as u64, 3) as usize;
+    let value = any_u32(random).max(1);
+    let byte = any_u8(random).max(1);
+    match random.below(10) {
+        0 => tensor.shape[d] = value,
+        1 => tensor.stride[d] = value,
+        2 => config.offset[d] = value,
+        3 => config.size[d] = value,
+        4 => config.step[d] = value,
+        5 => config.dst_offset[d] = value,
+        6 => config.dst_stride[d] = value,
+        7 => config.perm[d] = byte,
+        8 => config.pre[d] = byte,
+        _ => config.post[d] = byte,
+    }
+}
+
+/// The bytes of a record, damaged or not.
+pub fn draw_record(random: &mut Random) -> Vec<u8> {
+    let (tensor, config) = draw_fields(random);
+    let mut bytes = pack(&tensor, &config);
+    damage(random, &mut bytes);
+    bytes
+}
+
+/// Leaves half of the records as they are.
+pub fn damage(random: &mut Random, bytes: &mut Vec<u8>) {
+    for _ in 0..random.pick(&[0, 0, 0, 1, 2, 2]) {
+        match random.below(10) {
+            0..=1 => set(bytes, random.index(3), any_u8(random)),
+            2..=3 => set_version(random, bytes),
+            4..=5 => set(bytes, 5, any_u8(random)),
+            6 => set(bytes, 6, any_u8(random)),
+            7 => bytes.resize(random.pick(&[0, 1, 3, 5, 130, 130, 132, 132, 262]), 0),
+            _ => set(bytes, random.index(LENGTH), any_u8(random)),
+        }
+    }
+}
+
+fn set(bytes: &mut [u8], place: usize, value: u8) {
+    if place < bytes.len() {
+        bytes[place] = value;
+    }
+}
+
+fn set_version(random: &mut Random, bytes: &mut [u8]) {
+    let [low, high] = random.pick(&[0u16, 2, 256, 257, 255, 65_535]).to_le_bytes();
+    set(bytes, 3, low);
+    set(bytes, 4, high);
+}
+
+pub fn read(work: &mut Work) {
+    let bytes = draw_record(&mut work.random);
+    work.call(0x30, &Rest(bytes));
+}
+
+/// Writes into a room of 131 bytes or of another length, and reads the outcome back.
+pub fn write(work: &mut Work) {
+    let random = &mut work.random;
+    let (tensor, config) = draw_fields(random);
+    let length = if random.chance(80) { LENGTH } else { random.pick(&[0, 1, 130, 132, 262]) };
+    let mut room = random.bytes(length);
+    work.call(0x31, &(tensor, config, Memory(room.clone())));
+    crate::record::write(&tensor, &config, &mut room);
+    if work.random.chance(30) {
+        work.call(0x30, &Rest(room));
+    }
+}

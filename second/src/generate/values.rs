@@ -1,0 +1,93 @@
+//! Single numbers: the values at which a mistake is likely, and any others.
+
+use crate::random::Random;
+use crate::tensor::Tensor;
+
+const EDGES: [u64; 22] = [
+    0,
+    1,
+    2,
+    3,
+    4,
+    5,
+    254,
+    255,
+    256,
+    257,
+    65_534,
+    65_535,
+    65_536,
+    65_537,
+    2_147_483_646,
+    2_147_483_647,
+    2_147_483_648,
+    2_147_483_649,
+    4_294_967_294,
+    4_294_967_295,
+    32_767,
+    32_768,
+];
+
+const WIDE_EDGES: [u64; 8] =
+    [1 << 32, (1 << 32) + 1, (1 << 63) - 1, 1 << 63, (1 << 63) + 1, u64::MAX - 1, u64::MAX, 1 << 52];
+
+pub fn any_u32(random: &mut Random) -> u32 {
+    match random.below(10) {
+        0..=3 => random.below(8) as u32,
+        4..=7 => random.pick(&EDGES) as u32,
+        _ => (random.any() >> random.between(32, 63)) as u32,
+    }
+}
+
+pub fn any_u64(random: &mut Random) -> u64 {
+    match random.below(10) {
+        0..=5 => any_u32(random) as u64,
+        6..=8 => random.pick(&WIDE_EDGES),
+        _ => random.any() >> random.below(64),
+    }
+}
+
+pub fn any_u8(random: &mut Random) -> u8 {
+    match random.below(10) {
+        0..=5 => random.below(6) as u8,
+        6..=7 => random.pick(&[7, 8, 127, 128, 254, 255]),
+        _ => random.any() as u8,
+    }
+}
+
+/// Mostly a rank, else any byte.
+pub fn any_rank(random: &mut Random) -> u8 {
+    match random.below(10) {
+        0..=7 => random.between(1, 4) as u8,
+        8 => random.pick(&[0, 5, 6, 7, 8, 9, 255]),
+        _ => any_u8(random),
+    }
+}
+
+pub fn any_u32s(random: &mut Random) -> [u32; 4] {
+    [0; 4].map(|_| any_u32(random))
+}
+
+pub fn any_u8s(random: &mut Random) -> [u8; 4] {
+    [0; 4].map(|_| any_u8(random))
+}
+
+pub fn any_tensor(random: &mut Random) -> Tensor {
+    Tensor {
+        rank: any_rank(random),
+        element_size: random.pick(&[0, 1, 1, 2, 2, 3, 4, 4, 8, 255]),
+        shape: any_u32s(random),
+        stride: any_u32s(random),
+    }
+}
+
+/// A length around the one that is just enough.
+pub fn around(random: &mut Random, enough: u64) -> u64 {
+    match random.below(20) {
+        0..=11 => enough,
+        12..=14 => enough.saturating_add(random.between(1, 4)),
+        15..=17 => enough.saturating_sub(1),
+        18 => random.below(enough.max(1)),
+        _ => 0,
+    }
+}

@@ -1,0 +1,46 @@
+//! The examples of 01 and the readings of it, with the values typed in from the paper.
+
+mod errors;
+mod examples;
+mod framing;
+mod readings;
+mod records;
+mod transfers;
+
+use crate::moves::{move_plane, Answer, Config};
+use crate::ready_made::copy;
+use crate::tensor::Tensor;
+
+/// Entries below the rank; the others are 0.
+pub fn four<T: Copy + Default>(entries: &[T]) -> [T; 4] {
+    let mut all = [T::default(); 4];
+    all[..entries.len()].copy_from_slice(entries);
+    all
+}
+
+/// A tensor of bytes with default strides.
+pub fn plane(shape: &[u32]) -> Tensor {
+    Tensor { rank: shape.len() as u8, element_size: 1, shape: four(shape), stride: [0; 4] }
+}
+
+/// "unmentioned fields are default"
+pub fn default(tensor: &Tensor) -> Config {
+    copy(tensor.rank).config
+}
+
+pub fn count_up(last: u8) -> Vec<u8> {
+    (1..=last).collect()
+}
+
+/// Moves into a destination of zeros that is as long as the need; it has to be accepted.
+pub fn moved(tensor: &Tensor, config: &Config, source: &[u8]) -> Vec<u8> {
+    let need = crate::moves::room(tensor, config).answer.need;
+    let mut destination = vec![0; need as usize];
+    let answer = move_plane(tensor, config, source, &mut destination);
+    assert_eq!(answer.status, 0);
+    destination
+}
+
+pub fn refused(status: u8, dimension: u8) -> Answer {
+    Answer { status, dimension, ..Answer::default() }
+}
