@@ -1,4 +1,4 @@
-// Runs the paper's examples through the public calls, and prints what each answers: A to I (moves), K (a sub-tensor), L (two
+// Runs the paper's examples through the public calls, and prints what each answers: A to J (moves), K (a sub-tensor), L (two
 // transfers), and those that the paper only runs.
 use libc::STDOUT_FILENO;
 use plane::Config;
@@ -191,23 +191,23 @@ fn run_only() {
 }
 
 // n elements of one byte each.
-fn job(n: u64, from: u64, to: u64) -> Job {
+fn job(n: u32, from: u64, to: u64) -> Job {
     Job {
         source: Part {
             start: from,
-            length: n,
+            length: n as u64,
         },
         destination: Part {
             start: to,
-            length: n,
+            length: n as u64,
         },
-        tensor: compact(1, 1, [(n % 256) as u32, 0, 0, 0]),
+        tensor: compact(1, 1, [n, 0, 0, 0]),
         config: copy_of(1),
     }
 }
 
 // L: two transfers, stepped by turns, the second first; and a third that would write where one of them reads.
-fn four_at_once() {
+fn two_at_once() {
     let mut mem = [1u8, 2, 3, 4, 0, 0, 0, 0];
     let made = Table::fresh(8);
     let a = made.table.prepare(&mem, job(2, 0, 4));
@@ -234,5 +234,5 @@ fn main() {
     more();
     sub();
     run_only();
-    four_at_once();
+    two_at_once();
 }

@@ -11,7 +11,7 @@ use Rattle.plane.proofs.Faults.{unless-fault}
 use Rattle.plane.proofs.Chains.{Positive, chain, exact, join, one-chain}
 use Rattle.plane.proofs.Exact.{move-chain}
 use Rattle.mover.specs.declared.Job.{Job}
-use Rattle.mover.specs.Within.{leaves, meets, jobFault, totalOf, verdictOf, advance, advancedBy, advanceOf, advanceMemory}
+use Rattle.mover.specs.Within.{leaves, meets, jobFault, totalOf, verdictOf, further, advancedBy, advanceOf, advanceMemory}
 use Rattle.mover.specs.Orders.{jobRules}
 
 pub positive-job : (n : ℕ) (j : Job) → Positive (jobRules n j)
@@ -42,9 +42,9 @@ module _ (j : Job) (from budget : ℕ) (m : List ℕ) where
 
   pub advance-zeros : (advanceOf j from budget m .status ≡ 0 → ⊥) → advanceOf j from budget m .count ≡ 0
   unfolding advanceOf
-  advance-zeros h = unless-fault (jobFault (length m) j) 0 (advance j from budget) h
+  advance-zeros h = unless-fault (jobFault (length m) j) 0 (further j from budget) h
 
   -- a refused one changes no byte
   pub advance-kept : (advanceOf j from budget m .status ≡ 0 → ⊥) → advanceMemory j from budget m ≡ m
   unfolding advanceOf advanceMemory
-  advance-kept h = unless-fault (jobFault (length m) j) m (advancedBy j from (advance j from budget) m) h
+  advance-kept h = unless-fault (jobFault (length m) j) m (advancedBy j from (further j from budget) m) h

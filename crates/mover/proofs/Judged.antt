@@ -23,7 +23,7 @@ use Rattle.mover.specs.declared.Job.{Job}
 use Rattle.mover.specs.declared.plan.Plan.{Plan}
 use Rattle.mover.specs.declared.engine.Origin.the-variants.{Lent}
 use Rattle.mover.specs.Moved.{total, moveMemory}
-use Rattle.mover.specs.Within.{leaves, meets, jobFault, totalOf, verdictOf, bytesOf, advancedBy, advance, advanceOf, advanceMemory}
+use Rattle.mover.specs.Within.{leaves, meets, jobFault, totalOf, verdictOf, bytesOf, advancedBy, further, advanceOf, advanceMemory}
 use Rattle.mover.specs.Private.{planOf, planTotal, movedBy, partOf, Ready}
 use Rattle.mover.proofs.Laws.{judged, judged-good, moved-whole, moved-none, source-fits, destination-fits, job-good}
 use Rattle.mover.proofs.Planned.{planned-total, planned-ready, moved-planned}
@@ -156,7 +156,7 @@ module _ (n : ℕ) (j : Job) where
           let w = p ∙ sym (unless-none (jobFault n j) 0 (totalOf j) job-clear) in
           λ i. record { status = job-none i .status; dim = job-none i .dim; total = w i }
 
--- ---- an advance
+-- ---- a stretch
 
 part-length : (m : List ℕ) (b k : ℕ) → b + k ≤ length m → length (partOf m b k) ≡ k
 part-length m b k h = length-take-le k (drop b m) (simp length-drop (omega arith))
@@ -175,23 +175,23 @@ module _ (j : Job) (from budget : ℕ) (m : List ℕ) {a : Answer} (e : a ≡ an
       let s = job-status (length m) j e in
       let d = job-dim (length m) j e h in
       let x = job-stopped (length m) j e h in
-      let w = sym (unless-fault (jobFault (length m) j) 0 (advance j from budget) x) in (
+      let w = sym (unless-fault (jobFault (length m) j) 0 (further j from budget) x) in (
         λ i. record { status = s i; dim = d i; count = w i },
-        sym (unless-fault (jobFault (length m) j) m (advancedBy j from (advance j from budget) m) x),
+        sym (unless-fault (jobFault (length m) j) m (advancedBy j from (further j from budget) m) x),
       )
 
   module _ (z : a .status ≡ 0) where
     clear : jobFault (length m) j .status ≡ 0
     clear = job-clear (length m) j e z
 
-    advanced : {r : ℕ} {out : List ℕ} → r ≡ advance j from budget → out ≡ advancedBy j from r m → (record { status = 0; dim = 0; count = r } ≡ advanceOf j from budget m) × (out ≡ advanceMemory j from budget m)
+    advanced : {r : ℕ} {out : List ℕ} → r ≡ further j from budget → out ≡ advancedBy j from r m → (record { status = 0; dim = 0; count = r } ≡ advanceOf j from budget m) × (out ≡ advanceMemory j from budget m)
     unfolding advanceOf advanceMemory
     advanced er eo =
         let none = job-none (length m) j e z in
-        let w = er ∙ sym (unless-none (jobFault (length m) j) 0 (advance j from budget) clear) in (
+        let w = er ∙ sym (unless-none (jobFault (length m) j) 0 (further j from budget) clear) in (
           λ i. record { status = none i .status; dim = none i .dim; count = w i },
           eo ∙ ap (λ (n : ℕ). advancedBy j from n m) er ∙
-              sym (unless-none (jobFault (length m) j) m (advancedBy j from (advance j from budget) m) clear),
+              sym (unless-none (jobFault (length m) j) m (advancedBy j from (further j from budget) m) clear),
         )
 
     -- where no element is left, none is moved

@@ -27,7 +27,7 @@ use Rattle.mover.specs.declared.Job.{Job}
 use Rattle.mover.specs.Claims.{SameJob}
 use Rattle.mover.specs.Element.{dimOf, kOf, isKept, areKept, sourcePlace, place, element}
 use Rattle.mover.specs.Moved.{total, perStep, coordOf, stored, moved, moveMemory}
-use Rattle.mover.specs.Within.{leaves, meets, jobFault, totalOf, verdictOf, bytesOf, advancedBy, advance, advanceOf, advanceMemory}
+use Rattle.mover.specs.Within.{leaves, meets, jobFault, totalOf, verdictOf, bytesOf, advancedBy, further, advanceOf, advanceMemory}
 use Rattle.mover.specs.SubPart.{subPart}
 use Rattle.mover.proofs.Laws.{job-good}
 use Rattle.mover.proofs.SubParts.{partBy, part-by}
@@ -154,12 +154,12 @@ module _ (j j′ : Job) (s : SameJob j j′) where
   unfolding advanceOf advanceMemory
   advance-unseen from budget m =
       let e = job-fault-unseen (length m) in
-      let count : jobFault (length m) j .status ≡ 0 → advance j from budget ≡ advance j′ from budget =
+      let count : jobFault (length m) j .status ≡ 0 → further j from budget ≡ further j′ from budget =
       λ z. ap (λ (x : ℕ). min budget (x - from)) (same-total (length m) z) in
-      let w = same-unless (jobFault (length m) j) (jobFault (length m) j′) 0 (advance j from budget) (advance j′ from budget) e count in (
+      let w = same-unless (jobFault (length m) j) (jobFault (length m) j′) 0 (further j from budget) (further j′ from budget) e count in (
         λ i. record { status = e i .status; dim = e i .dim; count = w i },
         same-unless (jobFault (length m) j) (jobFault (length m) j′) m _ _ e
-            (λ z. same-advanced (length m) z from (advance j from budget) m ∙ ap (λ (k : ℕ). advancedBy j′ from k m) (count z)),
+            (λ z. same-advanced (length m) z from (further j from budget) m ∙ ap (λ (k : ℕ). advancedBy j′ from k m) (count z)),
       )
 
 -- ---- the part of a source at which a sub-tensor starts

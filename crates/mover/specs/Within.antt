@@ -49,16 +49,16 @@ advancedBy j from n m =
     sets m (j .destination .start) (moved (j .tensor) (j .config) (bytesOf (j .source) m) from n (bytesOf (j .destination) m))
 
 -- how many are moved: the budget, or what is left
-abbrev pub advance : Job → ℕ → ℕ → ℕ
-advance j from budget = min budget (totalOf j - from)
+abbrev pub further : Job → ℕ → ℕ → ℕ
+further j from budget = min budget (totalOf j - from)
 
 unfoldable pub advanceOf : Job → ℕ → ℕ → List ℕ → Advanced
 advanceOf j from budget m = record {
   status = jobFault (length m) j .status;
   dim = jobFault (length m) j .dim;
-  count = unless (jobFault (length m) j) 0 (advance j from budget);
+  count = unless (jobFault (length m) j) 0 (further j from budget);
 }
 
 unfoldable pub advanceMemory : Job → ℕ → ℕ → List ℕ → List ℕ
 advanceMemory j from budget m =
-    unless (jobFault (length m) j) m (advancedBy j from (advance j from budget) m)
+    unless (jobFault (length m) j) m (advancedBy j from (further j from budget) m)

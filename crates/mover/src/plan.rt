@@ -84,7 +84,7 @@ fn axis_of(c: Config, a: Answer, strides: [u32; 4], i: usize) -> Axis
     }
 }
 
-// A dimension that the rank lacks: one element, as far on as all of the plane.
+// A dimension that the rank lacks: one element, with a stride past all of the destination.
 fn lone(a: Answer) -> Axis
     ensures { λ r. ⌜ r ≡ loneMade a ⌝ }
 {

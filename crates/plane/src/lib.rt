@@ -21,7 +21,7 @@ pub use verdict::judge;
 pub use verdict::room;
 
 // A plane in memory: dimension 0 has the largest stride. Shapes and strides are in elements, the element size in bytes;
-// stride 0 asks for the compact one.
+// stride 0 stands for the inner product.
 pub struct Tensor {
     pub rank: u8,
     pub size: u8,

@@ -32,7 +32,7 @@ impl Config {
         Config { dst_offset, ..self }
     }
 
-    // The distance in elements, by destination dimension; 0 for the compact one.
+    // The distance in elements, by destination dimension; 0 for the inner product.
     pub fn with_dst_stride(self, dst_stride: [u32; 4]) -> Config
         ensures { λ r. ⌜ r ≡ withDstStride self «dst_stride» ⌝ }
     {

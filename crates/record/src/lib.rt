@@ -4,8 +4,8 @@
 mod layout; // where each field stands
 mod numbers; // groups of four numbers, to and from bytes
 mod checks; // 1 and 28, which reading and writing share
-mod reader;
-mod writer;
+mod reader; // a record read
+mod writer; // a record written
 
 use plane::Config;
 use plane::Tensor;

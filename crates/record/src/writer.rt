@@ -64,7 +64,8 @@ fn put_config(room: &mut [u8], c: Config)
 
 // The record into a room of its length, or 25, 1 or 28 and the room as it was.
 pub fn write(tensor: Tensor, config: Config, room: &mut [u8]) -> Fault
-    ensures { λ r. ⌜ (r ≡ writeFault tensor config (length (now (room .entry)))) × (now (room .exit) ≡ writtenRoom tensor config (now (room .entry))) ⌝ }
+    ensures answered { λ r. ⌜ r ≡ writeFault tensor config (length (now (room .entry))) ⌝ }
+    ensures written { λ r. ⌜ now (room .exit) ≡ writtenRoom tensor config (now (room .entry)) ⌝ }
 {
     if room.len() != layout::LENGTH {
         return Fault { status: 25, dim: 0 };

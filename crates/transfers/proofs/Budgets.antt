@@ -21,7 +21,7 @@ use Rattle.transfers.specs.declared.Stepped.{Stepped}
 use Rattle.transfers.specs.declared.Poll.{Poll}
 use Rattle.transfers.specs.declared.Poll.the-variants as says
 use Rattle.transfers.specs.Slots.{slotAt, freeSlot, withSlot, lowestFree, tableSound}
-use Rattle.transfers.specs.Calls.{callFault, prepareFault, newSlot, prepareOf, changed, running, startOf, releaseOf, countOf, later, stepOf, stepMemory, left, pollSlot, pollOf}
+use Rattle.transfers.specs.Calls.{callFault, prepareFault, newSlot, prepareOf, changed, running, startOf, releaseOf, stepCount, later, stepOf, stepMemory, left, pollSlot, pollOf}
 use Rattle.transfers.specs.Demand3.{Call, prepare, start, step, release, poll, World, after, run}
 use Rattle.transfers.specs.Claims.{spends, spend, Unreleased}
 use Rattle.transfers.proofs.Fours.{slot-same, slot-other, lowest-is}
@@ -51,11 +51,11 @@ less-left : (total moved n b : ℕ) → total - moved ≤ b + n → total - (mov
 less-left total moved n b h = omega arith
 
 -- the slot's own step
-at-most-later : (s : Slot) (n b : ℕ) → left s ≤ b + n → AtMost (later s (countOf s b)) n
+at-most-later : (s : Slot) (n b : ℕ) → left s ≤ b + n → AtMost (later s (stepCount s b)) n
 unfolding later
-at-most-later s n b l = elim (ℕ-discrete (s .moved + countOf s b) (totalOf (s .job))) [
-  | yes e ↦ inl (simp (eq-eqb (s .moved + countOf s b) (totalOf (s .job)) e))
-  | no e ↦ inr (simp (ne-eqb (s .moved + countOf s b) (totalOf (s .job)) e), less-left (totalOf (s .job)) (s .moved) n b l)
+at-most-later s n b l = elim (ℕ-discrete (s .moved + stepCount s b) (totalOf (s .job))) [
+  | yes e ↦ inl (simp (eq-eqb (s .moved + stepCount s b) (totalOf (s .job)) e))
+  | no e ↦ inr (simp (ne-eqb (s .moved + stepCount s b) (totalOf (s .job)) e), less-left (totalOf (s .job)) (s .moved) n b l)
 ]
 
 -- ---- one call
@@ -95,17 +95,17 @@ module _ (h : ℕ) (q : h < 4) (t : Table) (n : ℕ) (most : AtMost (slotAt t h)
   unfolding stepOf
   step-other m g b d =
       by-fault (λ (a : Stepped). AtMost (slotAt (a .table) h) n) (callFault t m g 2)
-      (λ z. at-most-other t h g n (later (slotAt t g) (countOf (slotAt t g) b)) q d most) (λ z. most)
+      (λ z. at-most-other t h g n (later (slotAt t g) (stepCount (slotAt t g) b)) q d most) (λ z. most)
 
 -- a step of the slot itself: where it is running, the step is not refused
 step-own : (h : ℕ) → h < 4 → (t : Table) (n m b : ℕ) → tableSound t ≡ true → m ≡ t .length → AtMost (slotAt t h) (b + n) → AtMost (slotAt (stepOf t m h b .table) h) n
 unfolding stepOf
 step-own h q t n m b p l most =
     by-fault (λ (a : Stepped). AtMost (slotAt (a .table) h) n) (callFault t m h 2)
-    (λ z. subst (λ (x : Slot). AtMost x n) (sym (slot-same t h (later (slotAt t h) (countOf (slotAt t h) b)) q)) (accepted z))
+    (λ z. subst (λ (x : Slot). AtMost x n) (sym (slot-same t h (later (slotAt t h) (stepCount (slotAt t h) b)) q)) (accepted z))
     refused
   where
-    accepted : callFault t m h 2 .status ≡ 0 → AtMost (later (slotAt t h) (countOf (slotAt t h) b)) n
+    accepted : callFault t m h 2 .status ≡ 0 → AtMost (later (slotAt t h) (stepCount (slotAt t h) b)) n
     accepted z =
         ⊎-elim (λ e. absurd (no-two (slotAt t h .state) 3 2 e (called t m h 2 z .state) (λ y. omega arith))) (λ e. at-most-later (slotAt t h) n b (e .1)) most
 
@@ -125,7 +125,7 @@ step-long : (t : Table) (g b : ℕ) (m : List ℕ) → length (stepMemory t g b 
 unfolding stepMemory
 step-long t g b m =
     by-fault (λ (x : List ℕ). length x ≡ length m) (callFault t (length m) g 2)
-    (λ z. advanced-length (slotAt t g .job) (slotAt t g .moved) (countOf (slotAt t g) b) m) (λ z. refl)
+    (λ z. advanced-length (slotAt t g .job) (slotAt t g .moved) (stepCount (slotAt t g) b) m) (λ z. refl)
 
 -- ---- a list of calls
 

@@ -24,7 +24,7 @@ use Rattle.transfers.specs.declared.Prepared.{Prepared}
 use Rattle.transfers.specs.declared.Changed.{Changed}
 use Rattle.transfers.specs.declared.Stepped.{Stepped}
 use Rattle.transfers.specs.Slots.{freeSlot, freshTable, slotAt, withSlot, lowestFree, breaks, clashes, limit}
-use Rattle.transfers.specs.Calls.{freshOf, prepareFault, callFault, newSlot, prepareOf, changed, running, startOf, releaseOf, countOf, later, stepOf, stepMemory}
+use Rattle.transfers.specs.Calls.{freshOf, prepareFault, callFault, newSlot, prepareOf, changed, running, startOf, releaseOf, stepCount, later, stepOf, stepMemory}
 use Rattle.transfers.specs.Demand3.{theMover, Log, notePrepare, noteStep, noteRelease, Course, made, prepared, started, stepped, freed, Call, prepare, start, step, release, poll, World, begin, after, run, ForCourses, ForRuns}
 use Rattle.transfers.proofs.Fours.{lowest-is}
 use Rattle.transfers.proofs.Answers.{called, preparing}
@@ -97,11 +97,11 @@ module _ (m₀ : List ℕ) where
         (callFault t (length m) h 2) (accepted (slotAt t h) refl) (λ z. rw (ne-eqb (callFault t (length m) h 2 .status) 0 z) r)
       where
         accepted : (s : Slot) → slotAt t h ≡ s → callFault t (length m) h 2 .status ≡ 0
-            → Shown (withSlot t h (later s (countOf s b))) (advancedBy (s .job) (s .moved) (countOf s b) m) (machine.edit h (machine.reporting (countOf s b)) log)
+            → Shown (withSlot t h (later s (stepCount s b))) (advancedBy (s .job) (s .moved) (stepCount s b) m) (machine.edit h (machine.reporting (stepCount s b)) log)
         accepted s e z =
             let w = called t (length m) h 2 z in
-            rw (view-with t h (later s (countOf s b)) (w .range), later-view s (countOf s b), ← applied-advanced (s .job) (s .moved) (countOf s b) m)
-            (machine.step r h (s .job) (s .moved) (rw e at (view-taken t h 1 (w .range) (w .state))) b (countOf s b) refl)
+            rw (view-with t h (later s (stepCount s b)) (w .range), later-view s (stepCount s b), ← applied-advanced (s .job) (s .moved) (stepCount s b) m)
+            (machine.step r h (s .job) (s .moved) (rw e at (view-taken t h 1 (w .range) (w .state))) b (stepCount s b) refl)
 
   fresh-shown : (n : ℕ) → Shown (freshOf n .table) m₀ []
   unfolding freshOf

@@ -21,7 +21,7 @@ use Rattle.transfers.specs.declared.Prepared.{Prepared}
 use Rattle.transfers.specs.declared.Changed.{Changed}
 use Rattle.transfers.specs.declared.Stepped.{Stepped}
 use Rattle.transfers.specs.Slots.{freeSlot, freshTable, slotAt, withSlot, breaks, clashes, isZeroTensor, isZeroConfig, isZeroJob, movedRight, slotSound, tableSound, limit}
-use Rattle.transfers.specs.Calls.{freshOf, prepareFault, callFault, newSlot, prepareOf, changed, running, startOf, releaseOf, countOf, later, stepOf}
+use Rattle.transfers.specs.Calls.{freshOf, prepareFault, callFault, newSlot, prepareOf, changed, running, startOf, releaseOf, stepCount, later, stepOf}
 use Rattle.transfers.specs.Claims.{SoundFor}
 use Rattle.transfers.proofs.Fours.{slot-same, slot-other, with-length, lowest-is}
 use Rattle.transfers.proofs.Meeting.{breaks-either, empty-breaks}
@@ -84,13 +84,13 @@ later-right m total h = go (eqb m total) refl where
   go true e = sym (right-3 3 m total refl) ∙ e
   go false e = let d = eqb-false m total e in sym (right-2 2 m total refl) ∙ lt-ltb m total (omega arith)
 
-later-sound : (n : ℕ) (s : Slot) (budget : ℕ) → Busy n s → slotSound n (later s (countOf s budget)) ≡ true
+later-sound : (n : ℕ) (s : Slot) (budget : ℕ) → Busy n s → slotSound n (later s (stepCount s budget)) ≡ true
 unfolding later
 later-sound n s budget u =
     let l = right-most (s .state) (s .moved) (totalOf (s .job)) (u .right) in
-    busy-sound n (later s (countOf s budget)) (later-state (eqb (s .moved + countOf s budget) (totalOf (s .job)))) (record {
+    busy-sound n (later s (stepCount s budget)) (later-state (eqb (s .moved + stepCount s budget) (totalOf (s .job)))) (record {
       clear = u .clear;
-      right = later-right (s .moved + countOf s budget) (totalOf (s .job)) (count-within s budget l);
+      right = later-right (s .moved + stepCount s budget) (totalOf (s .job)) (count-within s budget l);
     })
 
 -- ---- a slot put in its place
@@ -179,6 +179,6 @@ module _ (t : Table) (p : tableSound t ≡ true) where
       (λ z.
       let k = called t n h 2 z in
       let w = sound-tells t p in
-      put-sound t h (later (slotAt t h) (countOf (slotAt t h) budget)) w (k .range)
+      put-sound t h (later (slotAt t h) (stepCount (slotAt t h) budget)) w (k .range)
       (later-sound (t .length) (slotAt t h) budget (its-busy n h 2 k))
       (λ i l d. w .apart h i (k .range) l (λ e. d (sym e))))

@@ -13,7 +13,7 @@ use Rattle.transfers.specs.declared.Slot.{Slot}
 use Rattle.transfers.specs.declared.Table.{Table}
 use Rattle.transfers.specs.declared.Poll.the-variants as poll
 use Rattle.transfers.specs.Slots.{slotAt, withSlot, tableSound}
-use Rattle.transfers.specs.Calls.{callFault, countOf, later, stepOf, stepMemory, left, pollSlot, pollOf}
+use Rattle.transfers.specs.Calls.{callFault, stepCount, later, stepOf, stepMemory, left, pollSlot, pollOf}
 use Rattle.transfers.proofs.Sounds.{Busy, busy, right-2, right-most, sound-tells}
 use Rattle.transfers.proofs.Answers.{called}
 
@@ -24,7 +24,7 @@ pub running-left : (n : ℕ) (s : Slot) → Busy n s → s .state ≡ 2 → s .m
 running-left n s u e =
     ltb-true (s .moved) (totalOf (s .job)) (right-2 (s .state) (s .moved) (totalOf (s .job)) e ∙ u .right)
 
-pub count-within : (s : Slot) (budget : ℕ) → s .moved ≤ totalOf (s .job) → s .moved + countOf s budget ≤ totalOf (s .job)
+pub count-within : (s : Slot) (budget : ℕ) → s .moved ≤ totalOf (s .job) → s .moved + stepCount s budget ≤ totalOf (s .job)
 count-within s budget h = omega arith
 
 module _ (t : Table) (h budget : ℕ) (m : List ℕ) where
@@ -51,10 +51,10 @@ module _ (t : Table) (h budget : ℕ) (m : List ℕ) where
       its-busy = subst (Busy (length m)) (sym es) step-busy
 
       module _ {a : Advanced} (ea : a ≡ advanceOf (s .job) (s .moved) budget m) where
-        its-count : a .count ≡ countOf s budget
+        its-count : a .count ≡ stepCount s budget
         unfolding advanceOf
         its-count =
-            ap (λ (x : Advanced). x .count) ea ∙ unless-none (jobFault (length m) (s .job)) 0 (countOf s budget) (its-busy .clear)
+            ap (λ (x : Advanced). x .count) ea ∙ unless-none (jobFault (length m) (s .job)) 0 (stepCount s budget) (its-busy .clear)
 
         -- what `later` asks
         pub step-fits : (jobFault (length m) (s .job) .status ≡ 0) × (s .moved + a .count ≤ totalOf (s .job))
@@ -67,9 +67,9 @@ module _ (t : Table) (h budget : ℕ) (m : List ℕ) where
             record { status = 0; count = a .count; table = u } ≡ stepOf t (length m) h budget
         unfolding stepOf
         step-answer ex eu =
-            let p = its-count ∙ ap (λ (y : Slot). countOf y budget) es in
+            let p = its-count ∙ ap (λ (y : Slot). stepCount y budget) es in
             let q =
-            eu ∙ ap (withSlot t h) (ex ∙ ap (later s) p ∙ ap (λ (y : Slot). later y (countOf (slotAt t h) budget)) es) in
+            eu ∙ ap (withSlot t h) (ex ∙ ap (later s) p ∙ ap (λ (y : Slot). later y (stepCount (slotAt t h) budget)) es) in
             (λ i. record { status = 0; count = p i; table = q i }) ∙ sym (unless-none (callFault t (length m) h 2) _ _ z)
 
       pub step-memory : {out : List ℕ} → out ≡ advanceMemory (s .job) (s .moved) budget m → out ≡ stepMemory t h budget m
@@ -77,7 +77,7 @@ module _ (t : Table) (h budget : ℕ) (m : List ℕ) where
       step-memory eo =
           eo ∙
           unless-none (jobFault (length m) (s .job)) _ _ (its-busy .clear) ∙
-          ap (λ (y : Slot). advancedBy (y .job) (y .moved) (countOf y budget) m) es ∙
+          ap (λ (y : Slot). advancedBy (y .job) (y .moved) (stepCount y budget) m) es ∙
           sym (unless-none (callFault t (length m) h 2) _ _ z)
 
 -- ---- poll

@@ -7,7 +7,7 @@ use lib.ListN.{length}
 use Rattle.plane.specs.declared.Fault.{Fault}
 use Rattle.plane.specs.Faults.{when, _orElse_, unless}
 use Rattle.mover.specs.declared.Job.{Job}
-use Rattle.mover.specs.Within.{jobFault, totalOf, advance, advancedBy}
+use Rattle.mover.specs.Within.{jobFault, totalOf, further, advancedBy}
 use Rattle.transfers.specs.declared.Slot.{Slot}
 use Rattle.transfers.specs.declared.Table.{Table}
 use Rattle.transfers.specs.declared.FreshTable.{FreshTable}
@@ -78,8 +78,8 @@ releaseOf t n h = changed (callFault t n h 3) t h freeSlot
 -- ---- step
 
 -- how many elements a step of the slot moves: the budget, or what is left
-abbrev pub countOf : Slot → ℕ → ℕ
-countOf s budget = advance (s .job) (s .moved) budget
+abbrev pub stepCount : Slot → ℕ → ℕ
+stepCount s budget = further (s .job) (s .moved) budget
 
 -- the slot after that many more: done where none is left
 unfoldable pub later : Slot → ℕ → Slot
@@ -95,15 +95,15 @@ stepOf t n h budget =
     (record { status = callFault t n h 2 .status; count = 0; table = t })
     (record {
       status = 0;
-      count = countOf (slotAt t h) budget;
-      table = withSlot t h (later (slotAt t h) (countOf (slotAt t h) budget));
+      count = stepCount (slotAt t h) budget;
+      table = withSlot t h (later (slotAt t h) (stepCount (slotAt t h) budget));
     })
 
 -- the memory after a step: just as many elements newly moved, or as it was where the step is refused
 unfoldable pub stepMemory : Table → ℕ → ℕ → List ℕ → List ℕ
 stepMemory t h budget m =
     unless (callFault t (length m) h 2) m
-    (advancedBy (slotAt t h .job) (slotAt t h .moved) (countOf (slotAt t h) budget) m)
+    (advancedBy (slotAt t h .job) (slotAt t h .moved) (stepCount (slotAt t h) budget) m)
 
 -- ---- poll
 
