@@ -1,12 +1,9 @@
 -- Theorems to read first: Demand2 (what an accepted move leaves), Decided (no two outcomes), Exact (refusals), Unseen (entries past
--- the rank are not looked at), SubElements (a sub-tensor's elements are the plane's), Slices (a sub-tensor copied is a slice),
--- Meeting (parts that share a byte, or leave the memory), Laws (what the layer above may use).
+-- the rank are not looked at), Meeting (parts that share a byte, or leave the memory), Laws (what the layer above may use).
 pub mod Demand2
 pub mod Decided
 pub mod Exact
 pub mod Unseen
-pub mod SubElements
-pub mod Slices
 pub mod Meeting
 pub mod Laws
 -- Laws over plain values, which the functions' proofs cite.
@@ -20,9 +17,6 @@ pub mod Fitting
 pub mod Stored
 pub mod Spacing
 pub mod Keeping
-pub mod Compact
-pub mod Spread
-pub mod Boxes
 pub mod Planned
 pub mod Making
 pub mod Judged

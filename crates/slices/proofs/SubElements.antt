@@ -19,13 +19,13 @@ use Rattle.ready_made.specs.ReadyMade.{defaults, copyOf}
 use Rattle.plane.proofs.Arrays.{sum-same}
 use Rattle.plane.specs.Good.{GoodSub}
 use Rattle.plane.proofs.SubTensors.{sub-count, sub-shape, sub-stride, sub-resolved, sub-told, sub-given}
 use Rattle.mover.specs.Element.{sourcePlace}
 use Rattle.mover.specs.SubPart.{subPart}
-use Rattle.mover.specs.Claims.{wholeAt}
+use Rattle.slices.specs.Claims.{wholeAt}
 use Rattle.mover.proofs.Sums.{sum-joined}
-use Rattle.mover.proofs.Spread.{spread, spread-at, spread-below, spread-sum}
-use Rattle.mover.proofs.Boxes.{made, copy-place}
+use Rattle.slices.proofs.Spread.{spread, spread-at, spread-below, spread-sum}
+use Rattle.slices.proofs.Boxes.{made, copy-place}
 use Rattle.mover.proofs.SubParts.{part-here}
 
 -- ---- coordinates
 

@@ -14,9 +14,9 @@ use Rattle.ready_made.specs.ReadyMade.{defaults, cutTo, madeFor}
 use Rattle.plane.proofs.Arrays.{table-at, zeros-at, firsts-at, firsts-same, sum-same, product-same}
 use Rattle.plane.specs.Good.{GoodSource, GoodConfig, GoodPlace}
 use Rattle.plane.proofs.Falling.{stride-positive}
 use Rattle.mover.specs.Element.{sourcePlace}
-use Rattle.mover.proofs.Compact.{compact-at, compact-good}
+use Rattle.slices.proofs.Compact.{compact-at, compact-good}
 use Rattle.mover.specs.Demand2.{IsCoordinate, KeptAt}
 
 -- sizes z are taken
 pub record Boxed (u : Tensor) (c : Config) (z : List ℕ) : Type 0 where

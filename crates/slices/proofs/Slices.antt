@@ -23,17 +23,17 @@ use Rattle.plane.specs.Good.{GoodConfig, GoodPlace, GoodMove, GoodSub}
 use Rattle.plane.proofs.Good.{move-clear}
 use Rattle.plane.proofs.Staying.{staying-sum}
 use Rattle.plane.proofs.SubTensors.{sub-told, sub-given, sub-count, subDim-below, sub-shape, sub-source, sub-within}
 use Rattle.mover.specs.Element.{sourcePlace, place}
 use Rattle.mover.specs.Moved.{extentAt, moveMemory}
 use Rattle.mover.specs.SubPart.{subPart}
 use Rattle.mover.proofs.Keeping.{place-same}
-use Rattle.mover.proofs.Spread.{staying-product, staying-heads, spread, spread-at, spread-below, spread-sum, spread-back}
-use Rattle.mover.proofs.Boxes.{Boxed, boxed-extent-at, boxed-kept, boxed-stride, boxed-source, boxed-config, boxed-place, taken-some, cut-at, cut-zero, cut-table, made, copied, copy-whole, copy-place}
+use Rattle.slices.proofs.Spread.{staying-product, staying-heads, spread, spread-at, spread-below, spread-sum, spread-back}
+use Rattle.slices.proofs.Boxes.{Boxed, boxed-extent-at, boxed-kept, boxed-stride, boxed-source, boxed-config, boxed-place, taken-some, cut-at, cut-zero, cut-table, made, copied, copy-whole, copy-place}
 use Rattle.mover.proofs.SubParts.{part-here}
-use Rattle.mover.proofs.SubElements.{place-whole}
+use Rattle.slices.proofs.SubElements.{place-whole}
 use Rattle.mover.proofs.Laws.{judged, judged-good, moved-refused}
 use Rattle.mover.specs.Demand2.{IsCoordinate, Meant}
 use Rattle.mover.proofs.Demand2.{demand-2, demand-2-only}
 
 -- the whole plane's configuration for the slice
 abbrev sliced : Tensor → SubConfig → Config
