@@ -9,25 +9,16 @@ use ready_made::Made;
 
 // Every field as given.
 fn all(b: &[u8]) -> Made {
-    let c = config(b, 2);
-    let offset = c.offset;
-    let size = c.size;
-    let step = c.step;
-    let dst_offset = c.dst_offset;
-    let dst_stride = c.dst_stride;
-    let perm = c.perm;
-    let pre = c.pre;
-    let post = c.post;
     ready_made::all(
         byte(b, 1),
-        offset,
-        size,
-        step,
-        dst_offset,
-        dst_stride,
-        perm,
-        pre,
-        post,
+        words(b, 2),
+        words(b, 18),
+        words(b, 34),
+        words(b, 50),
+        words(b, 66),
+        bytes(b, 82),
+        bytes(b, 86),
+        bytes(b, 90),
     )
 }
 
