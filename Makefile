@@ -1,6 +1,6 @@
 # make show: the main job on an example. make test: the gate.
 # make compare N=.. SEED=..: random calls against the second program. make seeded: faults that the comparison must find.
-.PHONY: show test compare seeded programs kit
+.PHONY: show test compare seeded programs kit cargo python
 
 N ?= 20000
 SEED ?= 1
@@ -13,10 +13,10 @@ show: kit
 test:
 	@bash .ci/run
 
-compare: programs
+compare: cargo programs
 	@scripts/compare $(N) $(SEED)
 
-seeded: programs
+seeded: cargo python programs
 	@second/seeded scripts/run
 
 programs: kit
@@ -27,3 +27,9 @@ kit:
 	  echo "The Rattle kit is missing: there is no command 'rt' on the PATH."; \
 	  echo "README.md, \"What a machine needs\", says which kit this repository is checked with."; \
 	  exit 1; }
+
+cargo:
+	@command -v cargo >/dev/null 2>&1 || { echo "Rust is missing: there is no command 'cargo' on the PATH."; exit 1; }
+
+python:
+	@command -v python3 >/dev/null 2>&1 || { echo "Python is missing: there is no command 'python3' on the PATH."; exit 1; }

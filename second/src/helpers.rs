@@ -1,4 +1,4 @@
-//! The helpers of 001: element size, element count, sub-tensor.
+//! The helpers: element size, element count, sub-tensor.
 
 use crate::tensor::{check_rank, check_shapes, check_tensor, narrow, refuse, refuse_lowest, span, Fault, Tensor};
 use crate::wire::wire_struct;

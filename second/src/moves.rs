@@ -1,4 +1,4 @@
-//! The move: what 01 says under "The move", and the order of its numbers ("Move: 1 to 13").
+//! The move: what the paper says under "The move", and the order of its numbers ("Move: 1 to 13").
 
 use crate::tensor::{check_tensor, narrow, refuse, refuse_lowest, resolve_strides, span, Fault, Tensor, EXTENT_LIMIT};
 use crate::wire::wire_struct;
@@ -60,7 +60,7 @@ pub fn plan(tensor: &Tensor, config: &Config, lengths: Lengths) -> Result<Plan, 
     let count = kept_counts(rank, tensor, config);
     let extent = extents(rank, config, &count)?;
     let stride = resolve_strides(11, rank, &extent, &config.dst_stride)?;
-    // 12: "Each destination offset is smaller than that dimension's resolved stride (000, to the letter) and at
+    // 12: "Each destination offset is smaller than that dimension's resolved stride (MLI, to the letter) and at
     // most 65,535."
     refuse_lowest(12, rank, |i| {
         config.dst_offset[i] as u64 >= stride[i] || config.dst_offset[i] as u64 > EXTENT_LIMIT
@@ -90,7 +90,7 @@ fn check_cut(rank: usize, tensor: &Tensor, config: &Config) -> Result<(), Fault>
     refuse_lowest(9, rank, |d| config.step[d] == 0 || config.step[d] as u64 > EXTENT_LIMIT)
 }
 
-/// "Size 0 means shape - offset (000). Kept count = size/step rounded up." By source dimension, after 7 to 9.
+/// "Size 0 means shape - offset (MLI). Kept count = size/step rounded up." By source dimension, after 7 to 9.
 pub fn kept_counts(rank: usize, tensor: &Tensor, config: &Config) -> [u64; 4] {
     let mut count = [0; 4];
     for s in 0..rank {
@@ -100,7 +100,7 @@ pub fn kept_counts(rank: usize, tensor: &Tensor, config: &Config) -> [u64; 4] {
     count
 }
 
-/// "Destination dimension i is source dimension perm[i] (004): shape (2,4,8) with (2,0,1) becomes (8,2,4)."
+/// "Destination dimension i is source dimension perm[i] (MLI): shape (2,4,8) with (2,0,1) becomes (8,2,4)."
 fn source_dimension(config: &Config, i: usize) -> usize {
     config.perm[i] as usize
 }

@@ -1,4 +1,4 @@
-//! The ready-made configurations, "with the arguments of 000", and the settings.
+//! The ready-made configurations, with the arguments of the MLI text, and the settings.
 
 use crate::moves::Config;
 use crate::tensor::check_rank;
@@ -60,7 +60,7 @@ pub fn permute(rank: u8, perm: [u8; 4]) -> Made {
     made(rank, |r, config| Config { perm: below(r, perm), ..config })
 }
 
-/// 000: `mli_mov_cfg_all` fills the configuration with the values provided, every field.
+/// MLI: `mli_mov_cfg_all` fills the configuration with the values provided, every field.
 pub fn all(rank: u8, given: &Config) -> Made {
     made(rank, |r, _| Config {
         offset: below(r, given.offset),
@@ -74,7 +74,7 @@ pub fn all(rank: u8, given: &Config) -> Made {
     })
 }
 
-/// The four paddings in the order of 000: left and right of W, top and bottom of H.
+/// The four paddings in the order of the MLI text: left and right of W, top and bottom of H.
 pub type Padding = [u8; 4];
 
 /// "both pads have rank 3 and pad H (top, bottom) and W (left, right)"

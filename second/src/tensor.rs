@@ -1,4 +1,4 @@
-//! Tensor records: what 01 says under "Planes and strides".
+//! Tensor records: what the paper says under "Planes and strides".
 
 use crate::wire::wire_struct;
 

@@ -1,5 +1,5 @@
 -- What acceptance tells: a stretch of the numbers of refusal gives none exactly if its conditions hold. Assumes nothing.
-use Prim.Native.Nat.{ℕ, zero, suc, _+_, _-_, _≤_, _<_}
+use Prim.Native.Nat.{ℕ, zero, suc, _-_, _≤_, _<_}
 use native.Mathlib.Omega.{arith}
 use mathlib.Core.Path.{_≡_, refl}
 use mathlib.Core.Bool.{false}
@@ -9,8 +9,8 @@ use Rattle.plane.specs.declared.Tensor.{Tensor}
 use Rattle.plane.specs.declared.Config.{Config}
 use Rattle.plane.specs.Arrays.{at, some}
 use Rattle.plane.specs.Faults.{lowest, outward}
-use Rattle.plane.specs.Planes.{badRank, elementSize, badElement, badShape, shapeAt, strideAt, inner, resolved, badStrideAt, span, sourceFault}
-use Rattle.plane.specs.Moves.{extent, dstExtents, dstStrides, need, badPermAt, badOffset, badSize, badStep, badExtent, badDstOffset, configFault, placeFault, moveFault}
+use Rattle.plane.specs.Planes.{badRank, badElement, badShape, shapeAt, strideAt, inner, resolved, badStrideAt, span, sourceFault}
+use Rattle.plane.specs.Moves.{extent, dstStrides, need, badPermAt, badOffset, badSize, badStep, badExtent, badDstOffset, configFault, placeFault, moveFault}
 use Rattle.plane.specs.Good.{GoodStrides, GoodSource, GoodConfig, GoodPlace, GoodMove}
 use Rattle.plane.proofs.Bools.{either-clear, neither, in-range}
 use Rattle.plane.proofs.Arrays.{some-clear, some-none}

@@ -9,10 +9,10 @@ use lib.Dec.{ltb, eqb}
 use lib.ListN.{length}
 use Rattle.plane.specs.declared.Tensor.{Tensor}
 use Rattle.plane.specs.declared.SubConfig.{SubConfig}
-use Rattle.plane.specs.Arrays.{at, sum, howMany}
+use Rattle.plane.specs.Arrays.{at, sum}
 use Rattle.plane.specs.Planes.{shapeAt, strideAt, resolved, srcStrides, span, sourceFault}
 use Rattle.plane.specs.Moves.{badOffset}
-use Rattle.plane.specs.Helpers.{isUnit, staying, excess, subDim, badSubSize, rankFault, subFault, subOf, subByte, noSub, subAnswer, subTensorOf}
+use Rattle.plane.specs.Helpers.{staying, excess, subDim, badSubSize, rankFault, subFault, subOf, subByte, noSub, subAnswer, subTensorOf}
 use Rattle.plane.proofs.Bools.{either-clear, neither}
 use Rattle.plane.proofs.Arrays.{firsts-at, firsts-same, sum-same}
 use Rattle.plane.proofs.Faults.{or-clear, or-zero, when-clear, when-zero, lowest-clear, lowest-zero, unless-none}

@@ -21,7 +21,7 @@ use Rattle.plane.specs.Good.{GoodSub}
 use Rattle.plane.proofs.SubTensors.{sub-count, sub-shape, sub-stride, sub-resolved, sub-told, sub-given}
 use Rattle.mover.specs.Element.{sourcePlace}
 use Rattle.mover.specs.SubPart.{subPart}
-use Rattle.slices.specs.Claims.{wholeAt}
+use Rattle.slices.specs.Claims.{wholeAt, subAt, copy}
 use Rattle.mover.proofs.Sums.{sum-joined}
 use Rattle.slices.proofs.Spread.{spread, spread-at, spread-below, spread-sum}
 use Rattle.slices.proofs.Boxes.{made, copy-place}
@@ -56,12 +56,6 @@ module _ {t : Tensor} {s : SubConfig} {srcLen : ℕ} (g : GoodSub t s srcLen) (x
       rw e (sum-joined (t .rank) _ _ _ (t .size) (λ d h. sym (add-mul (at (s .offset) d) (spread (at (s .size)) (excess t s) x d) (at (srcStrides t) d))))
 
 -- ---- the theorems, on what the calls answer
-
-abbrev pub subAt : Tensor → SubConfig → List ℕ → Tensor
-subAt t s src = subTensorOf t s (length src) .tensor
-
-abbrev pub copy : ℕ → Config
-copy n = copyOf n .config
 
 module _ (t : Tensor) (s : SubConfig) (src : List ℕ) (z : subTensorOf t s (length src) .status ≡ 0) (x : ℕ → ℕ) where
   told : GoodSub t s (length src)

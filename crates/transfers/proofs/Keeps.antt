@@ -22,10 +22,10 @@ use Rattle.transfers.specs.declared.Changed.{Changed}
 use Rattle.transfers.specs.declared.Stepped.{Stepped}
 use Rattle.transfers.specs.Slots.{freeSlot, freshTable, slotAt, withSlot, breaks, clashes, isZeroTensor, isZeroConfig, isZeroJob, movedRight, slotSound, tableSound, limit}
 use Rattle.transfers.specs.Calls.{freshOf, prepareFault, callFault, newSlot, prepareOf, changed, running, startOf, releaseOf, stepCount, later, stepOf}
-use Rattle.transfers.specs.Claims.{SoundFor}
+use Rattle.transfers.specs.Claims.{SoundTable, SoundFor}
 use Rattle.transfers.proofs.Fours.{slot-same, slot-other, with-length, lowest-is}
 use Rattle.transfers.proofs.Meeting.{breaks-either, empty-breaks}
-use Rattle.transfers.proofs.Sounds.{Busy, busy, busy-sound, Sound, sound-tells, tells-sound, right-1, right-2, right-3, right-most}
+use Rattle.transfers.proofs.Sounds.{Busy, busy, busy-sound, sound-tells, tells-sound, right-1, right-2, right-3, right-most}
 use Rattle.transfers.proofs.Answers.{Called, called, preparing}
 use Rattle.transfers.proofs.Steps.{count-within}
 
@@ -95,7 +95,7 @@ later-sound n s budget u =
 
 -- ---- a slot put in its place
 
-module _ (t : Table) (h : ℕ) (s : Slot) (w : Sound t) (q : h < 4) (one : slotSound (t .length) s ≡ true) (others : (k : ℕ) → k < 4 → (k ≡ h → ⊥) → breaks (s .job) (slotAt t k .job) ≡ false) where
+module _ (t : Table) (h : ℕ) (s : Slot) (w : SoundTable t) (q : h < 4) (one : slotSound (t .length) s ≡ true) (others : (k : ℕ) → k < 4 → (k ≡ h → ⊥) → breaks (s .job) (slotAt t k .job) ≡ false) where
   put-each : (i : ℕ) → i < 4 → slotSound (t .length) (slotAt (withSlot t h s) i) ≡ true
   put-each i l = elim (ℕ-discrete i h) [
     | yes e ↦ rw (e, slot-same t h s q) one

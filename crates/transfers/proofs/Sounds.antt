@@ -14,6 +14,7 @@ use Rattle.mover.specs.declared.Verdict.{Verdict}
 use Rattle.mover.specs.Within.{jobFault, totalOf, verdictOf}
 use Rattle.transfers.specs.declared.Slot.{Slot}
 use Rattle.transfers.specs.declared.Table.{Table}
+use Rattle.transfers.specs.Claims.{SoundTable}
 use Rattle.transfers.specs.Slots.{slotAt, breaks, clashes, isZeroPart, isZeroTensor, isZeroConfig, isZeroJob, movedRight, slotSound, soundAt, tableSound, limit}
 use Rattle.transfers.proofs.Meeting.{breaks-either, empty-breaks}
 
@@ -106,11 +107,6 @@ module _ (n : ℕ) (s : Slot) (b : s .state ≡ 0 → ⊥) {v : Verdict} (e : v 
 
 -- ---- a table
 
-pub record Sound (t : Table) : Type 0 where
-  pub short : t .length ≤ limit
-  pub each : (i : ℕ) → i < 4 → slotSound (t .length) (slotAt t i) ≡ true
-  pub apart : (i k : ℕ) → i < 4 → k < 4 → (i ≡ k → ⊥) → breaks (slotAt t i .job) (slotAt t k .job) ≡ false
-
 module _ (t : Table) where
   module _ (e : tableSound t ≡ true) where
     sound-at : (i : ℕ) → i < 4 → soundAt t i ≡ true
@@ -124,7 +120,7 @@ module _ (t : Table) where
         (not-true (clashes t (slotAt t i .job) i) (both-second (slotSound (t .length) (slotAt t i)) _ (sound-at i h)))
         k l
 
-    pub sound-tells : Sound t
+    pub sound-tells : SoundTable t
     unfolding tableSound soundAt
     sound-tells = record {
       short = leb-true (t .length) limit (both-first _ (every 4 (soundAt t)) e);
@@ -135,7 +131,7 @@ module _ (t : Table) where
       ];
     }
 
-  pub tells-sound : Sound t → tableSound t ≡ true
+  pub tells-sound : SoundTable t → tableSound t ≡ true
   unfolding tableSound soundAt clashes
   tells-sound s =
       both _ _ (le-leb (t .length) limit (s .short))

@@ -8,11 +8,17 @@ use lib.ListN.{length}
 use Rattle.mover.specs.declared.Job.{Job}
 use Rattle.transfers.specs.declared.Table.{Table}
 use Rattle.transfers.specs.declared.Poll.{Poll}
-use Rattle.transfers.specs.Slots.{freshTable, slotAt, tableSound, limit}
+use Rattle.transfers.specs.Slots.{freshTable, slotAt, breaks, slotSound, tableSound, limit}
 use Rattle.transfers.specs.Calls.{prepareOf, startOf, stepOf, releaseOf, left, pollOf, pollStatus, pollState, pollLeft}
 use Rattle.transfers.specs.Demand3.{Call, prepare, start, step, release, poll, World, after}
 
 -- ---- sound tables
+
+-- what soundness comes to: the length, each slot by itself, and no two slots that break the rule, in either order
+pub record SoundTable (t : Table) : Type 0 where
+  pub short : t .length ≤ limit
+  pub each : (i : ℕ) → i < 4 → slotSound (t .length) (slotAt t i) ≡ true
+  pub apart : (i k : ℕ) → i < 4 → k < 4 → (i ≡ k → ⊥) → breaks (slotAt t i .job) (slotAt t k .job) ≡ false
 
 -- a table that is sound, for a memory of n bytes
 pub record SoundFor (n : ℕ) (t : Table) : Type 0 where

@@ -8,7 +8,7 @@ use Rattle.plane.specs.declared.Tensor.{Tensor}
 use Rattle.plane.specs.declared.Config.{Config}
 use Rattle.plane.specs.Settings.{zeroConfig}
 use Rattle.plane.specs.Planes.{zeroTensor}
-use Rattle.plane.specs.Arrays.{at, table, zeros, some, every}
+use Rattle.plane.specs.Arrays.{at, table, some, every}
 use Rattle.mover.specs.declared.Part.{Part}
 use Rattle.mover.specs.declared.Job.{Job}
 use Rattle.mover.specs.Within.{meets, jobFault, totalOf}

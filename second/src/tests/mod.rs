@@ -1,4 +1,4 @@
-//! The examples of 01 and the readings of it, with the values typed in from the paper.
+//! The examples of the paper and how it is read, with the values typed in from the paper.
 
 mod errors;
 mod examples;

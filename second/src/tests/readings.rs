@@ -1,4 +1,4 @@
-//! How 01 is read where it is silent: widths, orders, and what a refused call hands back. Transfers, records and
+//! How the paper is read where it is silent: widths, orders, and what a refused call hands back. Transfers, records and
 //! `rmvshow` have files of their own.
 
 use super::{default, four, plane, refused};
