@@ -75,10 +75,10 @@ fn lend(bytes: &[u8], room: &mut [u8])
     }
 }
 
-// The answer of a call that may change the memory mem.
-fn change(number: u8, body: &[u8], mem: &mut [u8], out: &mut [u8]) -> usize {
+// The answer of a call that may change the memory mem; a move reads source.
+fn change(number: u8, body: &[u8], source: &[u8], mem: &mut [u8], out: &mut [u8]) -> usize {
     match number {
-        0x20 => move_plane(body, mem, out),
+        0x20 => move_plane(body, source, mem, out),
         0x22 => advance(body, mem, out),
         0x31 => write(body, mem, out),
         _ => step(body, mem, out),
@@ -86,38 +86,51 @@ fn change(number: u8, body: &[u8], mem: &mut [u8], out: &mut [u8]) -> usize {
 }
 
 // The same, and the memory after it.
-fn call_over(number: u8, body: &[u8], mem: &mut [u8], out: &mut [u8]) -> usize {
-    let p = change(number, body, mem, out);
+fn change_told(number: u8, body: &[u8], source: &[u8], mem: &mut [u8], out: &mut [u8]) -> usize {
+    let p = change(number, body, source, mem, out);
     memory(out, p, mem)
 }
 
-// The same, with the bytes from byte p on as the memory.
-fn call_from(number: u8, body: &[u8], p: usize, room: &mut [u8], out: &mut [u8]) -> usize {
-    if body.len() < p {
-        return no_call(out, 4);
-    }
-    let n = body.len() - p;
+// The same, with the bytes of mem lent in the room.
+fn change_lent(
+    number: u8,
+    body: &[u8],
+    source: &[u8],
+    mem: &[u8],
+    room: &mut [u8],
+    out: &mut [u8],
+) -> usize {
+    let n = mem.len();
     if room.len() < n {
         return no_call(out, 4);
     }
-    lend(&body[p..], room);
-    call_over(number, body, &mut room[0..n], out)
+    lend(mem, room);
+    change_told(number, body, source, &mut room[0..n], out)
 }
 
-// A call whose arguments are as long as they have to be.
-fn call(number: u8, body: &[u8], room: &mut [u8], out: &mut [u8]) -> usize {
+// 20: n source bytes, and then the destination.
+fn move_lent(body: &[u8], rest: &[u8], room: &mut [u8], out: &mut [u8]) -> usize {
+    let n = word(body, 127) as usize;
+    if rest.len() < n {
+        return no_call(out, 4);
+    }
+    change_lent(0x20, body, &rest[0..n], &rest[n..], room, out)
+}
+
+// A call whose arguments are as long as they have to be, with what is left of its line.
+fn call(number: u8, body: &[u8], rest: &[u8], room: &mut [u8], out: &mut [u8]) -> usize {
     match number {
         0x00 => version(out),
-        0x20 => call_from(number, body, 131 + word(body, 127) as usize, room, out),
-        0x22 | 0x31 | 0x43 => call_from(number, body, fixed(number), room, out),
-        0x30 => read(body, out),
+        0x20 => move_lent(body, rest, room, out),
+        0x22 | 0x31 | 0x43 => change_lent(number, body, rest, rest, room, out),
+        0x30 => read(rest, out),
         0x01 | 0x02 | 0x03 | 0x04 | 0x05 | 0x06 | 0x07 | 0x08 | 0x09 | 0x0a => plane_call(
             number,
             body,
             out,
         ),
-        0x21 | 0x23 | 0x24 | 0x25 => mover_call(number, body, out),
-        0x40 | 0x41 | 0x42 | 0x44 | 0x45 => table_call(number, body, out),
+        0x21 | 0x23 | 0x24 | 0x25 => mover_call(number, body, rest, out),
+        0x40 | 0x41 | 0x42 | 0x44 | 0x45 => table_call(number, body, rest, out),
         _ => config_call(number, body, out),
     }
 }
@@ -139,5 +152,5 @@ pub(crate) fn answer(body: &[u8], room: &mut [u8], out: &mut [u8]) -> usize {
         return no_call(out, 4);
     }
     byte(out, 0, number);
-    call(number, body, room, out)
+    call(number, body, &body[n..], room, out)
 }

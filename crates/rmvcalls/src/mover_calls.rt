@@ -1,17 +1,11 @@
 // 20 to 25: moves, and sub-tensors of a lent source. Every answer starts at byte 1, after the call's number.
 use crate::answers;
 use crate::args;
-use crate::calls::no_call;
 use crate::plane_calls::put_sub;
 
 // 20
-pub(crate) fn move_plane(b: &[u8], dst: &mut [u8], out: &mut [u8]) -> usize {
-    let n = args::word(b, 127) as usize;
-    let end = 131 + n;
-    if b.len() < end {
-        return no_call(out, 4);
-    }
-    let a = mover::move_plane(args::tensor(b, 1), args::config(b, 35), &b[131..end], dst);
+pub(crate) fn move_plane(b: &[u8], src: &[u8], dst: &mut [u8], out: &mut [u8]) -> usize {
+    let a = mover::move_plane(args::tensor(b, 1), args::config(b, 35), src, dst);
     answers::answer(out, 1, a)
 }
 
@@ -27,31 +21,8 @@ pub(crate) fn advance(b: &[u8], mem: &mut [u8], out: &mut [u8]) -> usize {
     answers::counted(out, 1, a.status, a.dim, a.count)
 }
 
-// 24
-fn sub_part(b: &[u8], out: &mut [u8]) -> usize {
-    if b.len() < 71 {
-        return no_call(out, 4);
-    }
-    answers::memory(
-        out,
-        1,
-        mover::sub_part(args::tensor(b, 1), args::sub_config(b, 35), &b[71..]),
-    )
-}
-
-// 25
-fn sub_tensor(b: &[u8], out: &mut [u8]) -> usize {
-    if b.len() < 71 {
-        return no_call(out, 4);
-    }
-    put_sub(
-        out,
-        mover::sub_tensor(args::tensor(b, 1), args::sub_config(b, 35), &b[71..]),
-    )
-}
-
-// 21 and 23 to 25
-pub(crate) fn mover_call(number: u8, b: &[u8], out: &mut [u8]) -> usize {
+// 21 and 23 to 25; rest is the source of a sub-tensor.
+pub(crate) fn mover_call(number: u8, b: &[u8], rest: &[u8], out: &mut [u8]) -> usize {
     match number {
         0x21 => judge_job(b, out),
         0x23 => answers::byte(
@@ -59,7 +30,14 @@ pub(crate) fn mover_call(number: u8, b: &[u8], out: &mut [u8]) -> usize {
             1,
             mover::meets(args::part(b, 1), args::part(b, 17)) as u8,
         ),
-        0x24 => sub_part(b, out),
-        _ => sub_tensor(b, out),
+        0x24 => answers::memory(
+            out,
+            1,
+            mover::sub_part(args::tensor(b, 1), args::sub_config(b, 35), rest),
+        ),
+        _ => put_sub(
+            out,
+            mover::sub_tensor(args::tensor(b, 1), args::sub_config(b, 35), rest),
+        ),
     }
 }

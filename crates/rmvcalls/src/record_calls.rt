@@ -1,14 +1,10 @@
 // 30 and 31: records. Every answer starts at byte 1, after the call's number.
 use crate::answers;
 use crate::args;
-use crate::calls::no_call;
 
 // 30
-pub(crate) fn read(b: &[u8], out: &mut [u8]) -> usize {
-    if b.len() < 1 {
-        return no_call(out, 4);
-    }
-    let r = record::read(&b[1..]);
+pub(crate) fn read(bytes: &[u8], out: &mut [u8]) -> usize {
+    let r = record::read(bytes);
     let p = answers::byte(out, 1, r.status);
     let p1 = answers::byte(out, p, r.dim);
     let p2 = answers::tensor(out, p1, r.tensor);

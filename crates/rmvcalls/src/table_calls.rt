@@ -1,7 +1,6 @@
 // 40 to 45: four transfers over one memory. Every answer starts at byte 1, after the call's number.
 use crate::answers;
 use crate::args;
-use crate::calls::no_call;
 use transfers::Changed;
 use transfers::Poll;
 use transfers::Table;
@@ -19,23 +18,12 @@ fn fresh(b: &[u8], out: &mut [u8]) -> usize {
 }
 
 // 41
-fn prepare(b: &[u8], out: &mut [u8]) -> usize {
-    if b.len() < 835 {
-        return no_call(out, 4);
-    }
-    let a = args::table(b).prepare(&b[835..], args::job(b, 677));
+fn prepare(b: &[u8], mem: &[u8], out: &mut [u8]) -> usize {
+    let a = args::table(b).prepare(mem, args::job(b, 677));
     let p = answers::byte(out, 1, a.status);
     let p1 = answers::byte(out, p, a.dim);
     let p2 = answers::word(out, p1, a.handle);
     answers::table(out, p2, a.table)
-}
-
-// 42
-fn start(b: &[u8], out: &mut [u8]) -> usize {
-    if b.len() < 681 {
-        return no_call(out, 4);
-    }
-    put_changed(out, args::table(b).start(&b[681..], args::word(b, 677)))
 }
 
 // 43
@@ -44,14 +32,6 @@ pub(crate) fn step(b: &[u8], mem: &mut [u8], out: &mut [u8]) -> usize {
     let p = answers::byte(out, 1, a.status);
     let p1 = answers::long(out, p, a.count);
     answers::table(out, p1, a.table)
-}
-
-// 44
-fn release(b: &[u8], out: &mut [u8]) -> usize {
-    if b.len() < 681 {
-        return no_call(out, 4);
-    }
-    put_changed(out, args::table(b).release(&b[681..], args::word(b, 677)))
 }
 
 // A poll in the paper's numbers: status, state, and what is left.
@@ -65,13 +45,13 @@ fn put_poll(out: &mut [u8], p: Poll) -> usize {
     }
 }
 
-// 40 to 45, but 43
-pub(crate) fn table_call(number: u8, b: &[u8], out: &mut [u8]) -> usize {
+// 40 to 45, but 43; rest is the memory.
+pub(crate) fn table_call(number: u8, b: &[u8], rest: &[u8], out: &mut [u8]) -> usize {
     match number {
         0x40 => fresh(b, out),
-        0x41 => prepare(b, out),
-        0x42 => start(b, out),
-        0x44 => release(b, out),
+        0x41 => prepare(b, rest, out),
+        0x42 => put_changed(out, args::table(b).start(rest, args::word(b, 677))),
+        0x44 => put_changed(out, args::table(b).release(rest, args::word(b, 677))),
         _ => put_poll(out, args::table(b).poll(args::word(b, 677))),
     }
 }
