@@ -11,10 +11,10 @@ use transfers::Table;
 const TWELVE: [u8; 12] = [1, 2, 3, 4, 5, 6, 7, 8, 9, 10, 11, 12];
 
 // A compact plane.
-fn compact(rank: u8, size: u8, shape: [u32; 4]) -> Tensor {
+fn compact(rank: u8, element_size: u8, shape: [u32; 4]) -> Tensor {
     Tensor {
         rank,
-        size,
+        element_size,
         shape,
         stride: [0u32; 4],
     }

@@ -11,7 +11,7 @@ use Rattle.plane.specs.declared.Count.{Count}
 use Rattle.plane.specs.declared.SubConfig.{SubConfig}
 use Rattle.plane.specs.declared.SubTensor.{SubTensor}
 use Rattle.plane.specs.Arrays.{zeros}
-use Rattle.plane.specs.Faults.{fault}
+use Rattle.faults.specs.Faults.{fault}
 use Rattle.plane.specs.Moves.{refused, judgeOf, roomOf}
 use Rattle.ready_made.specs.ReadyMade.{defaults}
 use Rattle.plane.specs.Settings.{withOffset, withSize, withStep, withDstOffset, withDstStride, withPerm, withPre, withPost}
@@ -81,7 +81,7 @@ three a b c = a ∷ b ∷ c ∷ 9 ∷ []
 
 -- a plane with all strides 0: rank, element size, shape
 abbrev pub compact : ℕ → ℕ → List ℕ → Tensor
-compact n size shape = record { rank = n; size = size; shape = shape; stride = zeros }
+compact n size shape = record { rank = n; «element_size» = size; shape = shape; stride = zeros }
 
 -- a sub-tensor's offsets, sizes and rank
 abbrev pub cut : List ℕ → List ℕ → ℕ → SubConfig
@@ -106,14 +106,14 @@ abbrev pub over : ℕ → List ℕ
 over n = replicate n 99
 
 -- an accepted move: rank, element size, extents, destination strides, need
-abbrev pub accepted : ℕ → ℕ → List ℕ → List ℕ → ℕ → Answer
-accepted n size extent stride need =
-    record { status = 0; dim = 0; rank = n; size = size; extent = extent; stride = stride; need = need }
+abbrev pub acceptedMove : ℕ → ℕ → List ℕ → List ℕ → ℕ → Answer
+acceptedMove n size extent stride need =
+    record { status = 0; dim = 0; rank = n; «element_size» = size; extent = extent; stride = stride; need = need }
 
 -- an accepted sub-tensor: rank, element size, shape, strides, byte
 abbrev pub acceptedSub : ℕ → ℕ → List ℕ → List ℕ → ℕ → SubTensor
 acceptedSub n size shape stride byte =
-    record { status = 0; dim = 0; tensor = record { rank = n; size = size; shape = shape; stride = stride }; byte = byte }
+    record { status = 0; dim = 0; tensor = record { rank = n; «element_size» = size; shape = shape; stride = stride }; byte = byte }
 
 -- ---- the table
 
@@ -121,37 +121,37 @@ abbrev pub table : List Example
 table =
     -- A: (2,3) 1..6, perm (1,0): 1 4 2 5 3 6
     move (compact 2 1 (two 2 3)) (withPerm defaults (two 1 0)) (upTo 6) (over 6)
-    (accepted 2 1 (3 ∷ 2 ∷ 0 ∷ 0 ∷ []) (2 ∷ 1 ∷ 0 ∷ 0 ∷ []) 6) (1 ∷ 4 ∷ 2 ∷ 5 ∷ 3 ∷ 6 ∷ []) ∷
+    (acceptedMove 2 1 (3 ∷ 2 ∷ 0 ∷ 0 ∷ []) (2 ∷ 1 ∷ 0 ∷ 0 ∷ []) 6) (1 ∷ 4 ∷ 2 ∷ 5 ∷ 3 ∷ 6 ∷ []) ∷
     -- B: (3,4) 1..12, offset (1,1), size (2,2): 6 7 10 11
     move (compact 2 1 (two 3 4)) (withSize (withOffset defaults (two 1 1)) (two 2 2)) (upTo 12) (over 4)
-    (accepted 2 1 (2 ∷ 2 ∷ 0 ∷ 0 ∷ []) (2 ∷ 1 ∷ 0 ∷ 0 ∷ []) 4) (6 ∷ 7 ∷ 10 ∷ 11 ∷ []) ∷
+    (acceptedMove 2 1 (2 ∷ 2 ∷ 0 ∷ 0 ∷ []) (2 ∷ 1 ∷ 0 ∷ 0 ∷ []) 4) (6 ∷ 7 ∷ 10 ∷ 11 ∷ []) ∷
     -- C: (7) 1..7, step 3: 1 4 7. Size 6: 1 4. Step 9: 1
     move (compact 1 1 (one 7)) (withStep defaults (one 3)) (upTo 7) (over 3)
-    (accepted 1 1 (3 ∷ 0 ∷ 0 ∷ 0 ∷ []) (1 ∷ 0 ∷ 0 ∷ 0 ∷ []) 3) (1 ∷ 4 ∷ 7 ∷ []) ∷
+    (acceptedMove 1 1 (3 ∷ 0 ∷ 0 ∷ 0 ∷ []) (1 ∷ 0 ∷ 0 ∷ 0 ∷ []) 3) (1 ∷ 4 ∷ 7 ∷ []) ∷
     move (compact 1 1 (one 7)) (withSize (withStep defaults (one 3)) (one 6)) (upTo 7) (over 2)
-    (accepted 1 1 (2 ∷ 0 ∷ 0 ∷ 0 ∷ []) (1 ∷ 0 ∷ 0 ∷ 0 ∷ []) 2) (1 ∷ 4 ∷ []) ∷
+    (acceptedMove 1 1 (2 ∷ 0 ∷ 0 ∷ 0 ∷ []) (1 ∷ 0 ∷ 0 ∷ 0 ∷ []) 2) (1 ∷ 4 ∷ []) ∷
     move (compact 1 1 (one 7)) (withStep defaults (one 9)) (upTo 7) (over 1)
-    (accepted 1 1 (1 ∷ 0 ∷ 0 ∷ 0 ∷ []) (1 ∷ 0 ∷ 0 ∷ 0 ∷ []) 1) (1 ∷ []) ∷
+    (acceptedMove 1 1 (1 ∷ 0 ∷ 0 ∷ 0 ∷ []) (1 ∷ 0 ∷ 0 ∷ 0 ∷ []) 1) (1 ∷ []) ∷
     -- D: (1,2) 5 6, pre (1,0), post (0,1): 0 0 0 5 6 0
     move (compact 2 1 (two 1 2)) (withPost (withPre defaults (two 1 0)) (two 0 1)) (5 ∷ 6 ∷ []) (over 6)
-    (accepted 2 1 (2 ∷ 3 ∷ 0 ∷ 0 ∷ []) (3 ∷ 1 ∷ 0 ∷ 0 ∷ []) 6) (0 ∷ 0 ∷ 0 ∷ 5 ∷ 6 ∷ 0 ∷ []) ∷
+    (acceptedMove 2 1 (2 ∷ 3 ∷ 0 ∷ 0 ∷ []) (3 ∷ 1 ∷ 0 ∷ 0 ∷ []) 6) (0 ∷ 0 ∷ 0 ∷ 5 ∷ 6 ∷ 0 ∷ []) ∷
     -- E: (1,2) 8 9, destination offset (1,0), strides (2,1), over 1 1 1 1: 1 1 8 9
     move (compact 2 1 (two 1 2)) (withDstStride (withDstOffset defaults (two 1 0)) (two 2 1)) (8 ∷ 9 ∷ []) (1 ∷ 1 ∷ 1 ∷ 1 ∷ [])
-    (accepted 2 1 (1 ∷ 2 ∷ 0 ∷ 0 ∷ []) (2 ∷ 1 ∷ 0 ∷ 0 ∷ []) 4) (1 ∷ 1 ∷ 8 ∷ 9 ∷ []) ∷
+    (acceptedMove 2 1 (1 ∷ 2 ∷ 0 ∷ 0 ∷ []) (2 ∷ 1 ∷ 0 ∷ 0 ∷ []) 4) (1 ∷ 1 ∷ 8 ∷ 9 ∷ []) ∷
     -- F: (2,2) 1..4, destination strides (3,1), over five 7s: 1 2 7 3 4. Over four: 13, and nothing changes
     move (compact 2 1 (two 2 2)) (withDstStride defaults (two 3 1)) (upTo 4) (7 ∷ 7 ∷ 7 ∷ 7 ∷ 7 ∷ [])
-    (accepted 2 1 (2 ∷ 2 ∷ 0 ∷ 0 ∷ []) (3 ∷ 1 ∷ 0 ∷ 0 ∷ []) 5) (1 ∷ 2 ∷ 7 ∷ 3 ∷ 4 ∷ []) ∷
+    (acceptedMove 2 1 (2 ∷ 2 ∷ 0 ∷ 0 ∷ []) (3 ∷ 1 ∷ 0 ∷ 0 ∷ []) 5) (1 ∷ 2 ∷ 7 ∷ 3 ∷ 4 ∷ []) ∷
     move (compact 2 1 (two 2 2)) (withDstStride defaults (two 3 1)) (upTo 4) (7 ∷ 7 ∷ 7 ∷ 7 ∷ [])
     (refused (fault 13 0)) (7 ∷ 7 ∷ 7 ∷ 7 ∷ []) ∷
     -- G: (1,2) 5 6, pre (1,0), perm (1,0): 0 5 0 6
     move (compact 2 1 (two 1 2)) (withPerm (withPre defaults (two 1 0)) (two 1 0)) (5 ∷ 6 ∷ []) (over 4)
-    (accepted 2 1 (2 ∷ 2 ∷ 0 ∷ 0 ∷ []) (2 ∷ 1 ∷ 0 ∷ 0 ∷ []) 4) (0 ∷ 5 ∷ 0 ∷ 6 ∷ []) ∷
+    (acceptedMove 2 1 (2 ∷ 2 ∷ 0 ∷ 0 ∷ []) (2 ∷ 1 ∷ 0 ∷ 0 ∷ []) 4) (0 ∷ 5 ∷ 0 ∷ 6 ∷ []) ∷
     -- H: (3,4) 1..12, offset (0,1), steps (2,2), perm (1,0): 2 10 4 12
     move (compact 2 1 (two 3 4)) (withPerm (withStep (withOffset defaults (two 0 1)) (two 2 2)) (two 1 0)) (upTo 12) (over 4)
-    (accepted 2 1 (2 ∷ 2 ∷ 0 ∷ 0 ∷ []) (2 ∷ 1 ∷ 0 ∷ 0 ∷ []) 4) (2 ∷ 10 ∷ 4 ∷ 12 ∷ []) ∷
+    (acceptedMove 2 1 (2 ∷ 2 ∷ 0 ∷ 0 ∷ []) (2 ∷ 1 ∷ 0 ∷ 0 ∷ []) 4) (2 ∷ 10 ∷ 4 ∷ 12 ∷ []) ∷
     -- I: element size 2, (3), bytes 1..6, offset 1: 3 4 5 6
     move (compact 1 2 (one 3)) (withOffset defaults (one 1)) (upTo 6) (over 4)
-    (accepted 1 2 (2 ∷ 0 ∷ 0 ∷ 0 ∷ []) (1 ∷ 0 ∷ 0 ∷ 0 ∷ []) 4) (3 ∷ 4 ∷ 5 ∷ 6 ∷ []) ∷
+    (acceptedMove 1 2 (2 ∷ 0 ∷ 0 ∷ 0 ∷ []) (1 ∷ 0 ∷ 0 ∷ 0 ∷ []) 4) (3 ∷ 4 ∷ 5 ∷ 6 ∷ []) ∷
     -- J: element size 3 with shape (0,70000): 2. A with perm (0,0): 6 at dimension 1
     move (compact 2 3 (two 0 70000)) defaults (upTo 6) (over 3)
     (refused (fault 2 0)) (99 ∷ 99 ∷ 99 ∷ []) ∷
@@ -179,19 +179,19 @@ table =
     -- ---- not of A to L: what the paper only runs, and its easy errors
     -- (2,4,8) with perm (2,0,1) becomes (8,2,4), and (2,2,3) becomes (3,2,2): read the other way round, (4,8,2) and (2,3,2)
     room (compact 3 1 (three 2 4 8)) (withPerm defaults (three 2 0 1))
-    (record { answer = accepted 3 1 (8 ∷ 2 ∷ 4 ∷ 0 ∷ []) (8 ∷ 4 ∷ 1 ∷ 0 ∷ []) 64; span = 64 }) ∷
+    (record { answer = acceptedMove 3 1 (8 ∷ 2 ∷ 4 ∷ 0 ∷ []) (8 ∷ 4 ∷ 1 ∷ 0 ∷ []) 64; span = 64 }) ∷
     move (compact 3 1 (three 2 2 3)) (withPerm defaults (three 2 0 1)) (upTo 12) (over 12)
-    (accepted 3 1 (3 ∷ 2 ∷ 2 ∷ 0 ∷ []) (4 ∷ 2 ∷ 1 ∷ 0 ∷ []) 12) (1 ∷ 4 ∷ 7 ∷ 10 ∷ 2 ∷ 5 ∷ 8 ∷ 11 ∷ 3 ∷ 6 ∷ 9 ∷ 12 ∷ []) ∷
+    (acceptedMove 3 1 (3 ∷ 2 ∷ 2 ∷ 0 ∷ []) (4 ∷ 2 ∷ 1 ∷ 0 ∷ []) 12) (1 ∷ 4 ∷ 7 ∷ 10 ∷ 2 ∷ 5 ∷ 8 ∷ 11 ∷ 3 ∷ 6 ∷ 9 ∷ 12 ∷ []) ∷
     -- the count of (2,4,8) from 1 is 32; from 3: 16
     count (compact 3 1 (three 2 4 8)) 1 (record { status = 0; dim = 0; count = 32 }) ∷
     count (compact 3 1 (three 2 4 8)) 3 (noCount (fault 16 0)) ∷
     -- size 65,280 with pre 255 is accepted, 65,281 gives 10
     room (compact 1 1 (one 65535)) (withPre (withSize defaults (one 65280)) (one 255))
-    (record { answer = accepted 1 1 (65535 ∷ 0 ∷ 0 ∷ 0 ∷ []) (1 ∷ 0 ∷ 0 ∷ 0 ∷ []) 65535; span = 65535 }) ∷
+    (record { answer = acceptedMove 1 1 (65535 ∷ 0 ∷ 0 ∷ 0 ∷ []) (1 ∷ 0 ∷ 0 ∷ 0 ∷ []) 65535; span = 65535 }) ∷
     room (compact 1 1 (one 65535)) (withPre (withSize defaults (one 65281)) (one 255))
     (record { answer = refused (fault 10 0); span = 0 }) ∷
     -- (1,2) with strides (0, 2147483647): what 0 stands for is itself too large, 4 at dimension 0
-    room (record { rank = 2; size = 1; shape = two 1 2; stride = two 0 2147483647 }) defaults
+    room (record { rank = 2; «element_size» = 1; shape = two 1 2; stride = two 0 2147483647 }) defaults
     (record { answer = refused (fault 4 0); span = 0 }) ∷
     -- a sub-tensor of (3,4) keeps the resolved stride 4 of the whole plane: 0 would be resolved again, from its own shape, to 2
     sub (compact 2 1 (two 3 4)) (cut (two 1 1) (two 2 2) 2) (upTo 12)

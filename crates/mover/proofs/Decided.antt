@@ -1,8 +1,8 @@
 -- Each public call asks nothing of its caller, and no two differing outcomes satisfy its contract: neither two answers nor two
 -- memories. `Pre` and `Post` are the contract as the checker reads it off the source. Assumes nothing.
 use mathlib.Core.Path.{sym, _∙_}
-use Rattle.plane.specs.Decided.{Decided, OneBytes}
-use Rattle.plane.proofs.Decided.{by-equation, by-first}
+use Rattle.faults.specs.Decided.{Decided, OneBytes}
+use Rattle.faults.proofs.Deciding.{by-equation, by-first}
 use Rattle.mover.proofs.moves.move_plane.Reads as move-plane
 use Rattle.mover.proofs.within.judge_job.Reads as judge-job
 use Rattle.mover.proofs.within.meets.Reads as meets

@@ -51,41 +51,41 @@ module _ (t : Tensor) (c : Config) (x : ℕ → ℕ) where
       let w = every-fails (λ i. isKept t c i (x i)) (t .rank) e in
       (w .0, w .1, λ k. true≢false (sym (range-test (at (c .pre) (dimOf c (w .0))) (x (w .0)) (count t c (dimOf c (w .0))) k) ∙ w .2))
 
-  source-within : GoodConfig t c → ((i : ℕ) → i < t .rank → KeptAt t c x i) → sourcePlace t c x * t .size + t .size ≤ span t
+  source-within : GoodConfig t c → ((i : ℕ) → i < t .rank → KeptAt t c x i) → sourcePlace t c x * t .«element_size» + t .«element_size» ≤ span t
   unfolding sourcePlace
   source-within g h =
       let w = home-fits g (λ i. kOf c i (x i)) (λ i l. omega (arith, h i l .1)) in
       omega (arith, rw (add-mul, one-mul) at w)
 
   module _ (src : List ℕ) where
-    element-kept : areKept t c x ≡ true → element t c src x ≡ take (t .size) (drop (sourcePlace t c x * t .size) src)
+    element-kept : areKept t c x ≡ true → element t c src x ≡ take (t .«element_size») (drop (sourcePlace t c x * t .«element_size») src)
     unfolding element
     element-kept e = rw e
 
-    element-pad : areKept t c x ≡ false → element t c src x ≡ replicate (t .size) 0
+    element-pad : areKept t c x ≡ false → element t c src x ≡ replicate (t .«element_size») 0
     unfolding element
     element-pad e = rw e
 
     -- an element has as many bytes as its size
-    element-long : GoodConfig t c → span t ≤ length src → length (element t c src x) ≡ t .size
+    element-long : GoodConfig t c → span t ≤ length src → length (element t c src x) ≡ t .«element_size»
     element-long g l = by-test (areKept t c x) refl
       where
-        by-test : (b : Bool) → areKept t c x ≡ b → length (element t c src x) ≡ t .size
+        by-test : (b : Bool) → areKept t c x ≡ b → length (element t c src x) ≡ t .«element_size»
         by-test true e =
             let w = source-within g (each-kept e) in
-            rw (element-kept e) (length-take-le (t .size) (drop (sourcePlace t c x * t .size) src) (rw length-drop (omega arith)))
-        by-test false e = rw (element-pad e) (length-replicate (t .size) 0)
+            rw (element-kept e) (length-take-le (t .«element_size») (drop (sourcePlace t c x * t .«element_size») src) (rw length-drop (omega arith)))
+        by-test false e = rw (element-pad e) (length-replicate (t .«element_size») 0)
 
-    kept-byte : (b : ℕ) → b < t .size → areKept t c x ≡ true → getD (element t c src x) b 0 ≡ getD src (sourcePlace t c x * t .size + b) 0
+    kept-byte : (b : ℕ) → b < t .«element_size» → areKept t c x ≡ true → getD (element t c src x) b 0 ≡ getD src (sourcePlace t c x * t .«element_size» + b) 0
     kept-byte b h e = rw (element-kept e, getD-take, getD-drop)
 
-    pad-byte : (b : ℕ) → b < t .size → areKept t c x ≡ false → getD (element t c src x) b 0 ≡ 0
+    pad-byte : (b : ℕ) → b < t .«element_size» → areKept t c x ≡ false → getD (element t c src x) b 0 ≡ 0
     pad-byte b h e = rw (element-pad e, getD-replicate)
 
 -- ---- the first n elements of an accepted move
 
 module _ (t : Tensor) (c : Config) (src dst : List ℕ) (g : GoodMove t c (length src) (length dst)) where
-  fits : (x : ℕ → ℕ) → IsCoordinate t c x → place t c x * t .size + t .size ≤ length dst
+  fits : (x : ℕ → ℕ) → IsCoordinate t c x → place t c x * t .«element_size» + t .«element_size» ≤ length dst
   fits x w =
       let f = place-fits (g .config) x w in
       let r = g .room in
@@ -94,14 +94,14 @@ module _ (t : Tensor) (c : Config) (src dst : List ℕ) (g : GoodMove t c (lengt
   -- the coordinates of an element's number
   coord-inside : (q : ℕ) → IsCoordinate t c (coordOf t c q)
   unfolding coordOf
-  coord-inside q i h = mod-lt _ (extent-some (g .source) (g .config) (g .place) i h)
+  coord-inside q i h = mod-lt _ (extent-some (g .source) (g .config) (g .destination) i h)
 
   module _ (n : ℕ) (most : n ≤ total t c) where
-    element-at : (q b : ℕ) → q < n → b < t .size → getD (moved t c src 0 n dst) (byteOf t c q + b) 0 ≡ getD (element t c src (coordOf t c q)) b 0
+    element-at : (q b : ℕ) → q < n → b < t .«element_size» → getD (moved t c src 0 n dst) (byteOf t c q + b) 0 ≡ getD (element t c src (coordOf t c q)) b 0
     element-at q b l h =
         let z = element-long t c (coordOf t c q) src (g .config) (g .long) in
         rw zero-add at
-        (moved-element t c src (bytes-rise (g .source) (g .config) (g .place)) 0 n dst q b (λ r k. fits (coordOf t c r) (coord-inside r)) (omega arith) l (rw zero-add (omega arith)))
+        (moved-element t c src (bytes-rise (g .source) (g .config) (g .destination)) 0 n dst q b (λ r k. fits (coordOf t c r) (coord-inside r)) (omega arith) l (rw zero-add (omega arith)))
 
     accepted-firsts : FirstsMeant t c src dst n (moved t c src 0 n dst)
     accepted-firsts =
@@ -109,7 +109,7 @@ module _ (t : Tensor) (c : Config) (src dst : List ℕ) (g : GoodMove t c (lengt
         record {
           long = l;
           inside = λ q k. rw l (fits (coordOf t c q) (coord-inside q));
-          apart = λ q r k m. bytes-rise (g .source) (g .config) (g .place) q r k (omega arith);
+          apart = λ q r k m. bytes-rise (g .source) (g .config) (g .destination) q r k (omega arith);
           source = λ q k a b h.
               let s = source-within t c (coordOf t c q) (g .config) a in
               let m = g .long in
@@ -125,7 +125,7 @@ module _ (t : Tensor) (c : Config) (src dst : List ℕ) (g : GoodMove t c (lengt
       record {
         long = m .long;
         inside = λ x w. rw (m .long) (fits x w);
-        apart = λ x y. bytes-apart (g .source) (g .config) (g .place) x y;
+        apart = λ x y. bytes-apart (g .source) (g .config) (g .destination) x y;
         source = λ x w k b h.
             let q = numberAt t c x in
             let same = numberAt-coord t c x w in
@@ -144,7 +144,7 @@ module _ (t : Tensor) (c : Config) (src dst : List ℕ) (g : GoodMove t c (lengt
       record {
         long = m .long;
         inside = λ q l. m .inside (coordOf t c q) (coord-inside q);
-        apart = bytes-rise (g .source) (g .config) (g .place);
+        apart = bytes-rise (g .source) (g .config) (g .destination);
         source = λ q l. m .source (coordOf t c q) (coord-inside q);
         zeros = λ q l. m .zeros (coordOf t c q) (coord-inside q);
         rest = λ k h.
@@ -157,16 +157,16 @@ module _ (t : Tensor) (c : Config) (src dst : List ℕ) (g : GoodMove t c (lengt
 -- an element below number n that has byte k, or none
 module _ (t : Tensor) (c : Config) (k : ℕ) where
   Owns : ℕ → Type 0
-  Owns q = (byteOf t c q ≤ k) × (k < byteOf t c q + t .size)
+  Owns q = (byteOf t c q ≤ k) × (k < byteOf t c q + t .«element_size»)
 
   Spares : ℕ → Type 0
-  Spares q = (k < byteOf t c q) ⊎ (byteOf t c q + t .size ≤ k)
+  Spares q = (k < byteOf t c q) ⊎ (byteOf t c q + t .«element_size» ≤ k)
 
   owns : (q : ℕ) → Owns q ⊎ Spares q
   unfolding Owns Spares
   owns q = elim (decLt k (byteOf t c q)) [
     | yes l ↦ inr (inl l)
-    | no l ↦ elim (decLt k (byteOf t c q + t .size)) [
+    | no l ↦ elim (decLt k (byteOf t c q + t .«element_size»)) [
       | yes m ↦ inl (omega arith, m)
       | no m ↦ inr (inr (omega arith))
     ]
@@ -186,7 +186,7 @@ module _ (t : Tensor) (c : Config) (k : ℕ) where
 
 module _ (t : Tensor) (c : Config) (src dst : List ℕ) (n : ℕ) (e f : List ℕ) (m : FirstsMeant t c src dst n e) (o : FirstsMeant t c src dst n f) where
   -- a byte of an element
-  same-owned : (q b : ℕ) → q < n → b < t .size → getD e (byteOf t c q + b) 0 ≡ getD f (byteOf t c q + b) 0
+  same-owned : (q b : ℕ) → q < n → b < t .«element_size» → getD e (byteOf t c q + b) 0 ≡ getD f (byteOf t c q + b) 0
   same-owned q b l h = by-test (areKept t c (coordOf t c q)) refl
     where
       by-test : (d : Bool) → areKept t c (coordOf t c q) ≡ d → getD e (byteOf t c q + b) 0 ≡ getD f (byteOf t c q + b) 0

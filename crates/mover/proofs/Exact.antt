@@ -5,10 +5,10 @@ use mathlib.Core.Path.{_≡_, refl}
 use mathlib.Core.Bool.{_||_}
 use mathlib.Core.List.{List, [], _∷_, _++_}
 use lib.ListN.{length}
-use Rattle.plane.specs.Exactness.{whole, Exact}
+use Rattle.faults.specs.Exactness.{whole, Exact}
 use Rattle.plane.specs.Orders.{moveRules}
-use Rattle.plane.proofs.Faults.{unless-fault}
-use Rattle.plane.proofs.Chains.{Positive, chain, exact, join, one-chain}
+use Rattle.faults.proofs.Faults.{if-fault}
+use Rattle.faults.proofs.Chains.{Positive, chain, exact, join, one-chain}
 use Rattle.plane.proofs.Exact.{move-chain}
 use Rattle.mover.specs.declared.Job.{Job}
 use Rattle.mover.specs.Within.{leaves, meets, jobFault, totalOf, verdictOf, further, advancedBy, advanceOf, advanceMemory}
@@ -33,7 +33,7 @@ module _ (n : ℕ) (j : Job) where
 
   pub job-zeros : (verdictOf n j .status ≡ 0 → ⊥) → verdictOf n j .total ≡ 0
   unfolding verdictOf
-  job-zeros h = unless-fault (jobFault n j) 0 (totalOf j) h
+  job-zeros h = if-fault (jobFault n j) 0 (totalOf j) h
 
 module _ (j : Job) (from budget : ℕ) (m : List ℕ) where
   pub advance-exact : Exact (jobRules (length m) j) (advanceOf j from budget m .status) (advanceOf j from budget m .dim)
@@ -42,9 +42,9 @@ module _ (j : Job) (from budget : ℕ) (m : List ℕ) where
 
   pub advance-zeros : (advanceOf j from budget m .status ≡ 0 → ⊥) → advanceOf j from budget m .count ≡ 0
   unfolding advanceOf
-  advance-zeros h = unless-fault (jobFault (length m) j) 0 (further j from budget) h
+  advance-zeros h = if-fault (jobFault (length m) j) 0 (further j from budget) h
 
   -- a refused one changes no byte
   pub advance-kept : (advanceOf j from budget m .status ≡ 0 → ⊥) → advanceMemory j from budget m ≡ m
   unfolding advanceOf advanceMemory
-  advance-kept h = unless-fault (jobFault (length m) j) m (advancedBy j from (further j from budget) m) h
+  advance-kept h = if-fault (jobFault (length m) j) m (advancedBy j from (further j from budget) m) h

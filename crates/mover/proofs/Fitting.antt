@@ -41,10 +41,10 @@ module _ {t : Tensor} {c : Config} (g : GoodConfig t c) where
         | no z ↦ rw (ne-eqb (at (c .size) d) 0 z) (positive (at (c .size) d) z, g .size d h)
       ]
 
-  pub home-fits : (k : ℕ → ℕ) → ((i : ℕ) → i < t .rank → k i ≤ count t c (dimOf c i) - 1) → (1 + sum (t .rank) (λ i. (at (c .offset) (dimOf c i) + k i * at (c .step) (dimOf c i)) * at (srcStrides t) (dimOf c i))) * t .size ≤ span t
+  pub home-fits : (k : ℕ → ℕ) → ((i : ℕ) → i < t .rank → k i ≤ count t c (dimOf c i) - 1) → (1 + sum (t .rank) (λ i. (at (c .offset) (dimOf c i) + k i * at (c .step) (dimOf c i)) * at (srcStrides t) (dimOf c i))) * t .«element_size» ≤ span t
   unfolding span
   home-fits k l =
-      mul-le-mul-right (t .size)
+      mul-le-mul-right (t .«element_size»)
       (omega (
         arith,
         sum-least (t .rank)
@@ -54,10 +54,10 @@ module _ {t : Tensor} {c : Config} (g : GoodConfig t c) where
         sum-perm (at (c .perm)) (λ d. (shapeAt t d - 1) * at (srcStrides t) d) (t .rank) (t .rank) (g .perm) (g .apart),
       ))
 
-  pub place-fits : (x : ℕ → ℕ) → ((i : ℕ) → i < t .rank → x i < extentAt t c i) → (1 + place t c x) * t .size ≤ need t c
+  pub place-fits : (x : ℕ → ℕ) → ((i : ℕ) → i < t .rank → x i < extentAt t c i) → (1 + place t c x) * t .«element_size» ≤ need t c
   unfolding need place
   place-fits x l =
-      mul-le-mul-right (t .size)
+      mul-le-mul-right (t .«element_size»)
       (omega (
         arith,
         sum-least (t .rank)

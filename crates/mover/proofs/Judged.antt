@@ -9,22 +9,22 @@ use lib.ListN.{length, take, drop, length-drop, take-append-drop}
 use lib.Seq.{sets, sets-eq, drop-drop, length-take-le}
 use Rattle.plane.specs.declared.Tensor.{Tensor}
 use Rattle.plane.specs.declared.Config.{Config}
-use Rattle.plane.specs.declared.Fault.{Fault}
+use Rattle.faults.specs.declared.Fault.{Fault}
 use Rattle.plane.specs.declared.Answer.{Answer}
 use Rattle.plane.specs.Arrays.{at, product}
-use Rattle.plane.specs.Faults.{none, fault, when, _orElse_}
+use Rattle.faults.specs.Faults.{none, fault, when, _orElse_}
 use Rattle.plane.specs.Moves.{moveFault, roomFault, refused, accepted, answerOf, judgeOf}
-use Rattle.plane.proofs.Bools.{either-first, either-second, neither}
-use Rattle.plane.proofs.Faults.{status, or-none, or-found, or-clear, or-zero, when-bad, when-good, when-clear, given, spared, unless-fault, unless-none}
+use Rattle.faults.proofs.Bools.{either-first, either-second, neither}
+use Rattle.faults.proofs.Faults.{status, or-none, or-found, or-clear, or-zero, when-bad, when-good, when-clear, given, spared, if-fault, if-none}
 use Rattle.plane.specs.Good.{GoodMove}
-use Rattle.plane.proofs.Good.{source-clear, config-clear, place-clear, move-clear}
+use Rattle.plane.proofs.Good.{source-clear, config-clear, dst-clear, move-clear}
 use Rattle.plane.proofs.Rules.{refuses, answer-refused, answer-given, answer-status}
 use Rattle.mover.specs.declared.Job.{Job}
 use Rattle.mover.specs.declared.plan.Plan.{Plan}
 use Rattle.mover.specs.declared.engine.Origin.the-variants.{Lent}
 use Rattle.mover.specs.Moved.{total, moveMemory}
 use Rattle.mover.specs.Within.{leaves, meets, jobFault, totalOf, verdictOf, bytesOf, advancedBy, further, advanceOf, advanceMemory}
-use Rattle.mover.specs.Private.{planOf, planTotal, movedBy, partOf, Ready}
+use Rattle.mover.specs.Private.{planOf, planTotal, movedBy, stretch, Ready}
 use Rattle.mover.proofs.Laws.{judged, judged-good, moved-whole, moved-none, source-fits, destination-fits, job-good}
 use Rattle.mover.proofs.Planned.{planned-total, planned-ready, moved-planned}
 
@@ -33,7 +33,7 @@ use Rattle.mover.proofs.Planned.{planned-total, planned-ready, moved-pl
 pub move-room : (t : Tensor) (c : Config) {srcLen dstLen : ℕ} → GoodMove t c srcLen dstLen → roomFault t c .status ≡ 0
 unfolding roomFault
 move-room t c g =
-    or-zero _ _ (source-clear t (g .source)) (or-zero _ _ (config-clear t c (g .config)) (place-clear t c (g .place)))
+    or-zero _ _ (source-clear t (g .source)) (or-zero _ _ (config-clear t c (g .config)) (dst-clear t c (g .destination)))
 
 module _ (t : Tensor) (c : Config) (srcLen dstLen : ℕ) {a : Answer} (e : a ≡ judgeOf t c srcLen dstLen) where
   pub judged-stopped : (a .status ≡ 0 → ⊥) → judgeOf t c srcLen dstLen .status ≡ 0 → ⊥
@@ -130,7 +130,7 @@ module _ (n : ℕ) (j : Job) where
       verdict-refused =
           let s = job-status in
           let d = job-dim in
-          let w = sym (unless-fault (jobFault n j) 0 (totalOf j) job-stopped) in
+          let w = sym (if-fault (jobFault n j) 0 (totalOf j) job-stopped) in
           λ i. record { status = s i; dim = d i; total = w i }
 
     module _ (z : a .status ≡ 0) where
@@ -153,20 +153,20 @@ module _ (n : ℕ) (j : Job) where
       pub verdict-given : {all : ℕ} → all ≡ totalOf j → record { status = 0; dim = 0; total = all } ≡ verdictOf n j
       unfolding verdictOf
       verdict-given p =
-          let w = p ∙ sym (unless-none (jobFault n j) 0 (totalOf j) job-clear) in
+          let w = p ∙ sym (if-none (jobFault n j) 0 (totalOf j) job-clear) in
           λ i. record { status = job-none i .status; dim = job-none i .dim; total = w i }
 
 -- ---- a stretch
 
-part-length : (m : List ℕ) (b k : ℕ) → b + k ≤ length m → length (partOf m b k) ≡ k
+part-length : (m : List ℕ) (b k : ℕ) → b + k ≤ length m → length (stretch m b k) ≡ k
 part-length m b k h = length-take-le k (drop b m) (simp length-drop (omega arith))
 
 -- a part stored where it stands
-part-same : (m : List ℕ) (b k : ℕ) → b + k ≤ length m → sets m b (partOf m b k) ≡ m
+part-same : (m : List ℕ) (b k : ℕ) → b + k ≤ length m → sets m b (stretch m b k) ≡ m
 part-same m b k h =
     let len = part-length m b k h in
-    sets-eq (partOf m b k) m b (omega arith) ∙
-    rw (len, append-assoc) (ap (λ (r : List ℕ). take b m ++ r) (ap (λ (r : List ℕ). partOf m b k ++ r) (sym (drop-drop k b m)) ∙ take-append-drop k (drop b m)) ∙ take-append-drop b m)
+    sets-eq (stretch m b k) m b (omega arith) ∙
+    rw (len, append-assoc) (ap (λ (r : List ℕ). take b m ++ r) (ap (λ (r : List ℕ). stretch m b k ++ r) (sym (drop-drop k b m)) ∙ take-append-drop k (drop b m)) ∙ take-append-drop b m)
 
 module _ (j : Job) (from budget : ℕ) (m : List ℕ) {a : Answer} (e : a ≡ answerAt (length m) j) where
   pub advance-refused : (a .status ≡ 0 → ⊥) → (record { status = a .status; dim = a .dim; count = 0 } ≡ advanceOf j from budget m) × (m ≡ advanceMemory j from budget m)
@@ -175,9 +175,9 @@ module _ (j : Job) (from budget : ℕ) (m : List ℕ) {a : Answer} (e : a ≡ an
       let s = job-status (length m) j e in
       let d = job-dim (length m) j e h in
       let x = job-stopped (length m) j e h in
-      let w = sym (unless-fault (jobFault (length m) j) 0 (further j from budget) x) in (
+      let w = sym (if-fault (jobFault (length m) j) 0 (further j from budget) x) in (
         λ i. record { status = s i; dim = d i; count = w i },
-        sym (unless-fault (jobFault (length m) j) m (advancedBy j from (further j from budget) m) x),
+        sym (if-fault (jobFault (length m) j) m (advancedBy j from (further j from budget) m) x),
       )
 
   module _ (z : a .status ≡ 0) where
@@ -188,10 +188,10 @@ module _ (j : Job) (from budget : ℕ) (m : List ℕ) {a : Answer} (e : a ≡ an
     unfolding advanceOf advanceMemory
     advanced er eo =
         let none = job-none (length m) j e z in
-        let w = er ∙ sym (unless-none (jobFault (length m) j) 0 (further j from budget) clear) in (
+        let w = er ∙ sym (if-none (jobFault (length m) j) 0 (further j from budget) clear) in (
           λ i. record { status = none i .status; dim = none i .dim; count = w i },
           eo ∙ ap (λ (n : ℕ). advancedBy j from n m) er ∙
-              sym (unless-none (jobFault (length m) j) m (advancedBy j from (further j from budget) m) clear),
+              sym (if-none (jobFault (length m) j) m (advancedBy j from (further j from budget) m) clear),
         )
 
     -- where no element is left, none is moved

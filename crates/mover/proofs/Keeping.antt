@@ -9,7 +9,7 @@ use Rattle.plane.specs.declared.Config.{Config}
 use Rattle.plane.specs.Arrays.{at}
 use Rattle.plane.specs.Planes.{srcStrides}
 use Rattle.plane.specs.Moves.{dstStrides}
-use Rattle.plane.proofs.Bools.{both-first, both-second}
+use Rattle.faults.proofs.Bools.{both-first, both-second}
 use Rattle.plane.proofs.Arrays.{sum-same}
 use Rattle.mover.specs.Element.{dimOf, kOf, sourcePlace, place}
 

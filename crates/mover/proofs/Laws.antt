@@ -17,8 +17,8 @@ use Rattle.plane.specs.declared.Config.{Config}
 use Rattle.plane.specs.Arrays.{product}
 use Rattle.plane.specs.Planes.{span}
 use Rattle.plane.specs.Moves.{need, moveFault, judgeOf}
-use Rattle.plane.proofs.Bools.{either-clear}
-use Rattle.plane.proofs.Faults.{or-clear, when-clear, unless-fault, unless-none}
+use Rattle.faults.proofs.Bools.{either-clear}
+use Rattle.faults.proofs.Faults.{or-clear, when-clear, if-fault, if-none}
 use Rattle.plane.specs.Good.{GoodMove, GoodSource, GoodConfig}
 use Rattle.plane.proofs.Good.{move-good}
 use Rattle.plane.proofs.Bounds.{element-small}
@@ -63,13 +63,13 @@ module _ (t : Tensor) (c : Config) where
   -- all the elements are the whole move, where it is accepted
   pub moved-whole : (src dst : List ℕ) → moveFault t c (length src) (length dst) .status ≡ 0 → moveMemory t c src dst ≡ moved t c src 0 (total t c) dst
   unfolding moveMemory
-  moved-whole src dst z = unless-none (moveFault t c (length src) (length dst)) dst (moved t c src 0 (total t c) dst) z
+  moved-whole src dst z = if-none (moveFault t c (length src) (length dst)) dst (moved t c src 0 (total t c) dst) z
 
   -- and a refused one changes nothing
   pub moved-refused : (src dst : List ℕ) → (judgeOf t c (length src) (length dst) .status ≡ 0 → ⊥) → moveMemory t c src dst ≡ dst
   unfolding moveMemory
   moved-refused src dst h =
-      unless-fault (moveFault t c (length src) (length dst)) dst (moved t c src 0 (total t c) dst)
+      if-fault (moveFault t c (length src) (length dst)) dst (moved t c src 0 (total t c) dst)
       (λ z. h (judged (length src) (length dst) ∙ z))
 
   product-positive : (n : ℕ) (f : ℕ → ℕ) → ((i : ℕ) → i < n → 0 < f i) → 0 < product n f
@@ -121,7 +121,7 @@ module _ (n : ℕ) (j : Job) (z : jobFault n j .status ≡ 0) where
   pub job-apart : (j .source .start + j .source .length ≤ j .destination .start) ⊎ (j .destination .start + j .destination .length ≤ j .source .start)
   unfolding jobFault span need
   job-apart =
-      let b = element-small (j .tensor .size) (job-good .source .element) .0 in
+      let b = element-small (j .tensor .«element_size») (job-good .source .element) .0 in
       let s : 0 < span (j .tensor) = mul-pos (omega arith) b in
       let d : 0 < need (j .tensor) (j .config) = mul-pos (omega arith) b in
       parts-apart (j .source) (j .destination)

@@ -19,9 +19,9 @@ use Rattle.plane.specs.Planes.{srcStrides, sourceOf}
 use Rattle.plane.specs.Moves.{count, extent, dstExtents, roomFault, accepted}
 use Rattle.plane.proofs.Arrays.{firsts-at}
 use Rattle.plane.proofs.Bounds.{product-fits, element-small}
-use Rattle.plane.proofs.Faults.{status, or-clear}
-use Rattle.plane.specs.Good.{GoodSource, GoodConfig, GoodPlace}
-use Rattle.plane.proofs.Good.{source-good, config-good, place-good}
+use Rattle.faults.proofs.Faults.{status, or-clear}
+use Rattle.plane.specs.Good.{GoodSource, GoodConfig, GoodDst}
+use Rattle.plane.proofs.Good.{source-good, config-good, dst-good}
 use Rattle.plane.proofs.Rules.{dst-extent, its-fault, its-strides}
 use Rattle.mover.specs.declared.plan.Axis.{Axis}
 use Rattle.mover.specs.Element.{dimOf}
@@ -68,15 +68,15 @@ module _ {n : ℕ} {f : ℕ → ℕ} where
 module _ {t : Tensor} {c : Config} (g : GoodSource t) (k : GoodConfig t c) where
   extent-is : (i : ℕ) → i < t .rank → at (dstExtents t c) i ≡ at (c .pre) (dimOf c i) + count t c (dimOf c i) + at (c .post) (dimOf c i)
   unfolding dstExtents extent
-  extent-is i h = firsts-at (t .rank) (λ i. extent t c (at (c .perm) i)) i (g .rank .1) h
+  extent-is i h = firsts-at 0 (t .rank) (λ i. extent t c (at (c .perm) i)) i (g .rank .1) h
 
-  pub accepted-fit : GoodPlace t c → Fit c (accepted t c)
+  pub accepted-fit : GoodDst t c → Fit c (accepted t c)
   accepted-fit p = record {
     rank = g .rank .1;
-    size = element-small (t .size) (g .element) .1;
+    element = element-small (t .«element_size») (g .element) .1;
     dim = λ i h. omega (arith, k .perm i h, g .rank .1);
     offset = λ i h. omega (arith, k .offset (dimOf c i) (k .perm i h), g .shape (dimOf c i) (k .perm i h) .1);
-    place = λ i h. p .offset i h .1;
+    dst-offset = λ i h. p .offset i h .1;
     extent = λ i h. dst-extent k i (g .rank .1) h .1;
     padding = λ i h. omega (arith, extent-is i h);
   }
@@ -108,9 +108,9 @@ module _ (t : Tensor) (c : Config) (z : roomFault t c .status ≡ 0) where
   unfolding roomFault
   room-config = config-good t c (or-clear _ _ (or-clear _ _ z .1) .0)
 
-  room-place : GoodPlace t c
+  room-dst : GoodDst t c
   unfolding roomFault
-  room-place = place-good t c (or-clear _ _ (or-clear _ _ z .1) .1)
+  room-dst = dst-good t c (or-clear _ _ (or-clear _ _ z .1) .1)
 
   pub room-strides : {s : Source} → s ≡ sourceOf t → s .stride ≡ srcStrides t
   unfolding roomFault
@@ -118,7 +118,7 @@ module _ (t : Tensor) (c : Config) (z : roomFault t c .status ≡ 0) where
 
   module _ {a : Answer} (ea : a ≡ accepted t c) where
     pub answer-fit : Fit c a
-    answer-fit = subst (λ (x : Answer). Fit c x) (sym ea) (accepted-fit room-source room-config room-place)
+    answer-fit = subst (λ (x : Answer). Fit c x) (sym ea) (accepted-fit room-source room-config room-dst)
 
     module _ {strides : List ℕ} (es : strides ≡ srcStrides t) where
       -- axis j, as the code has it
@@ -129,13 +129,13 @@ module _ (t : Tensor) (c : Config) (z : roomFault t c .status ≡ 0) where
           at-made room-source room-config j l
 
       pub plan-is : {h b : ℕ} {d0 d1 d2 d3 : Axis} →
-          h ≡ sum (a .rank) (λ i. at (c .offset) (dimOf c i) * at strides (dimOf c i)) * a .size →
-          b ≡ sum (a .rank) (λ i. at (c .«dst_offset») i * at (a .stride) i) * a .size →
+          h ≡ sum (a .rank) (λ i. at (c .offset) (dimOf c i) * at strides (dimOf c i)) * a .«element_size» →
+          b ≡ sum (a .rank) (λ i. at (c .«dst_offset») i * at (a .stride) i) * a .«element_size» →
           d0 ≡ axisAt t c 0 → d1 ≡ axisAt t c 1 → d2 ≡ axisAt t c 2 → d3 ≡ axisAt t c 3 →
-          record { size = a .size; home = h; base = b; d0 = d0; d1 = d1; d2 = d2; d3 = d3 } ≡ planOf t c
+          record { size = a .«element_size»; home = h; base = b; d0 = d0; d1 = d1; d2 = d2; d3 = d3 } ≡ planOf t c
       unfolding planOf
       plan-is eh eb e0 e1 e2 e3 =
-          let z = ap (λ (a : Answer). a .size) ea in
-          let h = eh ∙ ap₂ (λ (a : Answer) (s : List ℕ). sum (a .rank) (λ i. at (c .offset) (dimOf c i) * at s (dimOf c i)) * a .size) ea es in
-          let b = eb ∙ ap (λ (a : Answer). sum (a .rank) (λ i. at (c .«dst_offset») i * at (a .stride) i) * a .size) ea in
+          let z = ap (λ (a : Answer). a .«element_size») ea in
+          let h = eh ∙ ap₂ (λ (a : Answer) (s : List ℕ). sum (a .rank) (λ i. at (c .offset) (dimOf c i) * at s (dimOf c i)) * a .«element_size») ea es in
+          let b = eb ∙ ap (λ (a : Answer). sum (a .rank) (λ i. at (c .«dst_offset») i * at (a .stride) i) * a .«element_size») ea in
           λ x. record { size = z x; home = h x; base = b x; d0 = e0 x; d1 = e1 x; d2 = e2 x; d3 = e3 x }

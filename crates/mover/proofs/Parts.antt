@@ -10,7 +10,7 @@ use mathlib.Core.Logic.{_⊎_, ⊎-elim, inl, inr}
 use Rattle.mover.specs.declared.engine.Origin.the-variants.{Lent, Inside}
 use lib.Seq.{sets-eq, set-set, set-comm, drop-at, take-append-seam, sets, length-sets, set-append-left, ext-getD, getD-take, getD-drop, length-take-le, drop-drop}
 use Rattle.mover.specs.declared.plan.Plan.{Plan}
-use Rattle.mover.specs.Private.{planKept, spotOf, placeOf, homeOf, planBytes, putAt, co0, co1, co2, co3, putNumber, planTotal, movedBy, homeEnd, placeEnd, partOf, placedAt, Within, Ready, Apart}
+use Rattle.mover.specs.Private.{planKept, spotOf, placeOf, homeOf, planBytes, putAt, co0, co1, co2, co3, putNumber, planTotal, movedBy, homeEnd, placeEnd, stretch, placedAt, InExtents, Ready, RunsApart}
 use Rattle.mover.proofs.Runs.{length-take-most, getD-sets-out}
 use Rattle.mover.proofs.Places.{place-most, home-most, apart-part}
 use Rattle.mover.proofs.Turns.{length-moved, length-bytes, spread-within, pick-same, run-same}
@@ -52,42 +52,42 @@ module _ (p : Plan) (a b : ℕ) where
   placed-home c0 c1 c2 c3 = omega arith
 
   placed-bytes : (m : List ℕ) (l c0 c1 c2 c3 : ℕ) → a + l ≤ length m → homeEnd p ≤ l
-      → planBytes (placedAt a b p) m c0 c1 c2 c3 ≡ planBytes p (partOf m a l) c0 c1 c2 c3
+      → planBytes (placedAt a b p) m c0 c1 c2 c3 ≡ planBytes p (stretch m a l) c0 c1 c2 c3
   unfolding planBytes planKept placedAt
   placed-bytes m l c0 c1 c2 c3 w e =
       pick-same (planKept p c0 c1 c2 c3) (replicate (p .size) 0)
       (λ k. rw (placed-home c0 c1 c2 c3) (run-within m a l (homeOf p c0 c1 c2 c3) (p .size) w (omega (arith, home-most p c0 c1 c2 c3 k))))
 
-  placed-put : (m x d y : List ℕ) (l c0 c1 c2 c3 : ℕ) → a + l ≤ length m → homeEnd p ≤ l → length x ≡ b → placeEnd p ≤ length d → Within p c0 c1 c2 c3
-      → putAt (placedAt a b p) m c0 c1 c2 c3 (x ++ (d ++ y)) ≡ x ++ (putAt p (partOf m a l) c0 c1 c2 c3 d ++ y)
+  placed-put : (m x d y : List ℕ) (l c0 c1 c2 c3 : ℕ) → a + l ≤ length m → homeEnd p ≤ l → length x ≡ b → placeEnd p ≤ length d → InExtents p c0 c1 c2 c3
+      → putAt (placedAt a b p) m c0 c1 c2 c3 (x ++ (d ++ y)) ≡ x ++ (putAt p (stretch m a l) c0 c1 c2 c3 d ++ y)
   unfolding putAt
   placed-put m x d y l c0 c1 c2 c3 w e g f i =
-      let z = length-bytes p (partOf m a l) c0 c1 c2 c3 in
+      let z = length-bytes p (stretch m a l) c0 c1 c2 c3 in
       rw (placed-place c0 c1 c2 c3, placed-bytes m l c0 c1 c2 c3 w e, ← g)
-      (sets-middle (planBytes p (partOf m a l) c0 c1 c2 c3) x d y (placeOf p c0 c1 c2 c3) (omega (arith, place-most p c0 c1 c2 c3 i)))
+      (sets-middle (planBytes p (stretch m a l) c0 c1 c2 c3) x d y (placeOf p c0 c1 c2 c3) (omega (arith, place-most p c0 c1 c2 c3 i)))
 
   module _ (h1 : 0 < p .d1 .extent) (h2 : 0 < p .d2 .extent) (h3 : 0 < p .d3 .extent) where
     placed-moved : (m x d y : List ℕ) (l from n : ℕ) → a + l ≤ length m → homeEnd p ≤ l → length x ≡ b → placeEnd p ≤ length d → from + n ≤ planTotal p
-        → movedBy (placedAt a b p) m from n (x ++ (d ++ y)) ≡ x ++ (movedBy p (partOf m a l) from n d ++ y)
+        → movedBy (placedAt a b p) m from n (x ++ (d ++ y)) ≡ x ++ (movedBy p (stretch m a l) from n d ++ y)
     unfolding movedBy putNumber placedAt
     placed-moved m x d y l from zero w e g f t = refl
     placed-moved m x d y l from (suc n) w e g f t =
         let q = from + n in
         rw (placed-moved m x d y l from n w e g f (omega arith))
-        (placed-put m x (movedBy p (partOf m a l) from n d) y l (co0 p q) (co1 p q) (co2 p q) (co3 p q) w e g
+        (placed-put m x (movedBy p (stretch m a l) from n d) y l (co0 p q) (co1 p q) (co2 p q) (co3 p q) w e g
         (rw length-moved f) (spread-within p h1 h2 h3 q (omega arith)))
 
     -- the move within a memory m, from its l bytes at a to its k bytes at b
     pub moved-within : (m : List ℕ) (l k from n : ℕ) → a + l ≤ length m → b + k ≤ length m → homeEnd p ≤ l → placeEnd p ≤ k → from + n ≤ planTotal p
-        → movedBy (placedAt a b p) m from n m ≡ sets m b (movedBy p (partOf m a l) from n (partOf m b k))
+        → movedBy (placedAt a b p) m from n m ≡ sets m b (movedBy p (stretch m a l) from n (stretch m b k))
     moved-within m l k from n wa wb e f t =
-        let len : length (partOf m b k) ≡ k = length-take-le k (drop b m) (simp length-drop (omega arith)) in
-        let whole : m ≡ take b m ++ (partOf m b k ++ drop (b + k) m) =
-        sym (ap (λ (r : List ℕ). take b m ++ r) (ap (λ (r : List ℕ). partOf m b k ++ r) (sym (drop-drop k b m)) ∙ take-append-drop k (drop b m)) ∙ take-append-drop b m)
+        let len : length (stretch m b k) ≡ k = length-take-le k (drop b m) (simp length-drop (omega arith)) in
+        let whole : m ≡ take b m ++ (stretch m b k ++ drop (b + k) m) =
+        sym (ap (λ (r : List ℕ). take b m ++ r) (ap (λ (r : List ℕ). stretch m b k ++ r) (sym (drop-drop k b m)) ∙ take-append-drop k (drop b m)) ∙ take-append-drop b m)
         in
         ap (λ (r : List ℕ). movedBy (placedAt a b p) m from n r) whole
-        ∙ placed-moved m (take b m) (partOf m b k) (drop (b + k) m) l from n wa e (length-take-le b m (omega arith)) (rw len f) t
-        ∙ sym (sets-eq (movedBy p (partOf m a l) from n (partOf m b k)) m b (rw (length-moved, len) (omega arith)) ∙ rw (length-moved, len, append-assoc))
+        ∙ placed-moved m (take b m) (stretch m b k) (drop (b + k) m) l from n wa e (length-take-le b m (omega arith)) (rw len f) t
+        ∙ sym (sets-eq (movedBy p (stretch m a l) from n (stretch m b k)) m b (rw (length-moved, len) (omega arith)) ∙ rw (length-moved, len, append-assoc))
 
   placed-homeEnd : homeEnd (placedAt a b p) ≡ a + homeEnd p
   unfolding homeEnd spotOf placedAt
@@ -98,8 +98,8 @@ module _ (p : Plan) (a b : ℕ) where
   placed-placeEnd = omega arith
 
   -- what a move between the parts asks, and that they are apart, is what the move within the memory asks
-  pub placed-ready : (m none : List ℕ) (l k : ℕ) → a + l ≤ length m → b + k ≤ length m → Apart Inside a (a + l) b (b + k)
-      → Ready Lent p (partOf m a l) (partOf m b k) → Ready Inside (placedAt a b p) none m
+  pub placed-ready : (m none : List ℕ) (l k : ℕ) → a + l ≤ length m → b + k ≤ length m → RunsApart Inside a (a + l) b (b + k)
+      → Ready Lent p (stretch m a l) (stretch m b k) → Ready Inside (placedAt a b p) none m
   unfolding placedAt
   placed-ready m none l k wa wb u r =
       let e = length-take-most l (drop a m) in
@@ -117,7 +117,7 @@ module _ (p : Plan) (a b : ℕ) where
         apart = apart-part Inside u (omega arith) (omega (arith, placed-homeEnd)) (omega arith) (omega (arith, placed-placeEnd));
       }
 
-  pub placed-fits : (m : List ℕ) (l k : ℕ) → a + l ≤ length m → b + k ≤ length m → Ready Lent p (partOf m a l) (partOf m b k)
+  pub placed-fits : (m : List ℕ) (l k : ℕ) → a + l ≤ length m → b + k ≤ length m → Ready Lent p (stretch m a l) (stretch m b k)
       → (a + p .home ≤ length m) × (b + p .base ≤ length m)
   unfolding homeEnd placeEnd spotOf
   placed-fits m l k wa wb r =
@@ -126,9 +126,9 @@ module _ (p : Plan) (a b : ℕ) where
       (omega (arith, length-take-most l (drop a m)), omega (arith, length-take-most k (drop b m)))
 
   -- what the engine leaves of the memory is what the move between the parts leaves of the destination part
-  pub placed-written : (m e : List ℕ) (l k from budget r : ℕ) → a + l ≤ length m → b + k ≤ length m → Ready Lent p (partOf m a l) (partOf m b k) → from ≤ planTotal p
+  pub placed-written : (m e : List ℕ) (l k from budget r : ℕ) → a + l ≤ length m → b + k ≤ length m → Ready Lent p (stretch m a l) (stretch m b k) → from ≤ planTotal p
       → r ≡ min budget (planTotal p - from) → e ≡ movedBy (placedAt a b p) m from r m
-      → e ≡ sets m b (movedBy p (partOf m a l) from r (partOf m b k))
+      → e ≡ sets m b (movedBy p (stretch m a l) from r (stretch m b k))
   placed-written m e l k from budget r wa wb g f n w =
       let s = g .span in
       let d = g .need in
@@ -138,12 +138,12 @@ module _ (p : Plan) (a b : ℕ) where
 
 -- what a step leaves of a memory: its own part is what was put there, a part that does not meet it is as it was, and what is put
 -- there next takes its place
-pub part-own : (m e : List ℕ) (b : ℕ) → b + length e ≤ length m → partOf (sets m b e) b (length e) ≡ e
+pub part-own : (m e : List ℕ) (b : ℕ) → b + length e ≤ length m → stretch (sets m b e) b (length e) ≡ e
 part-own m e b h =
     rw (sets-eq e m b h, append-assoc, drop-at (take b m) (e ++ drop (b + length e) m) b (length-take-le b m (omega arith)))
     (take-append-seam e (drop (b + length e) m))
 
-pub part-other : (m e : List ℕ) (b a l : ℕ) → (a + l ≤ b) ⊎ (b + length e ≤ a) → partOf (sets m b e) a l ≡ partOf m a l
+pub part-other : (m e : List ℕ) (b a l : ℕ) → (a + l ≤ b) ⊎ (b + length e ≤ a) → stretch (sets m b e) a l ≡ stretch m a l
 part-other m e b a l o =
     run-same (sets m b e) m a l (length-sets m b e)
     (λ k u v. getD-sets-out e m b k (⊎-elim (λ x. inl (omega arith)) (λ y. inr (omega arith)) o))

@@ -10,12 +10,12 @@ use borrow.Author.Tests.{leb-true, ltb-true}
 use lib.ListN.{length, take, drop, replicate}
 use lib.Seq.{sets}
 use lib.Dec.{leb, ltb}
-use Rattle.plane.proofs.Bools.{both-first, both-second}
+use Rattle.faults.proofs.Bools.{both-first, both-second}
 use Rattle.mover.specs.declared.plan.Axis.{Axis}
 use Rattle.mover.specs.declared.plan.Plan.{Plan}
 use Rattle.mover.specs.declared.engine.Origin.{Origin}
 use Rattle.mover.specs.declared.engine.Origin.the-variants.{Lent, Inside}
-use Rattle.mover.specs.Private.{axisKept, planKept, sum4, spotOf, placeOf, homeOf, planBytes, putAt, homeEnd, placeEnd, Apart, Ready, Within, sourceOf}
+use Rattle.mover.specs.Private.{axisKept, planKept, sum4, spotOf, placeOf, homeOf, planBytes, putAt, homeEnd, placeEnd, RunsApart, Ready, InExtents, sourceBytes}
 
 -- a spot grows with each of its counts
 pub spot-most : (b z : ℕ) {k0 m0 k1 m1 k2 m2 k3 m3 : ℕ} (t0 t1 t2 t3 : ℕ) → k0 ≤ m0 → k1 ≤ m1 → k2 ≤ m2 → k3 ≤ m3
@@ -76,7 +76,7 @@ module _ (p : Plan) (c0 c1 c2 c3 : ℕ) where
   unfolding placeOf
   place-least = spot-least (p .base) (p .size) c0 (p .d0 .stride) c1 (p .d1 .stride) c2 (p .d2 .stride) c3 (p .d3 .stride)
 
-  pub place-most : Within p c0 c1 c2 c3 → placeOf p c0 c1 c2 c3 + p .size ≤ placeEnd p
+  pub place-most : InExtents p c0 c1 c2 c3 → placeOf p c0 c1 c2 c3 + p .size ≤ placeEnd p
   unfolding placeOf placeEnd
   place-most w =
       let h0 : c0 ≤ p .d0 .extent - 1 = omega (arith, w .in0) in
@@ -113,7 +113,7 @@ module _ (p : Plan) (c0 c1 c2 c3 : ℕ) where
   put-pad s d k f g = g ∙ rw (k, f)
 
 -- parts of runs that are apart are apart
-pub apart-part : (o : Origin) {a a' b b' x x' y y' : ℕ} → Apart o a a' b b' → a ≤ x → x' ≤ a' → b ≤ y → y' ≤ b' → Apart o x x' y y'
+pub apart-part : (o : Origin) {a a' b b' x x' y y' : ℕ} → RunsApart o a a' b b' → a ≤ x → x' ≤ a' → b ≤ y → y' ≤ b' → RunsApart o x x' y y'
 apart-part Lent h p q r s = tt
 apart-part Inside h p q r s = ⊎-elim (λ u. inl (omega arith)) (λ v. inr (omega arith)) h
 
@@ -131,6 +131,6 @@ still-ready o p s d e h r =
       apart = r .apart;
     }
   where
-    span : (o : Origin) → homeEnd p ≤ length (sourceOf o s d) → homeEnd p ≤ length (sourceOf o s e)
+    span : (o : Origin) → homeEnd p ≤ length (sourceBytes o s d) → homeEnd p ≤ length (sourceBytes o s e)
     span Lent k = k
     span Inside k = rw h k

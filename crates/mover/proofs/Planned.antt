@@ -165,7 +165,7 @@ module _ {t : Tensor} (c : Config) (g : GoodSource t) where
   its : (z h b s : ℕ) → Widened z h b s (axisOf t c) (t .rank)
   its z h b s = widens z h b s (axisOf t c) (t .rank) (g .rank .0) (g .rank .1)
 
-  pub planned-size : planOf t c .size ≡ t .size
+  pub planned-size : planOf t c .size ≡ t .«element_size»
   unfolding planOf
   planned-size = refl
 
@@ -174,13 +174,13 @@ module _ {t : Tensor} (c : Config) (g : GoodSource t) where
   planned-total = its _ _ _ _ .all
 
   module _ (x : ℕ → ℕ) where
-    pub planned-place : placeOf (planOf t c) (front t x 0) (front t x 1) (front t x 2) (front t x 3) ≡ place t c x * t .size
+    pub planned-place : placeOf (planOf t c) (front t x 0) (front t x 1) (front t x 2) (front t x 3) ≡ place t c x * t .«element_size»
     unfolding planOf place
-    planned-place = its _ _ _ _ .place x ∙ sum-joined (t .rank) _ _ _ (t .size) (λ i _. sym (add-mul (at (c .«dst_offset») i) (x i) (at (dstStrides t c) i)))
+    planned-place = its _ _ _ _ .place x ∙ sum-joined (t .rank) _ _ _ (t .«element_size») (λ i _. sym (add-mul (at (c .«dst_offset») i) (x i) (at (dstStrides t c) i)))
 
-    pub planned-home : homeOf (planOf t c) (front t x 0) (front t x 1) (front t x 2) (front t x 3) ≡ sourcePlace t c x * t .size
+    pub planned-home : homeOf (planOf t c) (front t x 0) (front t x 1) (front t x 2) (front t x 3) ≡ sourcePlace t c x * t .«element_size»
     unfolding planOf sourcePlace
-    planned-home = its _ _ _ _ .home x ∙ sum-joined (t .rank) _ _ _ (t .size) (λ i _. stepped (at (c .offset) (dimOf c i)) (kOf c i (x i)) (at (c .step) (dimOf c i)) (at (srcStrides t) (dimOf c i)))
+    planned-home = its _ _ _ _ .home x ∙ sum-joined (t .rank) _ _ _ (t .«element_size») (λ i _. stepped (at (c .offset) (dimOf c i)) (kOf c i (x i)) (at (c .step) (dimOf c i)) (at (srcStrides t) (dimOf c i)))
 
     pub planned-kept : planKept (planOf t c) (front t x 0) (front t x 1) (front t x 2) (front t x 3) ≡ areKept t c x
     unfolding planOf areKept isKept axisKept
@@ -194,7 +194,7 @@ module _ {t : Tensor} (c : Config) (g : GoodSource t) where
     pub planned-coords : (q : ℕ) → q < total t c → Planned t c q
     unfolding planOf coordOf perStep total
     planned-coords q l =
-        let d = digits (t .size) (planOf t c .home) (planOf t c .base) (at (dstStrides t c) 0 * at (dstExtents t c) 0) (axisOf t c) q (t .rank) (g .rank .0) (g .rank .1) (λ i h. dst-extent k i (g .rank .1) h .0) l in
+        let d = digits (t .«element_size») (planOf t c .home) (planOf t c .base) (at (dstStrides t c) 0 * at (dstExtents t c) 0) (axisOf t c) q (t .rank) (g .rank .0) (g .rank .1) (λ i h. dst-extent k i (g .rank .1) h .0) l in
         record { at0 = d .at0; at1 = d .at1; at2 = d .at2; at3 = d .at3 }
 
     pub stored-planned : (src : List ℕ) (q : ℕ) (dst : List ℕ) → q < total t c → stored t c src q dst ≡ putNumber (planOf t c) src q dst
@@ -216,16 +216,16 @@ module _ {t : Tensor} (c : Config) (g : GoodSource t) where
     unfolding planOf
     planned-homeEnd =
         let l : ℕ → ℕ = λ i. count t c (dimOf c i) - 1 in
-        let e : homeEnd (planOf t c) ≡ (1 + sum (t .rank) (λ i. (at (c .offset) (dimOf c i) + l i * at (c .step) (dimOf c i)) * at (srcStrides t) (dimOf c i))) * t .size =
-        its _ _ _ _ .home-end ∙ ended _ (t .size) (sum-joined (t .rank) _ _ _ (t .size) (λ i _. stepped (at (c .offset) (dimOf c i)) (l i) (at (c .step) (dimOf c i)) (at (srcStrides t) (dimOf c i)))) in
+        let e : homeEnd (planOf t c) ≡ (1 + sum (t .rank) (λ i. (at (c .offset) (dimOf c i) + l i * at (c .step) (dimOf c i)) * at (srcStrides t) (dimOf c i))) * t .«element_size» =
+        its _ _ _ _ .home-end ∙ ended _ (t .«element_size») (sum-joined (t .rank) _ _ _ (t .«element_size») (λ i _. stepped (at (c .offset) (dimOf c i)) (l i) (at (c .step) (dimOf c i)) (at (srcStrides t) (dimOf c i)))) in
         rw e (home-fits k l (λ i h. omega arith))
 
     pub planned-placeEnd : placeEnd (planOf t c) ≤ need t c
     unfolding planOf place
     planned-placeEnd =
         let x : ℕ → ℕ = λ i. extentAt t c i - 1 in
-        let e : placeEnd (planOf t c) ≡ (1 + place t c x) * t .size =
-        its _ _ _ _ .place-end ∙ ended _ (t .size) (sum-joined (t .rank) _ _ _ (t .size) (λ i _. sym (add-mul (at (c .«dst_offset») i) (x i) (at (dstStrides t c) i)))) in
+        let e : placeEnd (planOf t c) ≡ (1 + place t c x) * t .«element_size» =
+        its _ _ _ _ .place-end ∙ ended _ (t .«element_size») (sum-joined (t .rank) _ _ _ (t .«element_size») (λ i _. sym (add-mul (at (c .«dst_offset») i) (x i) (at (dstStrides t c) i)))) in
         rw e (place-fits k x (λ i h. omega (arith, dst-extent k i (g .rank .1) h .0)))
 
     -- between two lent slices
@@ -236,7 +236,7 @@ module _ {t : Tensor} (c : Config) (g : GoodSource t) where
         wide-each (λ (a : Axis). 0 < a .extent) (t .rank) (lone t c) (axisOf t c) j (g .rank .1) h (omega arith)
         (λ i l. dst-extent k i (g .rank .1) l .0) in
         record {
-          sized = element-small (t .size) (g .element) .0;
+          sized = element-small (t .«element_size») (g .element) .0;
           some0 = some 0 (omega arith);
           some1 = some 1 (omega arith);
           some2 = some 2 (omega arith);

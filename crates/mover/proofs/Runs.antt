@@ -10,7 +10,7 @@ use lib.ListN.{length, getD, set, take, drop, replicate, length-take, length-dro
 use lib.Seq.{sets, take-suc, getD-drop, getD-set-other, length-take-le}
 use Rattle.mover.specs.declared.engine.Origin.{Origin}
 use Rattle.mover.specs.declared.engine.Origin.the-variants.{Lent, Inside}
-use Rattle.mover.specs.Private.{sourceOf}
+use Rattle.mover.specs.Private.{sourceBytes}
 
 pub sets-snoc : (l : List ℕ) (i : ℕ) (vs : List ℕ) (a : ℕ) → sets l i (vs ++ (a ∷ [])) ≡ set (sets l i vs) (i + length vs) a
 sets-snoc l i [] a = rw add-zero
@@ -51,6 +51,6 @@ copy-keeps d v at to size i h o =
     (⊎-elim (λ a. inl (omega arith)) (λ b. inr (omega (arith, length-take-most i v))) o)
 
 -- either source is as long as one of the two lists
-pub source-long : (o : Origin) (s d : List ℕ) → length (sourceOf o s d) ≤ length s + length d
+pub source-long : (o : Origin) (s d : List ℕ) → length (sourceBytes o s d) ≤ length s + length d
 source-long Lent s d = omega arith
 source-long Inside s d = omega arith

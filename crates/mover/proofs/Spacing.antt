@@ -11,7 +11,7 @@ use Rattle.plane.specs.Arrays.{at, sum}
 use Rattle.plane.specs.Planes.{resolved}
 use Rattle.plane.specs.Moves.{dstExtents, dstStrides}
 use Rattle.plane.proofs.Arrays.{firsts-at}
-use Rattle.plane.specs.Good.{GoodSource, GoodConfig, GoodPlace}
+use Rattle.plane.specs.Good.{GoodSource, GoodConfig, GoodDst}
 use Rattle.plane.proofs.Falling.{stride-positive, strides-fall}
 use Rattle.plane.proofs.Rules.{dst-extent}
 use Rattle.mover.specs.Element.{place}
@@ -33,12 +33,12 @@ module _ (t : Tensor) (c : Config) (x : ℕ → ℕ) (w : (i : ℕ) → i < t .r
   unfolding numberAt coordOf perStep
   numberAt-coord i h = number-digit (extentAt t c) x (t .rank) w i h
 
-module _ {t : Tensor} {c : Config} (g : GoodSource t) (k : GoodConfig t c) (p : GoodPlace t c) where
+module _ {t : Tensor} {c : Config} (g : GoodSource t) (k : GoodConfig t c) (p : GoodDst t c) where
   pub extent-some : (i : ℕ) → i < t .rank → 0 < extentAt t c i
   extent-some i h = dst-extent k i (g .rank .1) h .0
 
   stride-at : (i : ℕ) → i < t .rank → at (dstStrides t c) i ≡ resolved (t .rank) (at (dstExtents t c)) (at (c .«dst_stride»)) i
-  stride-at i h = firsts-at (t .rank) (resolved (t .rank) (at (dstExtents t c)) (at (c .«dst_stride»))) i (g .rank .1) h
+  stride-at i h = firsts-at 0 (t .rank) (resolved (t .rank) (at (dstExtents t c)) (at (c .«dst_stride»))) i (g .rank .1) h
 
   pub stride-some : (i : ℕ) → i < t .rank → 1 ≤ at (dstStrides t c) i
   stride-some i h = rw (stride-at i h) (stride-positive (t .rank) (at (dstExtents t c)) (at (c .«dst_stride»)) extent-some (p .strides) i h)
@@ -64,8 +64,8 @@ module _ {t : Tensor} {c : Config} (g : GoodSource t) (k : GoodConfig t c) (p : 
         spots-apart (extentAt t c) (at (dstStrides t c)) (t .rank) (g .rank .0) extent-some stride-some stride-falls q r l m,
       )
 
-  pub bytes-rise : (q r : ℕ) → q < r → r < total t c → place t c (coordOf t c q) * t .size + t .size ≤ place t c (coordOf t c r) * t .size
-  bytes-rise q r l m = rw suc-mul at (mul-le-mul-right (t .size) (places-rise q r l m))
+  pub bytes-rise : (q r : ℕ) → q < r → r < total t c → place t c (coordOf t c q) * t .«element_size» + t .«element_size» ≤ place t c (coordOf t c r) * t .«element_size»
+  bytes-rise q r l m = rw suc-mul at (mul-le-mul-right (t .«element_size») (places-rise q r l m))
 
   module _ (x y : ℕ → ℕ) (a : (i : ℕ) → i < t .rank → x i < extentAt t c i) (b : (i : ℕ) → i < t .rank → y i < extentAt t c i) where
     -- different coordinates have different numbers
@@ -74,7 +74,7 @@ module _ {t : Tensor} {c : Config} (g : GoodSource t) (k : GoodConfig t c) (p : 
         d (sym (numberAt-coord t c x a i h) ∙ ap (λ (q : ℕ). coordOf t c q i) e ∙ numberAt-coord t c y b i h)
 
     -- so their bytes do not overlap
-    pub bytes-apart : (i : ℕ) → i < t .rank → (x i ≡ y i → ⊥) → (place t c x * t .size + t .size ≤ place t c y * t .size) ⊎ (place t c y * t .size + t .size ≤ place t c x * t .size)
+    pub bytes-apart : (i : ℕ) → i < t .rank → (x i ≡ y i → ⊥) → (place t c x * t .«element_size» + t .«element_size» ≤ place t c y * t .«element_size») ⊎ (place t c y * t .«element_size» + t .«element_size» ≤ place t c x * t .«element_size»)
     bytes-apart i h d =
         let p = place-same t c (coordOf t c (numberAt t c x)) x (numberAt-coord t c x a) in
         let q = place-same t c (coordOf t c (numberAt t c y)) y (numberAt-coord t c y b) in

@@ -29,12 +29,12 @@ length-cond true z l = length-take-most z l
 length-cond false z l = rw length-replicate (omega arith)
 
 module _ (t : Tensor) (c : Config) (src : List ℕ) where
-  pub length-element : (x : ℕ → ℕ) → length (element t c src x) ≤ t .size
+  pub length-element : (x : ℕ → ℕ) → length (element t c src x) ≤ t .«element_size»
   unfolding element
-  length-element x = length-cond (areKept t c x) (t .size) (drop (sourcePlace t c x * t .size) src)
+  length-element x = length-cond (areKept t c x) (t .«element_size») (drop (sourcePlace t c x * t .«element_size») src)
 
   -- a byte that belongs to none of the elements is as it was
-  pub moved-elsewhere : (from n : ℕ) (dst : List ℕ) (k : ℕ) → ((q : ℕ) → q < n → (k < byteOf t c (from + q)) ⊎ (byteOf t c (from + q) + t .size ≤ k)) → getD (moved t c src from n dst) k 0 ≡ getD dst k 0
+  pub moved-elsewhere : (from n : ℕ) (dst : List ℕ) (k : ℕ) → ((q : ℕ) → q < n → (k < byteOf t c (from + q)) ⊎ (byteOf t c (from + q) + t .«element_size» ≤ k)) → getD (moved t c src from n dst) k 0 ≡ getD dst k 0
   unfolding moved stored
   moved-elsewhere from zero dst k h = refl
   moved-elsewhere from (suc n) dst k h =
@@ -45,8 +45,8 @@ module _ (t : Tensor) (c : Config) (src : List ℕ) where
       moved-elsewhere from n dst k (λ r g. h r (omega arith))
 
   -- every element moved has its bytes, where each ends before the next begins, and in the destination
-  module _ (rise : (q r : ℕ) → q < r → r < total t c → byteOf t c q + t .size ≤ byteOf t c r) where
-    pub moved-element : (from n : ℕ) (dst : List ℕ) (q i : ℕ) → ((r : ℕ) → r < total t c → byteOf t c r + t .size ≤ length dst) → from + n ≤ total t c → q < n → i < length (element t c src (coordOf t c (from + q))) →
+  module _ (rise : (q r : ℕ) → q < r → r < total t c → byteOf t c q + t .«element_size» ≤ byteOf t c r) where
+    pub moved-element : (from n : ℕ) (dst : List ℕ) (q i : ℕ) → ((r : ℕ) → r < total t c → byteOf t c r + t .«element_size» ≤ length dst) → from + n ≤ total t c → q < n → i < length (element t c src (coordOf t c (from + q))) →
         getD (moved t c src from n dst) (byteOf t c (from + q) + i) 0 ≡ getD (element t c src (coordOf t c (from + q))) i 0
     unfolding moved stored
     moved-element from zero dst q i e m l b = absurd (not-suc-le-zero l)

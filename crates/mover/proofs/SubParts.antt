@@ -13,7 +13,7 @@ use Rattle.plane.specs.declared.Tensor.{Tensor}
 use Rattle.plane.specs.declared.SubConfig.{SubConfig}
 use Rattle.plane.specs.declared.SubTensor.{SubTensor}
 use Rattle.plane.specs.Helpers.{subFault, subOf, subByte, noSub, subAnswer, subTensorOf}
-use Rattle.plane.proofs.Faults.{unless-fault, unless-none}
+use Rattle.faults.proofs.Faults.{if-fault, if-none}
 use Rattle.plane.proofs.SubAnswers.{sub-status}
 use Rattle.plane.proofs.SubTensors.{sub-taken, sub-given, sub-fits}
 use Rattle.mover.specs.SubPart.{subPart}
@@ -28,9 +28,9 @@ part-by t s src =
     let f = subFault t s (length src) in
     let x : SubTensor = record { status = 0; dim = 0; tensor = subOf t s; byte = subByte t s } in
     elim (ℕ-discrete (f .status) 0) [
-      | yes z ↦ unless-none f [] (drop (subByte t s) src) z ∙ ap (λ (r : SubTensor). partBy r src) (sym (unless-none f (noSub f) x z))
-      | no z ↦ unless-fault f [] (drop (subByte t s) src) z ∙ sym (unless-fault f [] (drop 0 src) z) ∙
-          ap (λ (r : SubTensor). partBy r src) (sym (unless-fault f (noSub f) x z))
+      | yes z ↦ if-none f [] (drop (subByte t s) src) z ∙ ap (λ (r : SubTensor). partBy r src) (sym (if-none f (noSub f) x z))
+      | no z ↦ if-fault f [] (drop (subByte t s) src) z ∙ sym (if-fault f [] (drop 0 src) z) ∙
+          ap (λ (r : SubTensor). partBy r src) (sym (if-fault f (noSub f) x z))
     ]
 
 pub part-here : (t : Tensor) (s : SubConfig) (src : List ℕ) → subTensorOf t s (length src) .status ≡ 0 → subPart t s src ≡ drop (subTensorOf t s (length src) .byte) src
@@ -42,7 +42,7 @@ module _ (t : Tensor) (s : SubConfig) (src : List ℕ) {r : SubTensor} (e : r �
   part-refused h =
       let z : length src - length src ≡ 0 = omega arith in
       ap (λ (k : ℕ). take k (drop (length src) src)) z ∙
-      sym (unless-fault (subFault t s (length src)) [] (drop (subByte t s) src)
+      sym (if-fault (subFault t s (length src)) [] (drop (subByte t s) src)
       (λ y. h (ap (λ (x : SubTensor). x .status) e ∙ sub-status (subFault t s (length src)) (subOf t s) (subByte t s) ∙ y)))
 
   module _ (z : r .status ≡ 0) where
@@ -61,4 +61,4 @@ module _ (t : Tensor) (s : SubConfig) (src : List ℕ) {r : SubTensor} (e : r �
         let b = ap (λ (x : SubTensor). x .byte) (e ∙ sub-given t s (length src) its-status) in
         ap (λ (k : ℕ). take k (drop (r .byte) src)) (sym (length-drop (r .byte) src)) ∙ take-length (drop (r .byte) src) ∙
         ap (λ (k : ℕ). drop k src) b ∙
-        sym (unless-none (subFault t s (length src)) [] (drop (subByte t s) src) (sub-taken t s (length src) its-status))
+        sym (if-none (subFault t s (length src)) [] (drop (subByte t s) src) (sub-taken t s (length src) its-status))

@@ -12,7 +12,7 @@ use lib.Seq.{length-sets, ext-getD, getD-take, getD-drop}
 use Rattle.mover.specs.declared.plan.Plan.{Plan}
 use Rattle.mover.specs.declared.engine.Origin.{Origin}
 use Rattle.mover.specs.declared.engine.Origin.the-variants.{Lent, Inside}
-use Rattle.mover.specs.Private.{sourceOf, planKept, placeOf, homeOf, planBytes, putAt, co0, co1, co2, co3, putNumber, planTotal, movedBy, placeEnd, Ready, Within}
+use Rattle.mover.specs.Private.{sourceBytes, planKept, placeOf, homeOf, planBytes, putAt, co0, co1, co2, co3, putNumber, planTotal, movedBy, placeEnd, Ready, InExtents}
 use Rattle.mover.proofs.Runs.{getD-sets-out, length-take-most}
 use Rattle.mover.proofs.Places.{place-least, place-most, home-least, home-most, still-ready}
 
@@ -48,7 +48,7 @@ pub record Coords (p : Plan) (q c0 c1 c2 c3 : ℕ) : Type 0 where
   pub at3 : co3 p q ≡ c3
 
 module _ (p : Plan) where
-  pub coords : {q c0 c1 c2 c3 : ℕ} → numberOf p c0 c1 c2 c3 ≡ q → Within p c0 c1 c2 c3 → Coords p q c0 c1 c2 c3
+  pub coords : {q c0 c1 c2 c3 : ℕ} → numberOf p c0 c1 c2 c3 ≡ q → InExtents p c0 c1 c2 c3 → Coords p q c0 c1 c2 c3
   coords {q} {c0} {c1} {c2} {c3} e w =
       let q3 = (c0 * p .d1 .extent + c1) * p .d2 .extent + c2 in
       let q2 = c0 * p .d1 .extent + c1 in
@@ -59,12 +59,12 @@ module _ (p : Plan) where
         at3 = rw (← e, digits-mod q3 (w .in3));
       }
 
-  pub put-number : (s d : List ℕ) {q c0 c1 c2 c3 : ℕ} → numberOf p c0 c1 c2 c3 ≡ q → Within p c0 c1 c2 c3
+  pub put-number : (s d : List ℕ) {q c0 c1 c2 c3 : ℕ} → numberOf p c0 c1 c2 c3 ≡ q → InExtents p c0 c1 c2 c3
       → putNumber p s q d ≡ putAt p s c0 c1 c2 c3 d
   unfolding putNumber
   put-number s d e w = let c = coords e w in rw (c .at0, c .at1, c .at2, c .at3)
 
-  pub number-lt : {c0 c1 c2 c3 : ℕ} → Within p c0 c1 c2 c3 → numberOf p c0 c1 c2 c3 < planTotal p
+  pub number-lt : {c0 c1 c2 c3 : ℕ} → InExtents p c0 c1 c2 c3 → numberOf p c0 c1 c2 c3 < planTotal p
   unfolding planTotal
   number-lt w = digits-lt (digits-lt (digits-lt (w .in0) (w .in1)) (w .in2)) (w .in3)
 
@@ -86,7 +86,7 @@ module _ (p : Plan) (h1 : 0 < p .d1 .extent) (h2 : 0 < p .d2 .extent) (h3 : 0 < 
       }
 
   pub spread-within : (q : ℕ) → q < planTotal p
-      → Within p (co0 p q) (co1 p q) (co2 p q) (co3 p q)
+      → InExtents p (co0 p q) (co1 p q) (co2 p q) (co3 p q)
   unfolding planTotal
   spread-within q h =
       let s = spread q in
@@ -108,7 +108,7 @@ module _ (p : Plan) (s : List ℕ) where
   unfolding planBytes
   length-bytes c0 c1 c2 c3 = length-pick (planKept p c0 c1 c2 c3) (p .size) (drop (homeOf p c0 c1 c2 c3) s)
 
-  pub put-out : {c0 c1 c2 c3 : ℕ} (d : List ℕ) (k : ℕ) → Within p c0 c1 c2 c3 → (k < p .base) ⊎ (placeEnd p ≤ k)
+  pub put-out : {c0 c1 c2 c3 : ℕ} (d : List ℕ) (k : ℕ) → InExtents p c0 c1 c2 c3 → (k < p .base) ⊎ (placeEnd p ≤ k)
       → getD (putAt p s c0 c1 c2 c3 d) k 0 ≡ getD d k 0
   unfolding putAt
   put-out {c0} {c1} {c2} {c3} d k w h =
@@ -143,7 +143,7 @@ pick-same false z f = refl
 
 -- while elements are written, the source's are as they were
 pub source-same : (o : Origin) (p : Plan) (s d : List ℕ) (from n c0 c1 c2 c3 : ℕ) → Ready o p s d → from + n ≤ planTotal p
-    → planBytes p (sourceOf o s (movedBy p (sourceOf o s d) from n d)) c0 c1 c2 c3 ≡ planBytes p (sourceOf o s d) c0 c1 c2 c3
+    → planBytes p (sourceBytes o s (movedBy p (sourceBytes o s d) from n d)) c0 c1 c2 c3 ≡ planBytes p (sourceBytes o s d) c0 c1 c2 c3
 unfolding planBytes
 source-same Lent p s d from n c0 c1 c2 c3 r m = refl
 source-same Inside p s d from n c0 c1 c2 c3 r m =
@@ -167,7 +167,7 @@ pub record At (o : Origin) (p : Plan) (s d₀ : List ℕ) (from budget : ℕ) (d
   pub fund : left ≤ budget
   pub number : numberOf p c0 c1 c2 c3 ≡ from + (budget - left)
   pub most : from + (budget - left) ≤ planTotal p
-  pub bytes : d ≡ movedBy p (sourceOf o s d₀) from (budget - left) d₀
+  pub bytes : d ≡ movedBy p (sourceBytes o s d₀) from (budget - left) d₀
 
 -- from one state of the loops to another, `At` is kept, whatever destination it began with
 abbrev pub Keeps : Origin → Plan → List ℕ → ℕ → ℕ → List ℕ → ℕ → ℕ → ℕ → ℕ → ℕ → List ℕ → ℕ → ℕ → ℕ → ℕ → ℕ → Type 0
@@ -179,7 +179,7 @@ pub record Over (o : Origin) (p : Plan) (s d₀ : List ℕ) (from budget : ℕ) 
   pub fund : left ≤ budget
   pub kept : length d ≡ length d₀
   pub count : budget - left ≡ min budget (planTotal p - from)
-  pub bytes : d ≡ movedBy p (sourceOf o s d₀) from (budget - left) d₀
+  pub bytes : d ≡ movedBy p (sourceBytes o s d₀) from (budget - left) d₀
 
 -- the end of a run of e is the start of the next
 carry : (a c e : ℕ) → (a + (c + 1)) * e + 0 ≡ (a + c) * e + e
@@ -206,7 +206,7 @@ start o p s d from budget r h =
 
 module _ {o : Origin} {p : Plan} {s d₀ : List ℕ} {from budget : ℕ} {d : List ℕ} {c0 c1 c2 c3 left : ℕ} (a : At o p s d₀ from budget d c0 c1 c2 c3 left) where
   pub at-length : length d ≡ length d₀
-  at-length = ap length (a .bytes) ∙ length-moved p (sourceOf o s d₀) from (budget - left) d₀
+  at-length = ap length (a .bytes) ∙ length-moved p (sourceBytes o s d₀) from (budget - left) d₀
 
   pub at-ready : Ready o p s d₀ → Ready o p s d
   at-ready r = still-ready o p s d₀ d at-length r
@@ -214,8 +214,8 @@ module _ {o : Origin} {p : Plan} {s d₀ : List ℕ} {from budget : ℕ} {d : Li
   pub at-was-ready : Ready o p s d → Ready o p s d₀
   at-was-ready r = still-ready o p s d d₀ (sym at-length) r
 
-  pub turn : {e : List ℕ} → Ready o p s d → Within p c0 c1 c2 c3 → (left ≡ 0 → ⊥)
-      → e ≡ putAt p (sourceOf o s d) c0 c1 c2 c3 d → At o p s d₀ from budget e c0 c1 c2 (c3 + 1) (left - 1)
+  pub turn : {e : List ℕ} → Ready o p s d → InExtents p c0 c1 c2 c3 → (left ≡ 0 → ⊥)
+      → e ≡ putAt p (sourceBytes o s d) c0 c1 c2 c3 d → At o p s d₀ from budget e c0 c1 c2 (c3 + 1) (left - 1)
   unfolding movedBy putAt
   turn {e} r w f g =
       let n = number-lt p w in
@@ -231,7 +231,7 @@ module _ {o : Origin} {p : Plan} {s d₀ : List ℕ} {from budget : ℕ} {d : Li
         bytes =
             g
             ∙ rw (a .bytes, source-same o p s d₀ from (budget - left) c0 c1 c2 c3 (at-was-ready r) (a .most), m)
-            (sym (put-number p (sourceOf o s d₀) (movedBy p (sourceOf o s d₀) from (budget - left) d₀) (a .number) w));
+            (sym (put-number p (sourceBytes o s d₀) (movedBy p (sourceBytes o s d₀) from (budget - left) d₀) (a .number) w));
       }
 
   -- a row, a plane and a block are done

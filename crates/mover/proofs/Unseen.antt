@@ -12,13 +12,13 @@ use Rattle.plane.specs.declared.Tensor.{Tensor}
 use Rattle.plane.specs.declared.Config.{Config}
 use Rattle.plane.specs.declared.SubConfig.{SubConfig}
 use Rattle.plane.specs.declared.SubTensor.{SubTensor}
-use Rattle.plane.specs.declared.Fault.{Fault}
+use Rattle.faults.specs.declared.Fault.{Fault}
 use Rattle.plane.specs.Arrays.{at, sum, product, every}
-use Rattle.plane.specs.Faults.{when, unless}
+use Rattle.faults.specs.Faults.{when, ifFault}
 use Rattle.plane.specs.Planes.{srcStrides}
 use Rattle.plane.specs.Moves.{count, dstStrides, moveFault}
 use Rattle.plane.proofs.Arrays.{sum-same, every-same}
-use Rattle.plane.proofs.Faults.{status, or-path, unless-fault, unless-none}
+use Rattle.faults.proofs.Faults.{status, or-path, if-fault, if-none}
 use Rattle.plane.specs.Good.{GoodConfig}
 use Rattle.plane.proofs.Good.{move-good}
 use Rattle.plane.specs.Unseen.{SameTensor, SameConfig, SameSub}
@@ -33,10 +33,10 @@ use Rattle.mover.proofs.Laws.{job-good}
 use Rattle.mover.proofs.SubParts.{partBy, part-by}
 
 -- equal faults, and equal values where there is none
-same-unless : {A : Type 0} (f f′ : Fault) (y x x′ : A) → f ≡ f′ → (f .status ≡ 0 → x ≡ x′) → unless f y x ≡ unless f′ y x′
-same-unless f f′ y x x′ e h = elim (ℕ-discrete (f .status) 0) [
-  | yes z ↦ unless-none f y x z ∙ h z ∙ sym (unless-none f′ y x′ (sym (status e) ∙ z))
-  | no z ↦ unless-fault f y x z ∙ sym (unless-fault f′ y x′ (λ w. z (status e ∙ w)))
+same-ifFault : {A : Type 0} (f f′ : Fault) (y x x′ : A) → f ≡ f′ → (f .status ≡ 0 → x ≡ x′) → ifFault f y x ≡ ifFault f′ y x′
+same-ifFault f f′ y x x′ e h = elim (ℕ-discrete (f .status) 0) [
+  | yes z ↦ if-none f y x z ∙ h z ∙ sym (if-none f′ y x′ (sym (status e) ∙ z))
+  | no z ↦ if-fault f y x z ∙ sym (if-fault f′ y x′ (λ w. z (status e ∙ w)))
 ]
 
 -- ---- the move
@@ -73,7 +73,7 @@ module _ (t t′ : Tensor) (c c′ : Config) (a : SameTensor t t′) (b : SameCo
     same-element : (src : List ℕ) (x : ℕ → ℕ) → element t c src x ≡ element t′ c′ src x
     unfolding element
     same-element src x =
-        λ i. cond (same-kept x i) (take (a .size i) (drop (same-source x i * a .size i) src)) (replicate (a .size i) 0)
+        λ i. cond (same-kept x i) (take (a .element i) (drop (same-source x i * a .element i) src)) (replicate (a .element i) 0)
 
     -- it goes to the same place
     same-place : (x : ℕ → ℕ) → place t c x ≡ place t′ c′ x
@@ -94,7 +94,7 @@ module _ (t t′ : Tensor) (c c′ : Config) (a : SameTensor t t′) (b : SameCo
 
     same-stored : (src : List ℕ) (q : ℕ) (dst : List ℕ) → stored t c src q dst ≡ stored t′ c′ src q dst
     unfolding stored
-    same-stored src q dst = rw (same-coord q, same-place (coordOf t′ c′ q), same-element src (coordOf t′ c′ q), a .size)
+    same-stored src q dst = rw (same-coord q, same-place (coordOf t′ c′ q), same-element src (coordOf t′ c′ q), a .element)
 
     -- any stretch of elements
     pub moved-unseen : (src : List ℕ) (from n : ℕ) (dst : List ℕ) → moved t c src from n dst ≡ moved t′ c′ src from n dst
@@ -107,7 +107,7 @@ module _ (t t′ : Tensor) (c c′ : Config) (a : SameTensor t t′) (b : SameCo
   pub move-unseen : (src dst : List ℕ) → moveMemory t c src dst ≡ moveMemory t′ c′ src dst
   unfolding moveMemory
   move-unseen src dst =
-      same-unless (moveFault t c (length src) (length dst)) _ dst _ _ (fault-unseen t t′ a c c′ b (length src) (length dst))
+      same-ifFault (moveFault t c (length src) (length dst)) _ dst _ _ (fault-unseen t t′ a c c′ b (length src) (length dst))
       (λ z.
       let g = move-good t c (length src) (length dst) z .config in
       moved-unseen g src 0 (total t c) dst ∙ ap (λ (n : ℕ). moved t′ c′ src 0 n dst) (total-unseen g))
@@ -146,7 +146,7 @@ module _ (j j′ : Job) (s : SameJob j j′) where
   unfolding verdictOf
   job-unseen n =
       let e = job-fault-unseen n in
-      let w = same-unless (jobFault n j) (jobFault n j′) 0 (totalOf j) (totalOf j′) e (same-total n) in
+      let w = same-ifFault (jobFault n j) (jobFault n j′) 0 (totalOf j) (totalOf j′) e (same-total n) in
       λ i. record { status = e i .status; dim = e i .dim; total = w i }
 
   -- a stretch of it: the answer and the memory
@@ -156,9 +156,9 @@ module _ (j j′ : Job) (s : SameJob j j′) where
       let e = job-fault-unseen (length m) in
       let count : jobFault (length m) j .status ≡ 0 → further j from budget ≡ further j′ from budget =
       λ z. ap (λ (x : ℕ). min budget (x - from)) (same-total (length m) z) in
-      let w = same-unless (jobFault (length m) j) (jobFault (length m) j′) 0 (further j from budget) (further j′ from budget) e count in (
+      let w = same-ifFault (jobFault (length m) j) (jobFault (length m) j′) 0 (further j from budget) (further j′ from budget) e count in (
         λ i. record { status = e i .status; dim = e i .dim; count = w i },
-        same-unless (jobFault (length m) j) (jobFault (length m) j′) m _ _ e
+        same-ifFault (jobFault (length m) j) (jobFault (length m) j′) m _ _ e
             (λ z. same-advanced (length m) z from (further j from budget) m ∙ ap (λ (k : ℕ). advancedBy j′ from k m) (count z)),
       )
 

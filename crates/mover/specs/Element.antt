@@ -7,7 +7,7 @@ use lib.ListN.{take, drop, replicate}
 use Rattle.plane.specs.declared.Tensor.{Tensor}
 use Rattle.plane.specs.declared.Config.{Config}
 use Rattle.plane.specs.Arrays.{at, sum, every}
-use Rattle.plane.specs.Planes.{srcStrides}
+use Rattle.plane.specs.Planes.{sourceAt}
 use Rattle.plane.specs.Moves.{count, dstStrides}
 
 abbrev pub dimOf : Config → ℕ → ℕ
@@ -28,8 +28,7 @@ areKept t c x = every (t .rank) (λ i. isKept t c i (x i))
 -- the source element at offset + k x step in each dimension, in elements
 unfoldable pub sourcePlace : Tensor → Config → (ℕ → ℕ) → ℕ
 sourcePlace t c x =
-    sum (t .rank)
-    (λ i. (at (c .offset) (dimOf c i) + kOf c i (x i) * at (c .step) (dimOf c i)) * at (srcStrides t) (dimOf c i))
+    sum (t .rank) (λ i. sourceAt t (dimOf c i) (at (c .offset) (dimOf c i) + kOf c i (x i) * at (c .step) (dimOf c i)))
 
 -- the place of the destination element: the sum of (destination offset + c) x stride, in elements
 unfoldable pub place : Tensor → Config → (ℕ → ℕ) → ℕ
@@ -38,4 +37,4 @@ place t c x = sum (t .rank) (λ i. (at (c .«dst_offset») i + x i) * at (dstStr
 -- its bytes: the source element's, else all 0
 unfoldable pub element : Tensor → Config → List ℕ → (ℕ → ℕ) → List ℕ
 element t c src x =
-    cond (areKept t c x) (take (t .size) (drop (sourcePlace t c x * t .size) src)) (replicate (t .size) 0)
+    cond (areKept t c x) (take (t .«element_size») (drop (sourcePlace t c x * t .«element_size») src)) (replicate (t .«element_size») 0)

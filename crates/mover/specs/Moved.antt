@@ -6,7 +6,7 @@ use lib.Seq.{sets}
 use Rattle.plane.specs.declared.Tensor.{Tensor}
 use Rattle.plane.specs.declared.Config.{Config}
 use Rattle.plane.specs.Arrays.{at, product}
-use Rattle.plane.specs.Faults.{unless}
+use Rattle.faults.specs.Faults.{ifFault}
 use Rattle.plane.specs.Moves.{dstExtents, moveFault}
 use Rattle.mover.specs.Element.{place, element}
 
@@ -27,7 +27,7 @@ coordOf t c q i = q / perStep t c i % extentAt t c i
 
 -- the destination dst with element number q stored. (`sets dst b e` is dst with the bytes from b on replaced by e)
 unfoldable pub stored : Tensor → Config → List ℕ → ℕ → List ℕ → List ℕ
-stored t c src q dst = sets dst (place t c (coordOf t c q) * t .size) (element t c src (coordOf t c q))
+stored t c src q dst = sets dst (place t c (coordOf t c q) * t .«element_size») (element t c src (coordOf t c q))
 
 -- the destination with the n elements from number `from` on stored, in order
 unfoldable pub moved : Tensor → Config → List ℕ → ℕ → ℕ → List ℕ → List ℕ
@@ -37,4 +37,4 @@ moved t c src from (suc n) dst = stored t c src (from + n) (moved t c src from n
 -- the destination after a move: a refused one changes nothing
 unfoldable pub moveMemory : Tensor → Config → List ℕ → List ℕ → List ℕ
 moveMemory t c src dst =
-    unless (moveFault t c (length src) (length dst)) dst (moved t c src 0 (total t c) dst)
+    ifFault (moveFault t c (length src) (length dst)) dst (moved t c src 0 (total t c) dst)

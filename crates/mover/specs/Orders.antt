@@ -2,7 +2,7 @@
 use Prim.Native.Nat.{ℕ}
 use mathlib.Core.Bool.{_||_}
 use mathlib.Core.List.{List, [], _∷_, _++_}
-use Rattle.plane.specs.Exactness.{Rule, whole}
+use Rattle.faults.specs.Exactness.{Rule, whole}
 use Rattle.plane.specs.Orders.{moveRules}
 use Rattle.mover.specs.declared.Job.{Job}
 use Rattle.mover.specs.Within.{leaves, meets}

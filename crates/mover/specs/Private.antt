@@ -10,7 +10,7 @@ use Rattle.plane.specs.declared.Tensor.{Tensor}
 use Rattle.plane.specs.declared.Config.{Config}
 use Rattle.plane.specs.declared.Answer.{Answer}
 use Rattle.plane.specs.Arrays.{at, sum}
-use Rattle.plane.specs.Planes.{srcStrides}
+use Rattle.plane.specs.Planes.{srcStrides, sourceAt}
 use Rattle.plane.specs.Moves.{count, dstExtents, dstStrides}
 use Rattle.mover.specs.declared.plan.Axis.{Axis}
 use Rattle.mover.specs.declared.plan.Plan.{Plan}
@@ -40,9 +40,9 @@ axisAt t c j = cond (ltb j (4 - t .rank)) (lone t c) (axisOf t c (j - (4 - t .ra
 
 unfoldable pub planOf : Tensor → Config → Plan
 planOf t c = record {
-  size = t .size;
-  home = sum (t .rank) (λ i. at (c .offset) (dimOf c i) * at (srcStrides t) (dimOf c i)) * t .size;
-  base = sum (t .rank) (λ i. at (c .«dst_offset») i * at (dstStrides t c) i) * t .size;
+  size = t .«element_size»;
+  home = sum (t .rank) (λ i. sourceAt t (dimOf c i) (at (c .offset) (dimOf c i))) * t .«element_size»;
+  base = sum (t .rank) (λ i. at (c .«dst_offset») i * at (dstStrides t c) i) * t .«element_size»;
   d0 = axisAt t c 0;
   d1 = axisAt t c 1;
   d2 = axisAt t c 2;
@@ -66,19 +66,19 @@ loneMade a = record { extent = 1; pre = 0; count = 1; jump = 0; stride = at (a .
 -- what acceptance tells of the configuration c and the answer a
 pub record Fit (c : Config) (a : Answer) : Type 0 where
   pub rank : a .rank ≤ 4
-  pub size : a .size ≤ 4
+  pub element : a .«element_size» ≤ 4
   pub dim : (i : ℕ) → i < a .rank → dimOf c i < 4
   pub offset : (i : ℕ) → i < a .rank → at (c .offset) (dimOf c i) ≤ 65535
-  pub place : (i : ℕ) → i < a .rank → at (c .«dst_offset») i ≤ 65535
+  pub dst-offset : (i : ℕ) → i < a .rank → at (c .«dst_offset») i ≤ 65535
   pub extent : (i : ℕ) → i < a .rank → at (a .extent) i ≤ 65535
   pub padding : (i : ℕ) → i < a .rank → at (c .pre) (dimOf c i) + at (c .post) (dimOf c i) ≤ at (a .extent) i
 
 -- ---- what the engine writes, by four coordinates
 
 -- the source's bytes: those lent for reading, or the destination's own as they were
-abbrev pub sourceOf : Origin → List ℕ → List ℕ → List ℕ
-sourceOf Lent s d = s
-sourceOf Inside s d = d
+abbrev pub sourceBytes : Origin → List ℕ → List ℕ → List ℕ
+sourceBytes Lent s d = s
+sourceBytes Inside s d = d
 
 -- a destination coordinate c has k = c - pre; it is kept if k is from 0 to count - 1
 unfoldable pub axisKept : Axis → ℕ → Bool
@@ -142,8 +142,8 @@ movedBy p s from (suc n) d = putNumber p s (from + n) (movedBy p s from n d)
 -- ---- a move within one memory
 
 -- the l bytes of m from a on. (`sets m b e` is m with the bytes from b on replaced by e.)
-abbrev pub partOf : List ℕ → ℕ → ℕ → List ℕ
-partOf m a l = take l (drop a m)
+abbrev pub stretch : List ℕ → ℕ → ℕ → List ℕ
+stretch m a l = take l (drop a m)
 
 -- the plan of a move between parts of one memory that start at a and b
 unfoldable pub placedAt : ℕ → ℕ → Plan → Plan
@@ -176,9 +176,9 @@ placeEnd p =
     + p .size
 
 -- two runs of bytes, a to a' and b to b', of one memory share none
-abbrev pub Apart : Origin → ℕ → ℕ → ℕ → ℕ → Type 0
-Apart Lent a a' b b' = Unit
-Apart Inside a a' b b' = (a' ≤ b) ⊎ (b' ≤ a)
+abbrev pub RunsApart : Origin → ℕ → ℕ → ℕ → ℕ → Type 0
+RunsApart Lent a a' b b' = Unit
+RunsApart Inside a a' b b' = (a' ≤ b) ⊎ (b' ≤ a)
 
 pub record Ready (o : Origin) (p : Plan) (s d : List ℕ) : Type 0 where
   pub sized : 0 < p .size
@@ -186,11 +186,11 @@ pub record Ready (o : Origin) (p : Plan) (s d : List ℕ) : Type 0 where
   pub some1 : 0 < p .d1 .extent
   pub some2 : 0 < p .d2 .extent
   pub some3 : 0 < p .d3 .extent
-  pub span : homeEnd p ≤ length (sourceOf o s d)
+  pub span : homeEnd p ≤ length (sourceBytes o s d)
   pub need : placeEnd p ≤ length d
-  pub apart : Apart o (p .home) (homeEnd p) (p .base) (placeEnd p)
+  pub apart : RunsApart o (p .home) (homeEnd p) (p .base) (placeEnd p)
 
-pub record Within (p : Plan) (c0 c1 c2 c3 : ℕ) : Type 0 where
+pub record InExtents (p : Plan) (c0 c1 c2 c3 : ℕ) : Type 0 where
   pub in0 : c0 < p .d0 .extent
   pub in1 : c1 < p .d1 .extent
   pub in2 : c2 < p .d2 .extent

@@ -5,8 +5,8 @@ use mathlib.Core.List.{List}
 use lib.Dec.{ltb}
 use lib.ListN.{length, take, drop}
 use lib.Seq.{sets}
-use Rattle.plane.specs.declared.Fault.{Fault}
-use Rattle.plane.specs.Faults.{when, _orElse_, unless}
+use Rattle.faults.specs.declared.Fault.{Fault}
+use Rattle.faults.specs.Faults.{when, _orElse_, ifFault}
 use Rattle.plane.specs.Moves.{moveFault}
 use Rattle.mover.specs.declared.Part.{Part}
 use Rattle.mover.specs.declared.Job.{Job}
@@ -36,7 +36,7 @@ unfoldable pub verdictOf : ℕ → Job → Verdict
 verdictOf n j = record {
   status = jobFault n j .status;
   dim = jobFault n j .dim;
-  total = unless (jobFault n j) 0 (totalOf j);
+  total = ifFault (jobFault n j) 0 (totalOf j);
 }
 
 -- the bytes of a part
@@ -56,9 +56,9 @@ unfoldable pub advanceOf : Job → ℕ → ℕ → List ℕ → Advanced
 advanceOf j from budget m = record {
   status = jobFault (length m) j .status;
   dim = jobFault (length m) j .dim;
-  count = unless (jobFault (length m) j) 0 (further j from budget);
+  count = ifFault (jobFault (length m) j) 0 (further j from budget);
 }
 
 unfoldable pub advanceMemory : Job → ℕ → ℕ → List ℕ → List ℕ
 advanceMemory j from budget m =
-    unless (jobFault (length m) j) m (advancedBy j from (further j from budget) m)
+    ifFault (jobFault (length m) j) m (advancedBy j from (further j from budget) m)

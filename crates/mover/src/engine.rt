@@ -8,7 +8,7 @@ ghost use mathlib.Core.Bool.{true};
 ghost use Prim.Native.Nat.{_+_, _-_, _^_, min, _≤_, _<_};
 ghost use lib.ListN.{length, take, drop, replicate};
 ghost use lib.Seq.{sets};
-ghost use Rattle.mover.specs.Private.{sourceOf, axisKept, planKept, spotOf, placeOf, homeOf, putAt, planTotal, movedBy, Within, Ready, Apart};
+ghost use Rattle.mover.specs.Private.{sourceBytes, axisKept, planKept, spotOf, placeOf, homeOf, putAt, planTotal, movedBy, InExtents, Ready, RunsApart};
 ghost use Rattle.mover.specs.Within.{bytesOf};
 
 // Where the source's bytes stand: in the slice lent for reading, or in the destination's own.
@@ -116,10 +116,10 @@ fn clear(dst: &mut [u8], to: usize, size: usize)
 
 // The bytes of the source's element at `at`, to `to`.
 fn copy(src: &[u8], dst: &mut [u8], origin: Origin, at: usize, to: usize, size: usize)
-    requires { ⌜ at + size ≤ length (sourceOf origin (now src) (now dst)) ⌝ }
+    requires { ⌜ at + size ≤ length (sourceBytes origin (now src) (now dst)) ⌝ }
     requires { ⌜ to + size ≤ length (now dst) ⌝ }
-    requires { ⌜ Apart origin at (at + size) to (to + size) ⌝ }
-    ensures { λ _. ⌜ now (dst .exit) ≡ sets (now (dst .entry)) to (take size (drop at (sourceOf origin (now (src .entry)) (now (dst .entry))))) ⌝ }
+    requires { ⌜ RunsApart origin at (at + size) to (to + size) ⌝ }
+    ensures { λ _. ⌜ now (dst .exit) ≡ sets (now (dst .entry)) to (take size (drop at (sourceBytes origin (now (src .entry)) (now (dst .entry))))) ⌝ }
 {
     let mut i = 0;
     while i < size {
@@ -144,8 +144,8 @@ fn element(
     c3: usize,
 )
     requires { ⌜ Ready origin plan (now src) (now dst) ⌝ }
-    requires { ⌜ Within plan c0 c1 c2 c3 ⌝ }
-    ensures { λ _. ⌜ now (dst .exit) ≡ putAt plan (sourceOf origin (now (src .entry)) (now (dst .entry))) c0 c1 c2 c3 (now (dst .entry)) ⌝ }
+    requires { ⌜ InExtents plan c0 c1 c2 c3 ⌝ }
+    ensures { λ _. ⌜ now (dst .exit) ≡ putAt plan (sourceBytes origin (now (src .entry)) (now (dst .entry))) c0 c1 c2 c3 (now (dst .entry)) ⌝ }
 {
     let to = place(plan, c0, c1, c2, c3);
     if all_kept(plan, c0, c1, c2, c3) {
@@ -168,7 +168,7 @@ pub(crate) fn advance(
     requires { ⌜ Ready origin plan (now src) (now dst) ⌝ }
     requires { ⌜ from ≤ planTotal plan ⌝ }
     ensures counted { λ r. ⌜ r ≡ min budget (planTotal plan - from) ⌝ }
-    ensures written { λ r. ⌜ now (dst .exit) ≡ movedBy plan (sourceOf origin (now (src .entry)) (now (dst .entry))) from r (now (dst .entry)) ⌝ }
+    ensures written { λ r. ⌜ now (dst .exit) ≡ movedBy plan (sourceBytes origin (now (src .entry)) (now (dst .entry))) from r (now (dst .entry)) ⌝ }
 {
     let e0 = plan.d0.extent;
     let e1 = plan.d1.extent;
@@ -212,7 +212,7 @@ pub(crate) fn advance_within(
     budget: usize,
 ) -> usize
     requires { ⌜ (source .start + source .length ≤ length (now mem)) × (destination .start + destination .length ≤ length (now mem)) ⌝ }
-    requires { ⌜ Apart Origin.Inside (source .start) (source .start + source .length) (destination .start) (destination .start + destination .length) ⌝ }
+    requires { ⌜ RunsApart Origin.Inside (source .start) (source .start + source .length) (destination .start) (destination .start + destination .length) ⌝ }
     requires { ⌜ Ready Origin.Lent plan (bytesOf source (now mem)) (bytesOf destination (now mem)) ⌝ }
     requires { ⌜ from ≤ planTotal plan ⌝ }
     ensures counted { λ r. ⌜ r ≡ min budget (planTotal plan - from) ⌝ }

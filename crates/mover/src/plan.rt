@@ -41,27 +41,27 @@ fn times(a: u32, b: u32) -> usize
 // The byte of the first kept element in the source, whose resolved strides these are.
 fn home_of(c: Config, a: Answer, strides: [u32; 4]) -> usize
     requires { ⌜ Fit c a ⌝ }
-    ensures { λ r. ⌜ r ≡ sum (a .rank) (λ i. at (c .offset) (dimOf c i) * at strides (dimOf c i)) * a .size ⌝ }
+    ensures { λ r. ⌜ r ≡ sum (a .rank) (λ i. at (c .offset) (dimOf c i) * at strides (dimOf c i)) * a .«element_size» ⌝ }
 {
     let mut total: usize = 0;
     for i in 0..a.rank {
         let d = c.perm[i as usize] as usize;
         total += times(c.offset[d], strides[d]);
     }
-    total * (a.size as usize)
+    total * (a.element_size as usize)
 }
 
 // The byte of the first element in the destination.
 fn base_of(c: Config, a: Answer) -> usize
     requires { ⌜ Fit c a ⌝ }
-    ensures { λ r. ⌜ r ≡ sum (a .rank) (λ i. at (c .«dst_offset») i * at (a .stride) i) * a .size ⌝ }
+    ensures { λ r. ⌜ r ≡ sum (a .rank) (λ i. at (c .«dst_offset») i * at (a .stride) i) * a .«element_size» ⌝ }
 {
     let mut total: usize = 0;
     for i in 0..a.rank {
         let k = i as usize;
         total += times(c.dst_offset[k], a.stride[k]);
     }
-    total * (a.size as usize)
+    total * (a.element_size as usize)
 }
 
 // Destination dimension i. What the padding leaves of its extent is kept.
@@ -118,7 +118,7 @@ pub(crate) fn plan_of(t: Tensor, c: Config, a: Answer) -> Plan
     let s = plane::source_of(t);
     let strides = s.stride;
     Plan {
-        size: a.size as usize,
+        size: a.element_size as usize,
         home: home_of(c, a, strides),
         base: base_of(c, a),
         d0: axis_at(c, a, strides, 0),

@@ -9,7 +9,7 @@ use crate::plan::total;
 use plane::Answer;
 use plane::Fault;
 ghost use mathlib.Core.Path.{_≡_};
-ghost use Rattle.plane.specs.Faults.{fault};
+ghost use Rattle.faults.specs.Faults.{fault};
 ghost use Rattle.plane.specs.Moves.{refused, answerOf};
 ghost use Rattle.mover.specs.Within.{leaves, meets, jobFault, verdictOf, advanceOf, advanceMemory};
 

@@ -11,8 +11,8 @@ use mathlib.Core.List.{List, [], _∷_}
 use borrow.Author.Tests.{lt-ltb, le-ltb}
 use lib.ListN.{getD, set, length, length-set}
 use lib.Seq.{ext-getD, getD-set-same, getD-set-other}
-use Rattle.plane.specs.Arrays.{at, below, table, firsts, zeros, sum, product, some, every, howMany}
-use Rattle.plane.proofs.Bools.{either-clear, either-first, either-second, neither, both-first, both-second, both, not-first, not-second}
+use Rattle.plane.specs.Arrays.{at, below, table, firstsOr, zeros, sum, product, some, every, howMany}
+use Rattle.faults.proofs.Bools.{either-clear, either-first, either-second, neither, both-first, both-second, both, not-first, not-second}
 
 -- ---- four entries
 
@@ -23,78 +23,83 @@ table-at f z (suc (suc zero)) h = refl
 table-at f z (suc (suc (suc zero))) h = refl
 table-at f z (suc (suc (suc (suc d)))) h = absurd (not-suc-le-zero (le-of-suc-le-suc (le-of-suc-le-suc (le-of-suc-le-suc (le-of-suc-le-suc h)))))
 
+-- whatever the entries are: z stands at and past the rank
+module _ {A : Type 0} (z : A) where
+  pub same-at : (d : ℕ) → getD (table (λ _. z)) d z ≡ z
+  same-at zero = refl
+  same-at (suc zero) = refl
+  same-at (suc (suc zero)) = refl
+  same-at (suc (suc (suc zero))) = refl
+  same-at (suc (suc (suc (suc d)))) = refl
+
+  -- a list of four is the table of its entries
+  pub is-table : (l : List A) (f : ℕ → A) → length l ≡ 4 → ((d : ℕ) → d < 4 → getD l d z ≡ f d) → l ≡ table f
+  is-table l f e h = ext-getD z l (table f) e (λ d q. let r : d < 4 = omega arith in h d r ∙ sym (table-at f z d r))
+
+  pub below-lt : (n d : ℕ) (v : A) → d < n → below z n d v ≡ v
+  below-lt n d v h = simp (lt-ltb d n h)
+
+  pub below-past : (n d : ℕ) (v : A) → n ≤ d → below z n d v ≡ z
+  below-past n d v h = simp (le-ltb d n h)
+
+  pub below-same : (n d : ℕ) {v w : A} → (d < n → v ≡ w) → below z n d v ≡ below z n d w
+  below-same n d {v} {w} h = elim (decLt d n) [
+    | yes q ↦ ap (below z n d) (h q)
+    | no q ↦ below-past n d v (omega arith) ∙ sym (below-past n d w (omega arith))
+  ]
+
+  pub firsts-at : (n : ℕ) (f : ℕ → A) (d : ℕ) → n ≤ 4 → d < n → getD (firstsOr z n f) d z ≡ f d
+  unfolding firstsOr
+  firsts-at n f d m h = table-at (λ d. below z n d (f d)) z d (omega arith) ∙ below-lt n d (f d) h
+
+  -- the same entries below n: the same array
+  pub firsts-same : (n : ℕ) (f g : ℕ → A) → ((k : ℕ) → k < n → f k ≡ g k) → firstsOr z n f ≡ firstsOr z n g
+  unfolding firstsOr
+  firsts-same n f g h = λ i. one 0 i ∷ one 1 i ∷ one 2 i ∷ one 3 i ∷ []
+    where
+      one : (d : ℕ) → below z n d (f d) ≡ below z n d (g d)
+      one d = below-same n d (h d)
+
 pub zeros-at : (d : ℕ) → at zeros d ≡ 0
-zeros-at zero = refl
-zeros-at (suc zero) = refl
-zeros-at (suc (suc zero)) = refl
-zeros-at (suc (suc (suc zero))) = refl
-zeros-at (suc (suc (suc (suc d)))) = refl
+zeros-at d = same-at 0 d
 
--- a list of four is the table of its entries
-pub is-table : (l : List ℕ) (f : ℕ → ℕ) → length l ≡ 4 → ((d : ℕ) → d < 4 → at l d ≡ f d) → l ≡ table f
-is-table l f e h = ext-getD 0 l (table f) e (λ d q. let r : d < 4 = omega arith in h d r ∙ sym (table-at f 0 d r))
+-- ---- a loop that fills an array up to n: where it stands at d, the entries below d are there and the rest is z
 
-pub below-lt : (n d v : ℕ) → d < n → below n d v ≡ v
-below-lt n d v h = simp (lt-ltb d n h)
-
-pub below-past : (n d v : ℕ) → n ≤ d → below n d v ≡ 0
-below-past n d v h = simp (le-ltb d n h)
-
-pub firsts-at : (n : ℕ) (f : ℕ → ℕ) (d : ℕ) → n ≤ 4 → d < n → at (firsts n f) d ≡ f d
-unfolding firsts
-firsts-at n f d m h = table-at (λ d. below n d (f d)) 0 d (omega arith) ∙ below-lt n d (f d) h
-
-pub below-same : (n d : ℕ) {v w : ℕ} → (d < n → v ≡ w) → below n d v ≡ below n d w
-below-same n d {v} {w} h = elim (decLt d n) [
-  | yes q ↦ ap (below n d) (h q)
-  | no q ↦ below-past n d v (omega arith) ∙ sym (below-past n d w (omega arith))
-]
-
--- the same entries below n: the same array
-pub firsts-same : (n : ℕ) (f g : ℕ → ℕ) → ((k : ℕ) → k < n → f k ≡ g k) → firsts n f ≡ firsts n g
-unfolding firsts
-firsts-same n f g h = λ i. one 0 i ∷ one 1 i ∷ one 2 i ∷ one 3 i ∷ []
-  where
-    one : (d : ℕ) → below n d (f d) ≡ below n d (g d)
-    one d = below-same n d (h d)
-
--- ---- a loop that fills an array up to n: where it stands at d, the entries below d are there and the rest is 0
-
-pub record Filled (n : ℕ) (f : ℕ → ℕ) (out : List ℕ) (d : ℕ) : Type 0 where
+pub record Filled {A : Type 0} (z : A) (n : ℕ) (f : ℕ → A) (out : List A) (d : ℕ) : Type 0 where
   pub within : d ≤ n
   pub long : length out ≡ 4
-  pub entries : (j : ℕ) → at out j ≡ below d j (f j)
+  pub entries : (j : ℕ) → getD out j z ≡ below z d j (f j)
 
-module _ {n : ℕ} {f : ℕ → ℕ} where
-  pub filled-start : Filled n f zeros 0
+module _ {A : Type 0} {z : A} {n : ℕ} {f : ℕ → A} where
+  pub filled-start : Filled z n f (table (λ _. z)) 0
   filled-start =
-      record { within = omega arith; long = refl; entries = λ j. zeros-at j ∙ sym (below-past 0 j (f j) (omega arith)) }
+      record { within = omega arith; long = refl; entries = λ j. same-at z j ∙ sym (below-past z 0 j (f j) (omega arith)) }
 
-  module _ {out : List ℕ} {d : ℕ} where
-    pub filled-more : {v : ℕ} → n ≤ 4 → Filled n f out d → d < n → v ≡ f d → Filled n f (set out d v) (d + 1)
+  module _ {out : List A} {d : ℕ} where
+    pub filled-more : {v : A} → n ≤ 4 → Filled z n f out d → d < n → v ≡ f d → Filled z n f (set out d v) (d + 1)
     filled-more {v} m w h e = let l = w .long in record {
       within = omega arith;
       long = length-set out d v ∙ l;
       entries = λ j. elim (ℕ-discrete j d) [
-        | yes q ↦ subst (λ (k : ℕ). at (set out d v) k ≡ below (d + 1) k (f k)) (sym q)
-            (getD-set-same out d v 0 (omega arith) ∙ e ∙ sym (below-lt (d + 1) d (f d) (omega arith)))
-        | no q ↦ getD-set-other out d j v 0 q ∙ w .entries j ∙ elim (decLt j d) [
-          | yes r ↦ below-lt d j (f j) r ∙ sym (below-lt (d + 1) j (f j) (omega arith))
-          | no r ↦ below-past d j (f j) (omega arith) ∙ sym (below-past (d + 1) j (f j) (omega arith))
+        | yes q ↦ subst (λ (k : ℕ). getD (set out d v) k z ≡ below z (d + 1) k (f k)) (sym q)
+            (getD-set-same out d v z (omega arith) ∙ e ∙ sym (below-lt z (d + 1) d (f d) (omega arith)))
+        | no q ↦ getD-set-other out d j v z q ∙ w .entries j ∙ elim (decLt j d) [
+          | yes r ↦ below-lt z d j (f j) r ∙ sym (below-lt z (d + 1) j (f j) (omega arith))
+          | no r ↦ below-past z d j (f j) (omega arith) ∙ sym (below-past z (d + 1) j (f j) (omega arith))
         ]
       ];
     }
 
-    pub filled-end : Filled n f out d → n ≤ d → out ≡ firsts n f
-    unfolding firsts
+    pub filled-end : Filled z n f out d → n ≤ d → out ≡ firstsOr z n f
+    unfolding firstsOr
     filled-end w h =
         let l = w .within in
         let q : d ≡ n = omega arith in
-        is-table out (λ k. below n k (f k)) (w .long) (λ j r. w .entries j ∙ ap (λ (m : ℕ). below m j (f j)) q)
+        is-table z out (λ k. below z n k (f k)) (w .long) (λ j r. w .entries j ∙ ap (λ (m : ℕ). below z m j (f j)) q)
 
-pub filled-same : {n : ℕ} {f g : ℕ → ℕ} {out : List ℕ} {d : ℕ} → ((k : ℕ) → k < d → f k ≡ g k) → Filled n f out d → Filled n g out d
-filled-same {d = d} h w =
-    record { within = w .within; long = w .long; entries = λ j. w .entries j ∙ below-same d j (h j) }
+pub filled-same : {A : Type 0} {z : A} {n : ℕ} {f g : ℕ → A} {out : List A} {d : ℕ} → ((k : ℕ) → k < d → f k ≡ g k) → Filled z n f out d → Filled z n g out d
+filled-same {z = z} {d = d} h w =
+    record { within = w .within; long = w .long; entries = λ j. w .entries j ∙ below-same z d j (h j) }
 
 -- ---- sums, products, counts
 

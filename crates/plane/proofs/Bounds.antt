@@ -13,9 +13,9 @@ use Rattle.plane.specs.declared.Config.{Config}
 use Rattle.plane.specs.Arrays.{at, sum, product, or0}
 use Rattle.plane.specs.Planes.{elementSize, shapeAt, strideAt, inner, resolved, srcStrides, span}
 use Rattle.plane.specs.Moves.{dstExtents, dstStrides, need}
-use Rattle.plane.proofs.Bools.{either-cases}
+use Rattle.faults.proofs.Bools.{either-cases}
 use Rattle.plane.proofs.Arrays.{firsts-at}
-use Rattle.plane.specs.Good.{GoodStrides, GoodSource, GoodConfig, GoodPlace}
+use Rattle.plane.specs.Good.{GoodStrides, GoodSource, GoodConfig, GoodDst}
 use Rattle.plane.proofs.Rules.{dst-extent}
 
 pub sum-most : (n : ℕ) (f : ℕ → ℕ) (m : ℕ) → ((d : ℕ) → d < n → f d ≤ m) → sum n f ≤ n * m
@@ -76,19 +76,19 @@ inner-fits n shape stride g h (suc k) l =
 pub span-fits : (t : Tensor) → GoodSource t → span t < 2 ^ 64
 unfolding span
 span-fits t g =
-    box-fits (t .rank) _ (t .size) (g .rank .1) (element-small (t .size) (g .element) .1)
+    box-fits (t .rank) _ (t .«element_size») (g .rank .1) (element-small (t .«element_size») (g .element) .1)
     (λ d h.
-    let e = firsts-at (t .rank) (resolved (t .rank) (shapeAt t) (strideAt t)) d (g .rank .1) h in
+    let e = firsts-at 0 (t .rank) (resolved (t .rank) (shapeAt t) (strideAt t)) d (g .rank .1) h in
     let s : shapeAt t d - 1 ≤ 131070 = omega (arith, g .shape d h .1) in
     let m : at (srcStrides t) d ≤ 2147483647 = rw e (g .strides .most d h) in
     mul-le-mul s m)
 
-pub need-fits : (t : Tensor) (c : Config) → GoodSource t → GoodConfig t c → GoodPlace t c → need t c < 2 ^ 64
+pub need-fits : (t : Tensor) (c : Config) → GoodSource t → GoodConfig t c → GoodDst t c → need t c < 2 ^ 64
 unfolding need
 need-fits t c g k p =
-    box-fits (t .rank) _ (t .size) (g .rank .1) (element-small (t .size) (g .element) .1)
+    box-fits (t .rank) _ (t .«element_size») (g .rank .1) (element-small (t .«element_size») (g .element) .1)
     (λ i h.
-    let e = firsts-at (t .rank) (resolved (t .rank) (at (dstExtents t c)) (at (c .«dst_stride»))) i (g .rank .1) h in
+    let e = firsts-at 0 (t .rank) (resolved (t .rank) (at (dstExtents t c)) (at (c .«dst_stride»))) i (g .rank .1) h in
     let s : at (c .«dst_offset») i + at (dstExtents t c) i - 1 ≤ 131070 = omega (arith, p .offset i h .1, dst-extent k i (g .rank .1) h .1) in
     let m : at (dstStrides t c) i ≤ 2147483647 = rw e (p .strides .most i h) in
     mul-le-mul s m)

@@ -8,12 +8,12 @@ use borrow.Author.Tests.{le-leb, lt-leb}
 use lib.Dec.{leb}
 use Rattle.plane.specs.declared.Tensor.{Tensor}
 use Rattle.plane.specs.declared.Count.{Count}
-use Rattle.plane.specs.declared.Fault.{Fault}
+use Rattle.faults.specs.declared.Fault.{Fault}
 use Rattle.plane.specs.Arrays.{product}
-use Rattle.plane.specs.Faults.{fault}
+use Rattle.faults.specs.Faults.{fault}
 use Rattle.plane.specs.Helpers.{elements, countFault, noCount, countAnswer, countOf}
 use Rattle.plane.specs.Private.{productOf}
-use Rattle.plane.proofs.Faults.{is-fault, when-bad, when-good, unless-fault, unless-none}
+use Rattle.faults.proofs.Faults.{is-fault, when-bad, when-good, if-fault, if-none}
 
 -- factors of 1 and more make a product no smaller
 pub product-grows : (n k : ℕ) (f : ℕ → ℕ) → ((j : ℕ) → j < n → 0 < f j) → k ≤ n → product k f ≤ product n f
@@ -31,11 +31,11 @@ product-grows (suc n) k f p h =
 
 pub count-refused : (f : Fault) (x : ℕ) {r : Count} → (f .status ≡ 0 → ⊥) → r ≡ noCount f → r ≡ countAnswer f x
 unfolding countAnswer
-count-refused f x h e = e ∙ sym (unless-fault f (noCount f) (record { status = 0; dim = 0; count = x }) h)
+count-refused f x h e = e ∙ sym (if-fault f (noCount f) (record { status = 0; dim = 0; count = x }) h)
 
 pub count-given : (f : Fault) (x : ℕ) → f .status ≡ 0 → record { status = 0; dim = 0; count = x } ≡ countAnswer f x
 unfolding countAnswer
-count-given f x h = sym (unless-none f (noCount f) (record { status = 0; dim = 0; count = x }) h)
+count-given f x h = sym (if-none f (noCount f) (record { status = 0; dim = 0; count = x }) h)
 
 -- the code refuses with f, which the rules give
 pub counts-refused : (t : Tensor) (start : ℕ) {f : Fault} {r : Count} → countFault t start ≡ f → (f .status ≡ 0 → ⊥) → r ≡ noCount f → r ≡ countOf t start

@@ -1,7 +1,8 @@
--- Each public call asks nothing of its caller, and no two differing outcomes satisfy its contract (`specs/Decided.antt`). `Pre` and
+-- Each public call asks nothing of its caller, and no two differing outcomes satisfy its contract (`faults/specs/Decided.antt`). `Pre` and
 -- `Post` are that contract as the checker reads it off the source. Assumes nothing.
-use mathlib.Core.Path.{_≡_, sym, _∙_}
-use Rattle.plane.specs.Decided.{Decided}
+use mathlib.Core.Path.{sym, _∙_}
+use Rattle.faults.specs.Decided.{Decided}
+use Rattle.faults.proofs.Deciding.{by-equation}
 use Rattle.plane.proofs.verdict.room.Reads as room
 use Rattle.plane.proofs.verdict.judge.Reads as judge
 use Rattle.plane.proofs.tensors.source_of.Reads as source-of
@@ -20,14 +21,6 @@ use Rattle.plane.proofs.Config.with_dst_stride.Reads as with-dst-stride
 use Rattle.plane.proofs.Config.with_perm.Reads as with-perm
 use Rattle.plane.proofs.Config.with_pre.Reads as with-pre
 use Rattle.plane.proofs.Config.with_post.Reads as with-post
-
--- a contract that says what the result is
-pub by-equation : {K : Type 0} {A R E : K → Type 0} {f : (κ : K) → A κ → R κ} → Decided {E = E} (λ κ a. Unit) (λ κ a x s. x ≡ f κ a)
-by-equation = record { free = λ κ a. tt; one = λ κ a x y s t p q. p ∙ sym q }
-
--- and what is left of what was lent
-pub by-first : {K : Type 0} {A R E : K → Type 0} {f : (κ : K) → A κ → R κ} {rest : (κ : K) → A κ → R κ → E κ → Type 0} → Decided (λ κ a. Unit) (λ κ a x s. (x ≡ f κ a) × rest κ a x s)
-by-first = record { free = λ κ a. tt; one = λ κ a x y s t p q. p .0 ∙ sym (q .0) }
 
 pub room-decided : Decided room.Pre room.Post
 room-decided = by-equation

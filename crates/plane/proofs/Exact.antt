@@ -11,21 +11,21 @@ use lib.ListN.{drop}
 use Rattle.plane.specs.declared.Tensor.{Tensor}
 use Rattle.plane.specs.declared.Config.{Config}
 use Rattle.plane.specs.declared.SubConfig.{SubConfig}
-use Rattle.plane.specs.declared.Fault.{Fault}
+use Rattle.faults.specs.declared.Fault.{Fault}
 use Rattle.plane.specs.declared.Answer.{Answer}
 use Rattle.plane.specs.declared.Count.{Count}
 use Rattle.plane.specs.declared.SubTensor.{SubTensor}
 use Rattle.plane.specs.Arrays.{at, zeros}
-use Rattle.plane.specs.Faults.{fault, when, _orElse_}
+use Rattle.faults.specs.Faults.{fault, when, _orElse_}
 use Rattle.plane.specs.Planes.{shapeAt, strideAt, badStrideAt, srcStrides, span, sourceFault, sourceOf}
-use Rattle.plane.specs.Moves.{extent, dstStrides, need, badExtent, badDstOffset, configFault, placeFault, moveFault, roomFault, refused, answerOf, judgeOf, roomOf}
+use Rattle.plane.specs.Moves.{extent, dstStrides, need, badExtent, badDstOffset, configFault, dstFault, moveFault, roomFault, refused, answerOf, judgeOf, roomOf}
 use Rattle.plane.specs.Helpers.{elements, countFault, noCount, countAnswer, countOf, rankFault, subFault, subOf, subByte, noSub, subAnswer, subTensorOf}
-use Rattle.plane.specs.Exactness.{whole, fromFirst, fromLast, Exact}
-use Rattle.plane.specs.Orders.{sourceRules, configRules, placeRules, moveRules, roomRules, countRules, subRules}
-use Rattle.plane.proofs.Faults.{status, or-path, or-none, or-found, or-assoc, spared, when-zero, unless-fault, unless-none}
+use Rattle.faults.specs.Exactness.{whole, fromFirst, fromLast, Exact}
+use Rattle.plane.specs.Orders.{sourceRules, configRules, dstRules, moveRules, roomRules, countRules, subRules}
+use Rattle.faults.proofs.Faults.{status, or-path, or-none, or-found, or-assoc, spared, when-zero, if-fault, if-none}
 use Rattle.plane.proofs.Rules.{answer-refused, answer-given, answer-status}
 use Rattle.plane.proofs.SubAnswers.{sub-status}
-use Rattle.plane.proofs.Chains.{Positive, chain, exact, never-given, or-last, whole-is, join, one-chain}
+use Rattle.faults.proofs.Chains.{Positive, chain, exact, never-given, or-last, whole-is, join, one-chain}
 
 -- ---- the calls are held to their lists
 
@@ -39,8 +39,8 @@ unfolding configFault chain
 config-chain t c =
     or-path refl (or-path refl (or-path refl (or-path refl (sym (or-last (fromFirst 10 (t .rank) (λ d. badExtent (extent t c d))) (omega arith))))))
 
-place-chain : (t : Tensor) (c : Config) → placeFault t c ≡ chain (placeRules t c)
-unfolding placeFault chain
+place-chain : (t : Tensor) (c : Config) → dstFault t c ≡ chain (dstRules t c)
+unfolding dstFault chain
 place-chain t c =
     or-path refl (sym (or-last (fromFirst 12 (t .rank) (λ i. badDstOffset (at (dstStrides t c) i) (at (c .«dst_offset») i))) (omega arith)))
 
@@ -49,14 +49,14 @@ unfolding moveFault
 move-chain t c srcLen dstLen =
     let room = whole 13 (ltb dstLen (need t c)) ∷ [] in
     let long = whole 5 (ltb srcLen (span t)) ∷ [] in
-    join (sourceRules t) (long ++ configRules t c ++ placeRules t c ++ room) (source-chain t)
-    (join long (configRules t c ++ placeRules t c ++ room) (one-chain 5 _ (omega arith))
-    (join (configRules t c) (placeRules t c ++ room) (config-chain t c) (join (placeRules t c) room (place-chain t c) (one-chain 13 _ (omega arith)))))
+    join (sourceRules t) (long ++ configRules t c ++ dstRules t c ++ room) (source-chain t)
+    (join long (configRules t c ++ dstRules t c ++ room) (one-chain 5 _ (omega arith))
+    (join (configRules t c) (dstRules t c ++ room) (config-chain t c) (join (dstRules t c) room (place-chain t c) (one-chain 13 _ (omega arith)))))
 
 room-chain : (t : Tensor) (c : Config) → roomFault t c ≡ chain (roomRules t c)
 unfolding roomFault
 room-chain t c =
-    join (sourceRules t) (configRules t c ++ placeRules t c) (source-chain t) (join (configRules t c) (placeRules t c) (config-chain t c) (place-chain t c))
+    join (sourceRules t) (configRules t c ++ dstRules t c) (source-chain t) (join (configRules t c) (dstRules t c) (config-chain t c) (place-chain t c))
 
 count-chain : (t : Tensor) (start : ℕ) → countFault t start ≡ chain (countRules t start)
 unfolding countFault chain
@@ -95,17 +95,17 @@ zeros-besides t c f h =
 count-status : (f : Fault) (x : ℕ) → countAnswer f x .status ≡ f .status
 unfolding countAnswer
 count-status f x = elim (ℕ-discrete (f .status) 0) [
-  | yes z ↦ ap (λ (c : Count). c .status) (unless-none f (noCount f) (record { status = 0; dim = 0; count = x }) z) ∙ sym z
-  | no z ↦ ap (λ (c : Count). c .status) (unless-fault f (noCount f) (record { status = 0; dim = 0; count = x }) z)
+  | yes z ↦ ap (λ (c : Count). c .status) (if-none f (noCount f) (record { status = 0; dim = 0; count = x }) z) ∙ sym z
+  | no z ↦ ap (λ (c : Count). c .status) (if-fault f (noCount f) (record { status = 0; dim = 0; count = x }) z)
 ]
 
 count-dim : (f : Fault) (x : ℕ) → (f .status ≡ 0 → ⊥) → countAnswer f x .dim ≡ f .dim
 unfolding countAnswer
-count-dim f x z = ap (λ (c : Count). c .dim) (unless-fault f (noCount f) (record { status = 0; dim = 0; count = x }) z)
+count-dim f x z = ap (λ (c : Count). c .dim) (if-fault f (noCount f) (record { status = 0; dim = 0; count = x }) z)
 
 sub-dim : (f : Fault) (t : Tensor) (x : ℕ) → (f .status ≡ 0 → ⊥) → subAnswer f t x .dim ≡ f .dim
 unfolding subAnswer
-sub-dim f t x z = ap (λ (s : SubTensor). s .dim) (unless-fault f (noSub f) (record { status = 0; dim = 0; tensor = t; byte = x }) z)
+sub-dim f t x z = ap (λ (s : SubTensor). s .dim) (if-fault f (noSub f) (record { status = 0; dim = 0; tensor = t; byte = x }) z)
 
 -- ---- the theorems: what each call that refuses answers is exact, and besides number and dimension it is zeros
 
@@ -117,8 +117,8 @@ module _ (t : Tensor) where
   pub source-zeros : (sourceOf t .fault .status ≡ 0 → ⊥) → sourceOf t ≡ record { fault = sourceOf t .fault; stride = zeros; span = 0 }
   unfolding sourceOf
   source-zeros h =
-      let l = unless-fault (sourceFault t) zeros (srcStrides t) h in
-      let s = unless-fault (sourceFault t) 0 (span t) h in
+      let l = if-fault (sourceFault t) zeros (srcStrides t) h in
+      let s = if-fault (sourceFault t) 0 (span t) h in
       λ i. record { fault = sourceFault t; stride = l i; span = s i }
 
 module _ (t : Tensor) (c : Config) where
@@ -142,7 +142,7 @@ module _ (t : Tensor) (c : Config) where
   unfolding roomOf
   room-zeros h =
       let a = zeros-besides t c (roomFault t c) h in
-      let s = unless-fault (roomFault t c) 0 (span t) (λ z. h (answer-status _ t c ∙ z)) in
+      let s = if-fault (roomFault t c) 0 (span t) (λ z. h (answer-status _ t c ∙ z)) in
       λ i. record { answer = a i; span = s i }
 
   -- a room question never gives 5 or 13
@@ -157,7 +157,7 @@ module _ (t : Tensor) (c : Config) where
   unfolding judgeOf roomOf moveFault roomFault
   room-is-judge srcLen dstLen p q =
       let last = when 13 0 (ltb dstLen (need t c)) in
-      let none-5 = spared 5 0 (ltb srcLen (span t)) (configFault t c orElse placeFault t c orElse last) (le-ltb srcLen (span t) p) in
+      let none-5 = spared 5 0 (ltb srcLen (span t)) (configFault t c orElse dstFault t c orElse last) (le-ltb srcLen (span t) p) in
       let none-13 = when-zero 13 0 (ltb dstLen (need t c)) (le-ltb dstLen (need t c) q) in
       let e : moveFault t c srcLen dstLen ≡ (roomFault t c orElse last) =
       or-path refl none-5 ∙ or-path refl (sym (or-assoc _ _ _)) ∙ sym (or-assoc _ _ _) in
@@ -175,7 +175,7 @@ module _ (t : Tensor) (start : ℕ) where
   unfolding countOf countAnswer
   count-zeros h =
       let f = countFault t start in
-      let e = unless-fault f (noCount f) (record { status = 0; dim = 0; count = elements t start }) (λ z. h (count-status f (elements t start) ∙ z)) in
+      let e = if-fault f (noCount f) (record { status = 0; dim = 0; count = elements t start }) (λ z. h (count-status f (elements t start) ∙ z)) in
       e ∙ ap (λ (x : Count). noCount (fault (x .status) (x .dim))) (sym e)
 
 module _ (t : Tensor) (s : SubConfig) (srcLen : ℕ) where
@@ -187,5 +187,5 @@ module _ (t : Tensor) (s : SubConfig) (srcLen : ℕ) where
   unfolding subTensorOf subAnswer
   sub-zeros h =
       let f = subFault t s srcLen in
-      let e = unless-fault f (noSub f) (record { status = 0; dim = 0; tensor = subOf t s; byte = subByte t s }) (λ z. h (sub-status f (subOf t s) (subByte t s) ∙ z)) in
+      let e = if-fault f (noSub f) (record { status = 0; dim = 0; tensor = subOf t s; byte = subByte t s }) (λ z. h (sub-status f (subOf t s) (subByte t s) ∙ z)) in
       e ∙ ap (λ (x : SubTensor). noSub (fault (x .status) (x .dim))) (sym e)

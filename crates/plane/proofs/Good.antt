@@ -8,13 +8,13 @@ use lib.Dec.{leb, ltb, eqb}
 use Rattle.plane.specs.declared.Tensor.{Tensor}
 use Rattle.plane.specs.declared.Config.{Config}
 use Rattle.plane.specs.Arrays.{at, some}
-use Rattle.plane.specs.Faults.{lowest, outward}
+use Rattle.faults.specs.Faults.{lowest, outward}
 use Rattle.plane.specs.Planes.{badRank, badElement, badShape, shapeAt, strideAt, inner, resolved, badStrideAt, span, sourceFault}
-use Rattle.plane.specs.Moves.{extent, dstStrides, need, badPermAt, badOffset, badSize, badStep, badExtent, badDstOffset, configFault, placeFault, moveFault}
-use Rattle.plane.specs.Good.{GoodStrides, GoodSource, GoodConfig, GoodPlace, GoodMove}
-use Rattle.plane.proofs.Bools.{either-clear, neither, in-range}
+use Rattle.plane.specs.Moves.{extent, dstStrides, need, badPermAt, badOffset, badSize, badStep, badExtent, badDstOffset, configFault, dstFault, moveFault}
+use Rattle.plane.specs.Good.{GoodStrides, GoodSource, GoodConfig, GoodDst, GoodMove}
+use Rattle.faults.proofs.Bools.{either-clear, neither, in-range}
 use Rattle.plane.proofs.Arrays.{some-clear, some-none}
-use Rattle.plane.proofs.Faults.{or-clear, or-zero, when-clear, when-zero, lowest-clear, lowest-zero, outward-clear, outward-zero}
+use Rattle.faults.proofs.Faults.{or-clear, or-zero, when-clear, when-zero, lowest-clear, lowest-zero, outward-clear, outward-zero}
 
 pub positive : (x : ℕ) → (x ≡ 0 → ⊥) → 1 ≤ x
 positive zero h = absurd (h refl)
@@ -45,7 +45,7 @@ module _ (t : Tensor) where
       let z3 = or-clear _ _ (z2 .1) in
       record {
         rank = in-range (t .rank) 1 4 (when-clear 1 0 (badRank (t .rank)) (omega arith) (z1 .0));
-        element = eqb-false _ _ (when-clear 2 0 (badElement (t .size)) (omega arith) (z2 .0));
+        element = eqb-false _ _ (when-clear 2 0 (badElement (t .«element_size»)) (omega arith) (z2 .0));
         shape = λ d h. in-range (shapeAt t d) 1 65535 (lowest-clear 3 (t .rank) (λ d. badShape (shapeAt t d)) d (omega arith) (z3 .0) h);
         strides = strides-good 4 (t .rank) (shapeAt t) (strideAt t) (omega arith) (z3 .1);
       }
@@ -104,9 +104,9 @@ module _ (t : Tensor) (c : Config) where
 
   -- ---- 11 and 12
 
-  pub place-good : placeFault t c .status ≡ 0 → GoodPlace t c
-  unfolding placeFault
-  place-good z =
+  pub dst-good : dstFault t c .status ≡ 0 → GoodDst t c
+  unfolding dstFault
+  dst-good z =
       let p = or-clear _ _ z in
       record {
         strides = strides-good 11 _ _ _ (omega arith) (p .0);
@@ -116,9 +116,9 @@ module _ (t : Tensor) (c : Config) where
             (leb-false _ _ (o .0), ltb-false _ _ (o .1));
       }
 
-  pub place-clear : GoodPlace t c → placeFault t c .status ≡ 0
-  unfolding placeFault
-  place-clear g =
+  pub dst-clear : GoodDst t c → dstFault t c .status ≡ 0
+  unfolding dstFault
+  dst-clear g =
       or-zero _ _ (strides-clear 11 _ _ _ (omega arith) (g .strides))
       (lowest-zero 12 _ _ (λ i h. neither _ _ (lt-leb _ _ (g .offset i h .0)) (le-ltb _ _ (g .offset i h .1))))
 
@@ -136,7 +136,7 @@ module _ (t : Tensor) (c : Config) where
           source = source-good t (z1 .0);
           long = ltb-false srcLen (span t) (when-clear 5 0 (ltb srcLen (span t)) (omega arith) (z5 .0));
           config = config-good (z6 .0);
-          place = place-good (z11 .0);
+          destination = dst-good (z11 .0);
           room = ltb-false dstLen (need t c) (when-clear 13 0 (ltb dstLen (need t c)) (omega arith) (z11 .1));
         }
 
@@ -146,4 +146,4 @@ module _ (t : Tensor) (c : Config) where
         or-zero _ _ (source-clear t (g .source))
         (or-zero _ _ (when-zero 5 0 _ (le-ltb _ _ (g .long)))
         (or-zero _ _ (config-clear (g .config))
-        (or-zero _ _ (place-clear (g .place)) (when-zero 13 0 _ (le-ltb _ _ (g .room))))))
+        (or-zero _ _ (dst-clear (g .destination)) (when-zero 13 0 _ (le-ltb _ _ (g .room))))))

@@ -7,10 +7,7 @@ pub mod Good
 pub mod Bounds
 pub mod SubTensors
 -- Laws over plain values, which the functions' proofs cite.
-pub mod Bools
 pub mod Arrays
-pub mod Faults
-pub mod Chains
 pub mod Resolving
 pub mod Falling
 pub mod Rules

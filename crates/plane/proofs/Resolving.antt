@@ -9,14 +9,14 @@ use borrow.Author.Tests.{lt-ltb, le-ltb, le-leb, lt-leb}
 use lib.Dec.{leb, leb·zero}
 use lib.ListN.{getD, set, length, length-set}
 use lib.Seq.{getD-set-same, getD-set-other}
-use Rattle.plane.specs.declared.Fault.{Fault}
+use Rattle.faults.specs.declared.Fault.{Fault}
 use Rattle.plane.specs.declared.strides.Strides.{Strides}
-use Rattle.plane.specs.Arrays.{below, firsts, zeros, or0}
-use Rattle.plane.specs.Faults.{none, fault, when, first, outward, unless}
+use Rattle.plane.specs.Arrays.{below, firstsOr, zeros, or0}
+use Rattle.faults.specs.Faults.{none, fault, when, first, outward, ifFault}
 use Rattle.plane.specs.Planes.{badStride, inner, resolved, badStrideAt, strides}
 use Rattle.plane.specs.Private.{stridesOf}
 use Rattle.plane.proofs.Arrays.{zeros-at, is-table}
-use Rattle.plane.proofs.Faults.{status, is-fault, or-none, when-bad, when-good, first-at, unless-fault, unless-none}
+use Rattle.faults.proofs.Faults.{status, is-fault, or-none, when-bad, when-good, first-at, if-fault, if-none}
 
 module _ (n : ℕ) (shape stride : ℕ → ℕ) where
   pub inner-out : (d : ℕ) → d < n → inner n shape stride (n - d) ≡ resolved n shape stride d * shape d
@@ -28,7 +28,7 @@ module _ (n : ℕ) (shape stride : ℕ → ℕ) where
 
   -- the strides resolved so far: from d on
   abbrev part : ℕ → ℕ → ℕ
-  part d j = cond (leb d j) (below n j (resolved n shape stride j)) 0
+  part d j = cond (leb d j) (below 0 n j (resolved n shape stride j)) 0
 
   part-same : (d j : ℕ) → (j ≡ d → ⊥) → leb (suc d) j ≡ leb d j
   part-same d j q = elim (decLe (suc d) j) [
@@ -40,7 +40,7 @@ module _ (n : ℕ) (shape stride : ℕ → ℕ) where
   part-set out d v h m l e p j = elim (ℕ-discrete j d) [
     | yes q ↦ subst (λ (k : ℕ). getD (set out d v) k 0 ≡ part d k) (sym q)
         (getD-set-same out d v 0 (omega arith) ∙ e ∙ sym (simp (le-leb d d (omega arith), lt-ltb d n h)))
-    | no q ↦ getD-set-other out d j v 0 q ∙ p j ∙ ap (λ (b : Bool). cond b (below n j (resolved n shape stride j)) 0) (part-same d j q)
+    | no q ↦ getD-set-other out d j v 0 q ∙ p j ∙ ap (λ (b : Bool). cond b (below 0 n j (resolved n shape stride j)) 0) (part-same d j q)
   ]
 
   module _ (num : ℕ) where
@@ -65,10 +65,10 @@ module _ (n : ℕ) (shape stride : ℕ → ℕ) where
         let w : met (n - suc d) ≡ fault num d = met-at d h ∙ when-bad num d _ b in
         first-at n (n - suc d) met e (omega arith) (is-fault num d p w) ∙ w
 
-    strides-path : {f : Fault} {l : List ℕ} → f ≡ outward num n (badStrideAt n shape stride) → l ≡ unless f zeros (strides n shape stride) → record { fault = f; stride = l } ≡ stridesOf num n shape stride
+    strides-path : {f : Fault} {l : List ℕ} → f ≡ outward num n (badStrideAt n shape stride) → l ≡ ifFault f zeros (strides n shape stride) → record { fault = f; stride = l } ≡ stridesOf num n shape stride
     unfolding stridesOf
     strides-path {f} p q =
-        let r = q ∙ ap (λ (g : Fault). unless g zeros (strides n shape stride)) p in
+        let r = q ∙ ap (λ (g : Fault). ifFault g zeros (strides n shape stride)) p in
         λ i. record { fault = p i; stride = r i }
 
     module _ {s : Strides} (es : s ≡ stridesOf num n shape stride) where
@@ -78,7 +78,7 @@ module _ (n : ℕ) (shape stride : ℕ → ℕ) where
 
       pub strides-ok : s .fault .status ≡ 0 → s .stride ≡ strides n shape stride
       unfolding stridesOf
-      strides-ok z = ap (λ (x : Strides). x .stride) es ∙ unless-none (outward num n (badStrideAt n shape stride)) _ _ (sym (status strides-fault) ∙ z)
+      strides-ok z = ap (λ (x : Strides). x .stride) es ∙ if-none (outward num n (badStrideAt n shape stride)) _ _ (sym (status strides-fault) ∙ z)
 
     -- what holds when the dimensions from d on are resolved: their strides in out, and p the inner product outside them
     pub record Walked (out : List ℕ) (p d : ℕ) : Type 0 where
@@ -138,12 +138,12 @@ module _ (n : ℕ) (shape stride : ℕ → ℕ) where
       walked-bad h b =
           let l = w .within in
           strides-path (sym (met-bad d h (omega arith) clear (sym tested ∙ b)))
-          (sym (unless-fault (fault num d) zeros (strides n shape stride) (is-fault num d h refl)))
+          (sym (if-fault (fault num d) zeros (strides n shape stride) (is-fault num d h refl)))
 
     pub walked-end : {out : List ℕ} {p d : ℕ} {f : Fault} → f ≡ none → d ≡ 0 → Walked out p d → record { fault = f; stride = out } ≡ stridesOf num n shape stride
-    unfolding outward firsts
+    unfolding outward firstsOr
     walked-end {out} {p} {d} {f} is o w =
         let z : n - d ≡ n = omega arith in
         strides-path (is ∙ sym (subst (λ (k : ℕ). first k met ≡ none) z (w .good)))
-        (is-table out (λ j. below n j (resolved n shape stride j)) (w .long) (λ j q. w .filled j ∙ simp (o, leb·zero)) ∙
-        ap (λ (g : Fault). unless g zeros (strides n shape stride)) (sym is))
+        (is-table 0 out (λ j. below 0 n j (resolved n shape stride j)) (w .long) (λ j q. w .filled j ∙ simp (o, leb·zero)) ∙
+        ap (λ (g : Fault). ifFault g zeros (strides n shape stride)) (sym is))

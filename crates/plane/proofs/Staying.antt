@@ -16,7 +16,7 @@ use Rattle.plane.specs.declared.sub.Staying.{Staying}
 use Rattle.plane.specs.Arrays.{at, firsts, zeros, sum, howMany}
 use Rattle.plane.specs.Helpers.{isUnit, removed, staying}
 use Rattle.plane.specs.Private.{stayingOf}
-use Rattle.plane.proofs.Bools.{both-first, both-second}
+use Rattle.faults.proofs.Bools.{both-first, both-second}
 use Rattle.plane.proofs.Arrays.{Filled, filled-start, filled-more, filled-end, filled-same, sum-same}
 
 -- ---- what becomes of one dimension
@@ -157,8 +157,8 @@ module _ (n : ℕ) (size stride : ℕ → ℕ) (excess : ℕ) where
     pub few : k ≤ d
     pub count : k ≡ length (staying size excess d)
     pub left : lacking ≡ lackingAt size excess d
-    pub shapes : Filled 4 (λ j. size (at (staying size excess d) j)) shape k
-    pub strides : Filled 4 (λ j. stride (at (staying size excess d) j)) out k
+    pub shapes : Filled 0 4 (λ j. size (at (staying size excess d) j)) shape k
+    pub strides : Filled 0 4 (λ j. stride (at (staying size excess d) j)) out k
 
   pub shrunk-start : Shrunk zeros zeros excess 0 0
   unfolding staying howMany
@@ -196,7 +196,7 @@ module _ (n : ℕ) (size stride : ℕ → ℕ) (excess : ℕ) where
         })
 
     -- one more entry of an array, behind those of the dimensions that stay
-    one-more : (f : ℕ → ℕ) (a : List ℕ) → n ≤ 4 → Kept size excess d → Filled 4 (λ j. f (at (staying size excess d) j)) a k → Filled 4 (λ j. f (at (staying size excess (suc d)) j)) (set a k (f d)) (k + 1)
+    one-more : (f : ℕ → ℕ) (a : List ℕ) → n ≤ 4 → Kept size excess d → Filled 0 4 (λ j. f (at (staying size excess d) j)) a k → Filled 0 4 (λ j. f (at (staying size excess (suc d)) j)) (set a k (f d)) (k + 1)
     one-more f a four g v =
         let c = w .count in
         filled-more (omega arith)
@@ -225,5 +225,5 @@ module _ (n : ℕ) (size stride : ℕ → ℕ) (excess : ℕ) where
       subst (λ (m : ℕ). _≡_ {A = Staying} (record { lacking = lacking; shape = shape; stride = out }) (stayingOf m size stride excess)) e
       (λ i. record { lacking = w .left i; shape = full size shape (w .shapes) i; stride = full stride out (w .strides) i })
     where
-      full : (f : ℕ → ℕ) (a : List ℕ) → Filled 4 (λ j. f (at (staying size excess d) j)) a k → a ≡ firsts (length (staying size excess d)) (λ i. f (at (staying size excess d) i))
+      full : (f : ℕ → ℕ) (a : List ℕ) → Filled 0 4 (λ j. f (at (staying size excess d) j)) a k → a ≡ firsts (length (staying size excess d)) (λ i. f (at (staying size excess d) i))
       full f a v = filled-end (record { within = omega (arith, w .count); long = v .long; entries = rw (w .count) at (v .entries) }) (omega (arith, w .count))

@@ -9,19 +9,19 @@ use borrow.Author.Tests.{leb-false, lt-ltb, le-ltb, ltb-false}
 use lib.Dec.{ltb, eqb}
 use lib.ListN.{length}
 use Rattle.plane.specs.declared.Tensor.{Tensor}
-use Rattle.plane.specs.declared.Fault.{Fault}
+use Rattle.faults.specs.declared.Fault.{Fault}
 use Rattle.plane.specs.declared.SubConfig.{SubConfig}
 use Rattle.plane.specs.declared.SubTensor.{SubTensor}
 use Rattle.plane.specs.declared.Source.{Source}
 use Rattle.plane.specs.declared.sub.Staying.{Staying}
 use Rattle.plane.specs.Arrays.{at, firsts, sum, howMany}
-use Rattle.plane.specs.Faults.{none, fault, when, _orElse_, lowest}
+use Rattle.faults.specs.Faults.{none, fault, when, _orElse_, lowest}
 use Rattle.plane.specs.Planes.{shapeAt, srcStrides, span, sourceFault, sourceOf}
 use Rattle.plane.specs.Moves.{badOffset}
 use Rattle.plane.specs.Helpers.{isUnit, staying, excess, subDim, rankFault, subOf, subByte, noSub, subAnswer}
 use Rattle.plane.specs.Private.{stayingOf}
-use Rattle.plane.proofs.Bools.{either-clear}
-use Rattle.plane.proofs.Faults.{status, passed, given, spared, when-bad, when-good, unless-fault, unless-none, lowest-clear}
+use Rattle.faults.proofs.Bools.{either-clear}
+use Rattle.faults.proofs.Faults.{status, passed, given, spared, when-bad, when-good, if-fault, if-none, lowest-clear}
 use Rattle.plane.specs.Good.{GoodSource}
 use Rattle.plane.proofs.Good.{positive}
 use Rattle.plane.proofs.Rules.{its-fault, its-span}
@@ -30,7 +30,7 @@ use Rattle.plane.proofs.Staying.{staying-count}
 -- the code refuses with f, which the rules g give
 pub sub-refuses : (u : Tensor) (byte : ℕ) {f g : Fault} {r : SubTensor} → r ≡ noSub f → (f .status ≡ 0 → ⊥) → g ≡ f → r ≡ subAnswer g u byte
 unfolding subAnswer
-sub-refuses u byte {f} e h p = e ∙ sym (ap (λ (x : Fault). subAnswer x u byte) p ∙ unless-fault f (noSub f) _ h)
+sub-refuses u byte {f} e h p = e ∙ sym (ap (λ (x : Fault). subAnswer x u byte) p ∙ if-fault f (noSub f) _ h)
 
 -- the rules f leave the answer to g
 pub sub-defers : (u : Tensor) (byte : ℕ) {f g : Fault} {r : SubTensor} → r ≡ subAnswer g u byte → f ≡ g → r ≡ subAnswer f u byte
@@ -40,8 +40,8 @@ sub-defers u byte e p = e ∙ sym (ap (λ (x : Fault). subAnswer x u byte) p)
 pub sub-status : (f : Fault) (t : Tensor) (x : ℕ) → subAnswer f t x .status ≡ f .status
 unfolding subAnswer
 sub-status f t x = elim (ℕ-discrete (f .status) 0) [
-  | yes z ↦ ap (λ (s : SubTensor). s .status) (unless-none f (noSub f) (record { status = 0; dim = 0; tensor = t; byte = x }) z) ∙ sym z
-  | no z ↦ ap (λ (s : SubTensor). s .status) (unless-fault f (noSub f) (record { status = 0; dim = 0; tensor = t; byte = x }) z)
+  | yes z ↦ ap (λ (s : SubTensor). s .status) (if-none f (noSub f) (record { status = 0; dim = 0; tensor = t; byte = x }) z) ∙ sym z
+  | no z ↦ ap (λ (s : SubTensor). s .status) (if-fault f (noSub f) (record { status = 0; dim = 0; tensor = t; byte = x }) z)
 ]
 
 -- ---- 1 to 5, and then g
@@ -101,15 +101,15 @@ module _ (t : Tensor) (s : SubConfig) (r : (eqb (s .rank) 0 || ltb (t .rank) (s 
           ap (λ (x : Staying). x .stride) ep ∙
           ap₂ (λ (m : ℕ) (x : List ℕ). firsts m (λ i. at x (subDim t s i))) left el
 
-      its-tensor : record { rank = s .rank; size = t .size; shape = p .shape; stride = p .stride } ≡ subOf t s
+      its-tensor : record { rank = s .rank; «element_size» = t .«element_size»; shape = p .shape; stride = p .stride } ≡ subOf t s
       unfolding subOf
-      its-tensor = λ i. record { rank = s .rank; size = t .size; shape = its-shape i; stride = its-stride i }
+      its-tensor = λ i. record { rank = s .rank; «element_size» = t .«element_size»; shape = its-shape i; stride = its-stride i }
 
       -- x is the distance from the source's first element to the sub-tensor's
       pub sub-given : {x : ℕ} → x ≡ sum (t .rank) (λ d. at (s .offset) d * at l d) →
-          record { status = 0; dim = 0; tensor = record { rank = s .rank; size = t .size; shape = p .shape; stride = p .stride }; byte = x * t .size } ≡ subAnswer (rankFault t s) (subOf t s) (subByte t s)
+          record { status = 0; dim = 0; tensor = record { rank = s .rank; «element_size» = t .«element_size»; shape = p .shape; stride = p .stride }; byte = x * t .«element_size» } ≡ subAnswer (rankFault t s) (subOf t s) (subByte t s)
       unfolding subAnswer subByte
       sub-given e =
           let ex = e ∙ ap (λ (x : List ℕ). sum (t .rank) (λ d. at (s .offset) d * at x d)) el in
-          (λ i. record { status = 0; dim = 0; tensor = its-tensor i; byte = ex i * t .size }) ∙
+          (λ i. record { status = 0; dim = 0; tensor = its-tensor i; byte = ex i * t .«element_size» }) ∙
           sym (ap (λ (f : Fault). subAnswer f (subOf t s) (subByte t s)) rank-none)

@@ -13,9 +13,9 @@ use Rattle.plane.specs.Arrays.{at, sum}
 use Rattle.plane.specs.Planes.{shapeAt, strideAt, resolved, srcStrides, span, sourceFault}
 use Rattle.plane.specs.Moves.{badOffset}
 use Rattle.plane.specs.Helpers.{staying, excess, subDim, badSubSize, rankFault, subFault, subOf, subByte, noSub, subAnswer, subTensorOf}
-use Rattle.plane.proofs.Bools.{either-clear, neither}
+use Rattle.faults.proofs.Bools.{either-clear, neither}
 use Rattle.plane.proofs.Arrays.{firsts-at, firsts-same, sum-same}
-use Rattle.plane.proofs.Faults.{or-clear, or-zero, when-clear, when-zero, lowest-clear, lowest-zero, unless-none}
+use Rattle.faults.proofs.Faults.{or-clear, or-zero, when-clear, when-zero, lowest-clear, lowest-zero, if-none}
 use Rattle.plane.specs.Good.{GoodSource, GoodSub}
 use Rattle.plane.proofs.Good.{positive, source-good, source-clear}
 use Rattle.plane.proofs.Falling.{stride-positive, strides-fall, written-stays, written-good}
@@ -85,18 +85,18 @@ module _ {t : Tensor} {s : SubConfig} {srcLen : ℕ} (g : GoodSub t s srcLen) wh
   -- the shape and the stride of dimension i, as the record of the sub-tensor has them
   pub sub-shape : (i : ℕ) → i < s .rank → shapeAt (subOf t s) i ≡ at (s .size) (subDim t s i)
   unfolding subOf
-  sub-shape i h = firsts-at (s .rank) (λ i. at (s .size) (subDim t s i)) i rank-small h
+  sub-shape i h = firsts-at 0 (s .rank) (λ i. at (s .size) (subDim t s i)) i rank-small h
 
   pub sub-stride : (i : ℕ) → i < s .rank → strideAt (subOf t s) i ≡ at (srcStrides t) (subDim t s i)
   unfolding subOf
-  sub-stride i h = firsts-at (s .rank) (λ i. at (srcStrides t) (subDim t s i)) i rank-small h
+  sub-stride i h = firsts-at 0 (s .rank) (λ i. at (srcStrides t) (subDim t s i)) i rank-small h
 
   -- the source's resolved strides: at least 1, within the limit, and falling inward
   abbrev whole : ℕ → ℕ
   whole d = resolved (t .rank) (shapeAt t) (strideAt t) d
 
   whole-at : (d : ℕ) → d < t .rank → at (srcStrides t) d ≡ whole d
-  whole-at d h = firsts-at (t .rank) whole d (g .source .rank .1) h
+  whole-at d h = firsts-at 0 (t .rank) whole d (g .source .rank .1) h
 
   some : (d : ℕ) → d < t .rank → 1 ≤ shapeAt t d
   some d h = g .source .shape d h .0
@@ -130,7 +130,7 @@ module _ {t : Tensor} {s : SubConfig} {srcLen : ℕ} (g : GoodSub t s srcLen) wh
   pub sub-resolved : srcStrides (subOf t s) ≡ subOf t s .stride
   unfolding subOf
   sub-resolved =
-      firsts-same (s .rank) _ _
+      firsts-same 0 (s .rank) _ _
       (λ i h. written-stays (s .rank) (shapeAt (subOf t s)) (strideAt (subOf t s)) i (stride-within i h .0) ∙ sub-stride i h)
 
   -- how far a box of the sizes reaches in a dimension, in elements
@@ -138,10 +138,10 @@ module _ {t : Tensor} {s : SubConfig} {srcLen : ℕ} (g : GoodSub t s srcLen) wh
   across d = (at (s .size) d - 1) * at (srcStrides t) d
 
   -- the dimensions that are taken out reach no further
-  pub sub-span : span (subOf t s) ≡ (1 + sum (t .rank) across) * t .size
+  pub sub-span : span (subOf t s) ≡ (1 + sum (t .rank) across) * t .«element_size»
   unfolding span subOf
   sub-span =
-      ap (λ (x : ℕ). (1 + x) * t .size)
+      ap (λ (x : ℕ). (1 + x) * t .«element_size»)
       (sum-same (s .rank) _ _ (λ i h. ap₂ (λ (x y : ℕ). (x - 1) * y) (sub-shape i h) (ap (λ (x : List ℕ). at x i) sub-resolved ∙ sub-stride i h)) ∙
       ap (λ (m : ℕ). sum m (λ i. across (subDim t s i))) (sym sub-count) ∙
       staying-sum (at (s .size)) (excess t s) across (λ d u. rw u (omega arith)) (t .rank))
@@ -151,7 +151,7 @@ module _ {t : Tensor} {s : SubConfig} {srcLen : ℕ} (g : GoodSub t s srcLen) wh
   sub-within =
       rw sub-span
       (rw (← add-mul)
-      (mul-le-mul-right (t .size) (omega (arith, sums-within (t .rank) _ across (λ d. (shapeAt t d - 1) * at (srcStrides t) d) reach))))
+      (mul-le-mul-right (t .«element_size») (omega (arith, sums-within (t .rank) _ across (λ d. (shapeAt t d - 1) * at (srcStrides t) d) reach))))
     where
       reach : (d : ℕ) → d < t .rank → at (s .offset) d * at (srcStrides t) d + across d ≤ (shapeAt t d - 1) * at (srcStrides t) d
       reach d h = rw (← add-mul) (mul-le-mul-right (at (srcStrides t) d) (omega (arith, g .size d h .0, g .size d h .1)))
@@ -165,7 +165,7 @@ module _ (t : Tensor) (s : SubConfig) (srcLen : ℕ) (z : subTensorOf t s srcLen
 
   pub sub-given : subTensorOf t s srcLen ≡ record { status = 0; dim = 0; tensor = subOf t s; byte = subByte t s }
   unfolding subTensorOf subAnswer
-  sub-given = unless-none (subFault t s srcLen) (noSub (subFault t s srcLen)) _ sub-taken
+  sub-given = if-none (subFault t s srcLen) (noSub (subFault t s srcLen)) _ sub-taken
 
   pub sub-told : GoodSub t s srcLen
   sub-told = sub-good t s srcLen sub-taken

@@ -10,16 +10,16 @@ use lib.Dec.{leb, ltb, eqb}
 use Rattle.plane.specs.declared.Tensor.{Tensor}
 use Rattle.plane.specs.declared.Config.{Config}
 use Rattle.plane.specs.declared.SubConfig.{SubConfig}
-use Rattle.plane.specs.declared.Fault.{Fault}
+use Rattle.faults.specs.declared.Fault.{Fault}
 use Rattle.plane.specs.declared.SubTensor.{SubTensor}
 use Rattle.plane.specs.Arrays.{at, zeros, or0}
-use Rattle.plane.specs.Faults.{when, _orElse_, lowest, unless}
+use Rattle.faults.specs.Faults.{when, _orElse_, lowest, ifFault}
 use Rattle.plane.specs.Planes.{badShape, badStride, shapeAt, strideAt, inner, resolved, badStrideAt, strides, srcStrides, span, sourceFault, sourceOf}
-use Rattle.plane.specs.Moves.{upward, count, extent, dstExtents, dstStrides, need, badPermAt, badOffset, badStep, badExtent, badDstOffset, configFault, placeFault, moveFault, roomFault, accepted, answerOf, judgeOf, roomOf}
+use Rattle.plane.specs.Moves.{upward, count, extent, dstExtents, dstStrides, need, badPermAt, badOffset, badStep, badExtent, badDstOffset, configFault, dstFault, moveFault, roomFault, accepted, answerOf, judgeOf, roomOf}
 use Rattle.plane.specs.Helpers.{elements, countFault, countAnswer, countOf, isUnit, staying, subDim, rankFault, subFault, subOf, subByte, noSub, subAnswer, subTensorOf}
 use Rattle.plane.specs.Unseen.{SameTensor, SameConfig, SameSub}
 use Rattle.plane.proofs.Arrays.{firsts-same, sum-same, product-same, howMany-same, some-same}
-use Rattle.plane.proofs.Faults.{status, or-path, or-found, or-clear, lowest-same, outward-same, unless-fault, unless-none}
+use Rattle.faults.proofs.Faults.{status, or-path, or-found, or-clear, lowest-same, outward-same, if-fault, if-none}
 use Rattle.plane.specs.Good.{GoodConfig}
 use Rattle.plane.proofs.Good.{config-good, config-clear}
 use Rattle.plane.proofs.Rules.{answer-refused, answer-given}
@@ -44,12 +44,12 @@ module _ (n : ℕ) (s s′ p p′ : ℕ → ℕ) (es : (d : ℕ) → d < n → s
   badStrideAt-same d h = ap₂ badStride (resolved-same d h) (inner-same (n - suc d) (omega arith))
 
   strides-same : strides n s p ≡ strides n s′ p′
-  strides-same = firsts-same n (resolved n s p) (resolved n s′ p′) resolved-same
+  strides-same = firsts-same 0 n (resolved n s p) (resolved n s′ p′) resolved-same
 
 -- ---- two tensor records of one rank n and one element size z
 
 abbrev tensor : ℕ → ℕ → List ℕ → List ℕ → Tensor
-tensor n z shape stride = record { rank = n; size = z; shape = shape; stride = stride }
+tensor n z shape stride = record { rank = n; «element_size» = z; shape = shape; stride = stride }
 
 module _ (n z : ℕ) (s s′ p p′ : List ℕ) (a : SameTensor (tensor n z s p) (tensor n z s′ p′)) where
   abbrev T : Tensor
@@ -79,7 +79,7 @@ module _ (n z : ℕ) (s s′ p p′ : List ℕ) (a : SameTensor (tensor n z s p)
   its-same : sourceOf T ≡ sourceOf T′
   unfolding sourceOf
   its-same =
-      λ i. record { fault = source-same i; stride = unless (source-same i) zeros (src-strides-same i); span = unless (source-same i) 0 (span-same i) }
+      λ i. record { fault = source-same i; stride = ifFault (source-same i) zeros (src-strides-same i); span = ifFault (source-same i) 0 (span-same i) }
 
   -- ---- the move
 
@@ -107,7 +107,7 @@ module _ (n z : ℕ) (s s′ p p′ : List ℕ) (a : SameTensor (tensor n z s p)
       extents-same : dstExtents T c ≡ dstExtents T′ c′
       unfolding dstExtents
       extents-same =
-          firsts-same n _ _ (λ i h. extent-same (at (c .perm) i) (config-good T c g .perm i h) ∙ ap (extent T′ c′) (b .perm i h))
+          firsts-same 0 n _ _ (λ i h. extent-same (at (c .perm) i) (config-good T c g .perm i h) ∙ ap (extent T′ c′) (b .perm i h))
 
       extent-at : (d : ℕ) → d < n → at (dstExtents T c) d ≡ at (dstExtents T′ c′) d
       extent-at d h = ap (λ (l : List ℕ). at l d) extents-same
@@ -115,8 +115,8 @@ module _ (n z : ℕ) (s s′ p p′ : List ℕ) (a : SameTensor (tensor n z s p)
       dst-strides-same : dstStrides T c ≡ dstStrides T′ c′
       dst-strides-same = strides-same n _ _ _ _ extent-at (b .dst-stride)
 
-      place-same : placeFault T c ≡ placeFault T′ c′
-      unfolding placeFault
+      place-same : dstFault T c ≡ dstFault T′ c′
+      unfolding dstFault
       place-same =
           or-path (outward-same 11 n _ _ (badStrideAt-same n _ _ _ _ extent-at (b .dst-stride)))
           (lowest-same 12 n _ _ (λ i h. ap₂ badDstOffset (ap (λ (l : List ℕ). at l i) dst-strides-same) (b .dst-offset i h)))
@@ -133,7 +133,7 @@ module _ (n z : ℕ) (s s′ p p′ : List ℕ) (a : SameTensor (tensor n z s p)
 
       accepted-same : accepted T c ≡ accepted T′ c′
       accepted-same =
-          λ i. record { status = 0; dim = 0; rank = n; size = z; extent = extents-same i; stride = dst-strides-same i; need = need-same i }
+          λ i. record { status = 0; dim = 0; rank = n; «element_size» = z; extent = extents-same i; stride = dst-strides-same i; need = need-same i }
 
     -- a fault g that stands behind the configuration's
     behind : (g g′ : Fault) → (configFault T c .status ≡ 0 → g ≡ g′) → (configFault T c orElse g) ≡ (configFault T′ c′ orElse g′)
@@ -154,7 +154,7 @@ module _ (n z : ℕ) (s s′ p p′ : List ℕ) (a : SameTensor (tensor n z s p)
         let e : roomFault T c ≡ roomFault T′ c′ = or-path source-same (behind _ _ place-same) in
         let w : answerOf (roomFault T c) T c ≡ answerOf (roomFault T′ c′) T′ c′ =
         answer-same (roomFault T c) (λ y. or-clear _ _ (or-clear _ _ y .1) .0) ∙ ap (λ (f : Fault). answerOf f T′ c′) e in
-        let v : unless (roomFault T c) 0 (span T) ≡ unless (roomFault T′ c′) 0 (span T′) = ap₂ (λ (f : Fault) (x : ℕ). unless f 0 x) e span-same in
+        let v : ifFault (roomFault T c) 0 (span T) ≡ ifFault (roomFault T′ c′) 0 (span T′) = ap₂ (λ (f : Fault) (x : ℕ). ifFault f 0 x) e span-same in
         λ i. record { answer = w i; span = v i }
 
     move-same : (sl dl : ℕ) → moveFault T c sl dl ≡ moveFault T′ c′ sl dl
@@ -228,11 +228,11 @@ module _ (n z : ℕ) (s s′ p p′ : List ℕ) (a : SameTensor (tensor n z s p)
     unfolding subOf
     of-same sl y =
         let dims : staying (at q) (n - m) n ≡ staying (at q′) (n - m) n = staying-same (n - m) n (omega arith) in
-        let shape = firsts-same m (λ i. at q (subDim T S i)) (λ i. at q′ (subDim T′ S′ i))
+        let shape = firsts-same 0 m (λ i. at q (subDim T S i)) (λ i. at q′ (subDim T′ S′ i))
         (λ i h. b .size (subDim T S i) (subDim-below (sub-good T S sl y) i h) ∙ ap (λ (l : List ℕ). at q′ (at l i)) dims) in
-        let stride = firsts-same m (λ i. at (srcStrides T) (subDim T S i)) (λ i. at (srcStrides T′) (subDim T′ S′ i))
+        let stride = firsts-same 0 m (λ i. at (srcStrides T) (subDim T S i)) (λ i. at (srcStrides T′) (subDim T′ S′ i))
         (λ i h. ap₂ (λ (k l : List ℕ). at k (at l i)) src-strides-same dims) in
-        λ i. record { rank = m; size = z; shape = shape i; stride = stride i }
+        λ i. record { rank = m; «element_size» = z; shape = shape i; stride = stride i }
 
     sub-same : (sl : ℕ) → subTensorOf T S sl ≡ subTensorOf T′ S′ sl
     unfolding subTensorOf subAnswer
@@ -243,10 +243,10 @@ module _ (n z : ℕ) (s s′ p p′ : List ℕ) (a : SameTensor (tensor n z s p)
         let x : SubTensor = record { status = 0; dim = 0; tensor = subOf T S; byte = subByte T S } in
         let x′ : SubTensor = record { status = 0; dim = 0; tensor = subOf T′ S′; byte = subByte T′ S′ } in
         elim (ℕ-discrete (f .status) 0) [
-          | yes y ↦ unless-none f (noSub f) x y ∙
+          | yes y ↦ if-none f (noSub f) x y ∙
               (λ i. record { status = 0; dim = 0; tensor = of-same sl y i; byte = byte-same i }) ∙
-              sym (unless-none f′ (noSub f′) x′ (sym (status e) ∙ y))
-          | no y ↦ unless-fault f (noSub f) x y ∙ ap noSub e ∙ sym (unless-fault f′ (noSub f′) x′ (λ z. y (status e ∙ z)))
+              sym (if-none f′ (noSub f′) x′ (sym (status e) ∙ y))
+          | no y ↦ if-fault f (noSub f) x y ∙ ap noSub e ∙ sym (if-fault f′ (noSub f′) x′ (λ z. y (status e ∙ z)))
         ]
 
 -- ---- the theorems
@@ -254,13 +254,13 @@ module _ (n z : ℕ) (s s′ p p′ : List ℕ) (a : SameTensor (tensor n z s p)
 module _ (t t′ : Tensor) (a : SameTensor t t′) where
   -- the same arrays as t′, at t's rank and element size
   abbrev like : Tensor
-  like = tensor (t .rank) (t .size) (t′ .shape) (t′ .stride)
+  like = tensor (t .rank) (t .«element_size») (t′ .shape) (t′ .stride)
 
   across : {A : Type 0} (f : Tensor → A) → f like ≡ f t′
-  across f = ap₂ (λ (n z : ℕ). f (tensor n z (t′ .shape) (t′ .stride))) (a .rank) (a .size)
+  across f = ap₂ (λ (n z : ℕ). f (tensor n z (t′ .shape) (t′ .stride))) (a .rank) (a .element)
 
   agrees : SameTensor t like
-  agrees = record { rank = refl; size = refl; shape = a .shape; stride = a .stride }
+  agrees = record { rank = refl; element = refl; shape = a .shape; stride = a .stride }
 
   pub source-unseen : sourceOf t ≡ sourceOf t′
   source-unseen = its-same _ _ _ _ _ _ agrees ∙ across (λ (x : Tensor). sourceOf x)

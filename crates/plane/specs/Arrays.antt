@@ -9,17 +9,21 @@ use lib.ListN.{getD}
 abbrev pub at : List ℕ → ℕ → ℕ
 at xs d = getD xs d 0
 
--- v below the rank n, and 0 at or past it
-abbrev pub below : ℕ → ℕ → ℕ → ℕ
-below n d v = cond (ltb d n) v 0
+-- v below the rank n, and z at or past it
+abbrev pub below : {A : Type 0} → A → ℕ → ℕ → A → A
+below z n d v = cond (ltb d n) v z
 
 -- the array of four entries
 abbrev pub table : {A : Type 0} → (ℕ → A) → List A
 table f = f 0 ∷ f 1 ∷ f 2 ∷ f 3 ∷ []
 
--- the array with the entries of f below the rank n, and 0 at and past it
-unfoldable pub firsts : ℕ → (ℕ → ℕ) → List ℕ
-firsts n f = table (λ d. below n d (f d))
+-- the array with the entries of f below the rank n, and z at and past it
+unfoldable pub firstsOr : {A : Type 0} → A → ℕ → (ℕ → A) → List A
+firstsOr z n f = table (λ d. below z n d (f d))
+
+-- and 0 at and past it
+abbrev pub firsts : ℕ → (ℕ → ℕ) → List ℕ
+firsts n f = firstsOr 0 n f
 
 abbrev pub zeros : List ℕ
 zeros = 0 ∷ 0 ∷ 0 ∷ 0 ∷ []

@@ -17,7 +17,7 @@ pub record GoodStrides (n : ℕ) (shape stride : ℕ → ℕ) : Type 0 where
 -- 1 to 4
 pub record GoodSource (t : Tensor) : Type 0 where
   pub rank : (1 ≤ t .rank) × (t .rank ≤ 4)
-  pub element : elementSize (t .size) ≡ 0 → ⊥
+  pub element : elementSize (t .«element_size») ≡ 0 → ⊥
   pub shape : (d : ℕ) → d < t .rank → (1 ≤ shapeAt t d) × (shapeAt t d ≤ 65535)
   pub strides : GoodStrides (t .rank) (shapeAt t) (strideAt t)
 
@@ -31,7 +31,7 @@ pub record GoodConfig (t : Tensor) (c : Config) : Type 0 where
   pub extent : (d : ℕ) → d < t .rank → extent t c d ≤ 65535
 
 -- 11 and 12
-pub record GoodPlace (t : Tensor) (c : Config) : Type 0 where
+pub record GoodDst (t : Tensor) (c : Config) : Type 0 where
   pub strides : GoodStrides (t .rank) (at (dstExtents t c)) (at (c .«dst_stride»))
   pub offset : (i : ℕ) → i < t .rank → (at (c .«dst_offset») i < at (dstStrides t c) i) × (at (c .«dst_offset») i ≤ 65535)
 
@@ -40,7 +40,7 @@ pub record GoodMove (t : Tensor) (c : Config) (srcLen dstLen : ℕ) : Type 0 whe
   pub source : GoodSource t
   pub long : span t ≤ srcLen
   pub config : GoodConfig t c
-  pub place : GoodPlace t c
+  pub destination : GoodDst t c
   pub room : need t c ≤ dstLen
 
 -- a sub-tensor: 1 to 5, 7, 8, 14 and 15

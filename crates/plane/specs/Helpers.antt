@@ -4,13 +4,13 @@ use mathlib.Core.Bool.{Bool, cond, _||_, _&&_}
 use mathlib.Core.List.{List, [], _∷_, _++_}
 use lib.Dec.{ltb, leb, eqb}
 use Rattle.plane.specs.declared.Tensor.{Tensor}
-use Rattle.plane.specs.declared.Fault.{Fault}
+use Rattle.faults.specs.declared.Fault.{Fault}
 use Rattle.plane.specs.declared.Count.{Count}
 use Rattle.plane.specs.declared.SubConfig.{SubConfig}
 use Rattle.plane.specs.declared.SubTensor.{SubTensor}
 use Rattle.plane.specs.Arrays.{at, firsts, sum, product, howMany}
-use Rattle.plane.specs.Faults.{when, _orElse_, lowest, unless}
-use Rattle.plane.specs.Planes.{badRank, badShape, shapeAt, srcStrides, span, sourceFault, zeroTensor}
+use Rattle.faults.specs.Faults.{when, _orElse_, lowest, ifFault}
+use Rattle.plane.specs.Planes.{badRank, badShape, shapeAt, srcStrides, sourceAt, span, sourceFault, zeroTensor}
 use Rattle.plane.specs.Moves.{badOffset, badSize}
 
 -- ---- Element count
@@ -31,7 +31,7 @@ abbrev pub noCount : Fault → Count
 noCount f = record { status = f .status; dim = f .dim; count = 0 }
 
 unfoldable pub countAnswer : Fault → ℕ → Count
-countAnswer f count = unless f (noCount f) (record { status = 0; dim = 0; count = count })
+countAnswer f count = ifFault f (noCount f) (record { status = 0; dim = 0; count = count })
 
 unfoldable pub countOf : Tensor → ℕ → Count
 countOf t start = countAnswer (countFault t start) (elements t start)
@@ -80,20 +80,20 @@ subFault t s srcLen =
 unfoldable pub subOf : Tensor → SubConfig → Tensor
 subOf t s = record {
   rank = s .rank;
-  size = t .size;
+  «element_size» = t .«element_size»;
   shape = firsts (s .rank) (λ i. at (s .size) (subDim t s i));
   stride = firsts (s .rank) (λ i. at (srcStrides t) (subDim t s i));
 }
 
 -- the byte at which the sub-tensor starts in the source
 unfoldable pub subByte : Tensor → SubConfig → ℕ
-subByte t s = sum (t .rank) (λ d. at (s .offset) d * at (srcStrides t) d) * t .size
+subByte t s = sum (t .rank) (λ d. sourceAt t d (at (s .offset) d)) * t .«element_size»
 
 abbrev pub noSub : Fault → SubTensor
 noSub f = record { status = f .status; dim = f .dim; tensor = zeroTensor; byte = 0 }
 
 unfoldable pub subAnswer : Fault → Tensor → ℕ → SubTensor
-subAnswer f t byte = unless f (noSub f) (record { status = 0; dim = 0; tensor = t; byte = byte })
+subAnswer f t byte = ifFault f (noSub f) (record { status = 0; dim = 0; tensor = t; byte = byte })
 
 unfoldable pub subTensorOf : Tensor → SubConfig → ℕ → SubTensor
 subTensorOf t s srcLen = subAnswer (subFault t s srcLen) (subOf t s) (subByte t s)

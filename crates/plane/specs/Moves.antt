@@ -5,11 +5,11 @@ use mathlib.Core.List.{List}
 use lib.Dec.{ltb, leb, eqb}
 use Rattle.plane.specs.declared.Tensor.{Tensor}
 use Rattle.plane.specs.declared.Config.{Config}
-use Rattle.plane.specs.declared.Fault.{Fault}
+use Rattle.faults.specs.declared.Fault.{Fault}
 use Rattle.plane.specs.declared.Answer.{Answer}
 use Rattle.plane.specs.declared.RoomAnswer.{RoomAnswer}
 use Rattle.plane.specs.Arrays.{at, firsts, zeros, sum, some, or0}
-use Rattle.plane.specs.Faults.{when, _orElse_, lowest, outward, unless}
+use Rattle.faults.specs.Faults.{when, _orElse_, lowest, outward, ifFault}
 use Rattle.plane.specs.Planes.{shapeAt, badStrideAt, strides, span, sourceFault}
 
 -- ---- By source dimension d
@@ -39,7 +39,7 @@ dstStrides t c = strides (t .rank) (at (dstExtents t c)) (at (c .«dst_stride»)
 
 -- in bytes
 unfoldable pub need : Tensor → Config → ℕ
-need t c = (1 + sum (t .rank) (λ i. (at (c .«dst_offset») i + at (dstExtents t c) i - 1) * at (dstStrides t c) i)) * t .size
+need t c = (1 + sum (t .rank) (λ i. (at (c .«dst_offset») i + at (dstExtents t c) i - 1) * at (dstStrides t c) i)) * t .«element_size»
 
 -- ---- The numbers of refusal
 
@@ -77,8 +77,8 @@ configFault t c =
     lowest 10 (t .rank) (λ d. badExtent (extent t c d))
 
 -- 11 and 12
-unfoldable pub placeFault : Tensor → Config → Fault
-placeFault t c =
+unfoldable pub dstFault : Tensor → Config → Fault
+dstFault t c =
     outward 11 (t .rank) (badStrideAt (t .rank) (at (dstExtents t c)) (at (c .«dst_stride»))) orElse
     lowest 12 (t .rank) (λ i. badDstOffset (at (dstStrides t c) i) (at (c .«dst_offset») i))
 
@@ -88,32 +88,32 @@ moveFault t c srcLen dstLen =
     sourceFault t orElse
     when 5 0 (ltb srcLen (span t)) orElse
     configFault t c orElse
-    placeFault t c orElse
+    dstFault t c orElse
     when 13 0 (ltb dstLen (need t c))
 
 -- a room question knows no lengths
 unfoldable pub roomFault : Tensor → Config → Fault
-roomFault t c = sourceFault t orElse configFault t c orElse placeFault t c
+roomFault t c = sourceFault t orElse configFault t c orElse dstFault t c
 
 -- ---- The answers
 
 abbrev pub refused : Fault → Answer
 refused f =
-    record { status = f .status; dim = f .dim; rank = 0; size = 0; extent = zeros; stride = zeros; need = 0 }
+    record { status = f .status; dim = f .dim; rank = 0; «element_size» = 0; extent = zeros; stride = zeros; need = 0 }
 
 abbrev pub accepted : Tensor → Config → Answer
 accepted t c = record {
   status = 0;
   dim = 0;
   rank = t .rank;
-  size = t .size;
+  «element_size» = t .«element_size»;
   extent = dstExtents t c;
   stride = dstStrides t c;
   need = need t c;
 }
 
 unfoldable pub answerOf : Fault → Tensor → Config → Answer
-answerOf f t c = unless f (refused f) (accepted t c)
+answerOf f t c = ifFault f (refused f) (accepted t c)
 
 unfoldable pub judgeOf : Tensor → Config → ℕ → ℕ → Answer
 judgeOf t c srcLen dstLen = answerOf (moveFault t c srcLen dstLen) t c
@@ -121,5 +121,5 @@ judgeOf t c srcLen dstLen = answerOf (moveFault t c srcLen dstLen) t c
 unfoldable pub roomOf : Tensor → Config → RoomAnswer
 roomOf t c = record {
   answer = answerOf (roomFault t c) t c;
-  span = unless (roomFault t c) 0 (span t);
+  span = ifFault (roomFault t c) 0 (span t);
 }

@@ -10,13 +10,13 @@ use Rattle.plane.specs.Arrays.{at, howMany}
 use Rattle.plane.specs.Planes.{badRank, badElement, badShape, shapeAt, strideAt, badStrideAt, span}
 use Rattle.plane.specs.Moves.{extent, dstExtents, dstStrides, need, badPermAt, badOffset, badSize, badStep, badExtent, badDstOffset}
 use Rattle.plane.specs.Helpers.{elements, isUnit, excess, badSubSize}
-use Rattle.plane.specs.Exactness.{Rule, whole, fromFirst, fromLast}
+use Rattle.faults.specs.Exactness.{Rule, whole, fromFirst, fromLast}
 
 -- 1 to 4
 abbrev pub sourceRules : Tensor → List Rule
 sourceRules t =
     whole 1 (badRank (t .rank)) ∷
-    whole 2 (badElement (t .size)) ∷
+    whole 2 (badElement (t .«element_size»)) ∷
     fromFirst 3 (t .rank) (λ d. badShape (shapeAt t d)) ∷
     fromLast 4 (t .rank) (badStrideAt (t .rank) (shapeAt t) (strideAt t)) ∷
     []
@@ -32,8 +32,8 @@ configRules t c =
     []
 
 -- 11 and 12
-abbrev pub placeRules : Tensor → Config → List Rule
-placeRules t c =
+abbrev pub dstRules : Tensor → Config → List Rule
+dstRules t c =
     fromLast 11 (t .rank) (badStrideAt (t .rank) (at (dstExtents t c)) (at (c .«dst_stride»))) ∷
     fromFirst 12 (t .rank) (λ i. badDstOffset (at (dstStrides t c) i) (at (c .«dst_offset») i)) ∷
     []
@@ -42,11 +42,11 @@ placeRules t c =
 abbrev pub moveRules : Tensor → Config → ℕ → ℕ → List Rule
 moveRules t c srcLen dstLen =
     sourceRules t ++
-    (whole 5 (ltb srcLen (span t)) ∷ configRules t c ++ placeRules t c ++ (whole 13 (ltb dstLen (need t c)) ∷ []))
+    (whole 5 (ltb srcLen (span t)) ∷ configRules t c ++ dstRules t c ++ (whole 13 (ltb dstLen (need t c)) ∷ []))
 
 -- a room question has no 5 and no 13
 abbrev pub roomRules : Tensor → Config → List Rule
-roomRules t c = sourceRules t ++ configRules t c ++ placeRules t c
+roomRules t c = sourceRules t ++ configRules t c ++ dstRules t c
 
 -- count: 1, 3, 16, 29
 abbrev pub countRules : Tensor → ℕ → List Rule

@@ -4,13 +4,13 @@ use mathlib.Core.Bool.{Bool, cond, _||_}
 use mathlib.Core.List.{List}
 use lib.Dec.{ltb, eqb}
 use Rattle.plane.specs.declared.Tensor.{Tensor}
-use Rattle.plane.specs.declared.Fault.{Fault}
+use Rattle.faults.specs.declared.Fault.{Fault}
 use Rattle.plane.specs.declared.Source.{Source}
 use Rattle.plane.specs.Arrays.{at, firsts, zeros, sum, or0}
-use Rattle.plane.specs.Faults.{when, _orElse_, lowest, outward, unless}
+use Rattle.faults.specs.Faults.{when, _orElse_, lowest, outward, ifFault}
 
 abbrev pub zeroTensor : Tensor
-zeroTensor = record { rank = 0; size = 0; shape = zeros; stride = zeros }
+zeroTensor = record { rank = 0; «element_size» = 0; shape = zeros; stride = zeros }
 
 -- 1: the rank is 1 to 4
 abbrev pub badRank : ℕ → Bool
@@ -35,7 +35,7 @@ badStride stride inner = ltb stride inner || ltb 2147483647 stride
 abbrev pub shapeAt : Tensor → ℕ → ℕ
 shapeAt t d = at (t .shape) d
 
--- the stride as the record has it. The rules read the source's strides here and nowhere else
+-- the stride as the record has it
 abbrev pub strideAt : Tensor → ℕ → ℕ
 strideAt t d = at (t .stride) d
 
@@ -57,15 +57,20 @@ strides n shape stride = firsts n (resolved n shape stride)
 abbrev pub srcStrides : Tensor → List ℕ
 srcStrides t = strides (t .rank) (shapeAt t) (strideAt t)
 
+-- where coordinate x of dimension d lies, in elements from coordinate 0 on: the source place of one coordinate in one dimension, which
+-- moves, sub-tensors and the engine's plan all read here
+abbrev pub sourceAt : Tensor → ℕ → ℕ → ℕ
+sourceAt t d x = x * at (srcStrides t) d
+
 -- in bytes
 unfoldable pub span : Tensor → ℕ
-span t = (1 + sum (t .rank) (λ d. (shapeAt t d - 1) * at (srcStrides t) d)) * t .size
+span t = (1 + sum (t .rank) (λ d. (shapeAt t d - 1) * at (srcStrides t) d)) * t .«element_size»
 
 -- 1 to 4
 unfoldable pub sourceFault : Tensor → Fault
 sourceFault t =
     when 1 0 (badRank (t .rank)) orElse
-    when 2 0 (badElement (t .size)) orElse
+    when 2 0 (badElement (t .«element_size»)) orElse
     lowest 3 (t .rank) (λ d. badShape (shapeAt t d)) orElse
     outward 4 (t .rank) (badStrideAt (t .rank) (shapeAt t) (strideAt t))
 
@@ -73,6 +78,6 @@ sourceFault t =
 unfoldable pub sourceOf : Tensor → Source
 sourceOf t = record {
   fault = sourceFault t;
-  stride = unless (sourceFault t) zeros (srcStrides t);
-  span = unless (sourceFault t) 0 (span t);
+  stride = ifFault (sourceFault t) zeros (srcStrides t);
+  span = ifFault (sourceFault t) 0 (span t);
 }

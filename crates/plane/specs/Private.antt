@@ -6,7 +6,7 @@ use Rattle.plane.specs.declared.Count.{Count}
 use Rattle.plane.specs.declared.strides.Strides.{Strides}
 use Rattle.plane.specs.declared.sub.Staying.{Staying}
 use Rattle.plane.specs.Arrays.{at, firsts, zeros, sum, product, howMany}
-use Rattle.plane.specs.Faults.{when, outward, unless}
+use Rattle.faults.specs.Faults.{when, outward, ifFault}
 use Rattle.plane.specs.Planes.{badStrideAt, strides}
 use Rattle.plane.specs.Helpers.{countAnswer, isUnit, staying}
 
@@ -14,7 +14,7 @@ use Rattle.plane.specs.Helpers.{countAnswer, isUnit, staying}
 unfoldable pub stridesOf : ℕ → ℕ → (ℕ → ℕ) → (ℕ → ℕ) → Strides
 stridesOf num n shape stride = record {
   fault = outward num n (badStrideAt n shape stride);
-  stride = unless (outward num n (badStrideAt n shape stride)) zeros (strides n shape stride);
+  stride = ifFault (outward num n (badStrideAt n shape stride)) zeros (strides n shape stride);
 }
 
 -- the elements from the first to the last coordinate of a box that starts at these offsets

@@ -8,7 +8,7 @@ use Rattle.plane.specs.Arrays.{at}
 
 pub record SameTensor (t t′ : Tensor) : Type 0 where
   pub rank : t .rank ≡ t′ .rank
-  pub size : t .size ≡ t′ .size
+  pub element : t .«element_size» ≡ t′ .«element_size»
   pub shape : (d : ℕ) → d < t .rank → at (t .shape) d ≡ at (t′ .shape) d
   pub stride : (d : ℕ) → d < t .rank → at (t .stride) d ≡ at (t′ .stride) d
 

@@ -15,8 +15,8 @@ use crate::strides::resolve;
 ghost use mathlib.Core.Path.{_≡_};
 ghost use Prim.Native.Nat.{ℕ, _≤_, _<_};
 ghost use Rattle.plane.specs.Arrays.{at};
-ghost use Rattle.plane.specs.Faults.{_orElse_};
-ghost use Rattle.plane.specs.Moves.{dstExtents, configFault, placeFault, answerOf};
+ghost use Rattle.faults.specs.Faults.{_orElse_};
+ghost use Rattle.plane.specs.Moves.{dstExtents, configFault, dstFault, answerOf};
 
 // 6 to 10
 fn config_fault(t: Tensor, c: Config) -> Fault
@@ -49,9 +49,9 @@ fn config_fault(t: Tensor, c: Config) -> Fault
 }
 
 // 11 and 12, else the answer. extent has the extents in destination order.
-fn place(t: Tensor, c: Config, extent: [u32; 4]) -> Answer
+fn placement(t: Tensor, c: Config, extent: [u32; 4]) -> Answer
     requires { ⌜ (t .rank ≤ 4) × (extent ≡ dstExtents t c) × ((i : ℕ) → i < t .rank → (0 < at extent i) × (at extent i ≤ 65535)) ⌝ }
-    ensures { λ r. ⌜ r ≡ answerOf (placeFault t c) t c ⌝ }
+    ensures { λ r. ⌜ r ≡ answerOf (dstFault t c) t c ⌝ }
 {
     let n = t.rank;
     let written = c.dst_stride;
@@ -70,20 +70,20 @@ fn place(t: Tensor, c: Config, extent: [u32; 4]) -> Answer
         status: 0,
         dim: 0,
         rank: n,
-        size: t.size,
+        element_size: t.element_size,
         extent: extent,
         stride: stride,
-        need: bytes(n, offset, extent, stride, t.size),
+        need: bytes(n, offset, extent, stride, t.element_size),
     }
 }
 
 pub(crate) fn destination(t: Tensor, c: Config) -> Answer
     requires { ⌜ t .rank ≤ 4 ⌝ }
-    ensures { λ r. ⌜ r ≡ answerOf (configFault t c orElse placeFault t c) t c ⌝ }
+    ensures { λ r. ⌜ r ≡ answerOf (configFault t c orElse dstFault t c) t c ⌝ }
 {
     let f = config_fault(t, c);
     if f.status != 0 {
         return Answer::refused(f);
     }
-    place(t, c, dst_extents(t, c))
+    placement(t, c, dst_extents(t, c))
 }

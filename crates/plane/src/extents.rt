@@ -6,7 +6,7 @@ use crate::refusals::no_fault;
 ghost use mathlib.Core.Path.{_≡_};
 ghost use Prim.Native.Nat.{ℕ, _+_, _-_, _≤_, _<_};
 ghost use Rattle.plane.specs.Arrays.{at, or0};
-ghost use Rattle.plane.specs.Faults.{lowest};
+ghost use Rattle.faults.specs.Faults.{lowest};
 ghost use Rattle.plane.specs.Planes.{shapeAt};
 ghost use Rattle.plane.specs.Moves.{upward, extent, dstExtents, badExtent};
 

@@ -12,6 +12,7 @@ mod settings; // a configuration with one field set
 mod helpers; // element size and element count
 mod sub; // a part of a plane as a tensor of its own
 
+pub use faults::Fault;
 pub use helpers::element_count;
 pub use helpers::element_size;
 pub use refusals::rank_is_bad;
@@ -24,7 +25,7 @@ pub use verdict::room;
 // stride 0 stands for the inner product.
 pub struct Tensor {
     pub rank: u8,
-    pub size: u8,
+    pub element_size: u8,
     pub shape: [u32; 4],
     pub stride: [u32; 4],
 }
@@ -42,12 +43,6 @@ pub struct Config {
     pub post: [u8; 4],
 }
 
-// A number of refusal and the dimension that it names; number 0 is no fault.
-pub struct Fault {
-    pub status: u8,
-    pub dim: u8,
-}
-
 // What a tensor record by itself comes to: its resolved strides, and the bytes that it spans; zeros besides a fault.
 pub struct Source {
     pub fault: Fault,
@@ -60,7 +55,7 @@ pub struct Answer {
     pub status: u8,
     pub dim: u8,
     pub rank: u8,
-    pub size: u8,
+    pub element_size: u8,
     pub extent: [u32; 4],
     pub stride: [u32; 4],
     pub need: u64,

@@ -4,7 +4,7 @@ ghost use mathlib.Core.Path.{_≡_};
 ghost use Prim.Native.Nat.{_+_, _≤_, _<_};
 ghost use lib.Dec.{eqb};
 ghost use Rattle.plane.specs.Arrays.{at, some};
-ghost use Rattle.plane.specs.Faults.{none, lowest};
+ghost use Rattle.faults.specs.Faults.{none, lowest};
 ghost use Rattle.plane.specs.Planes.{badRank, badShape};
 ghost use Rattle.plane.specs.Moves.{badPermAt, badOffset, badSize, badStep, badDstOffset};
 

@@ -11,7 +11,7 @@ use crate::tensors::source_of;
 ghost use mathlib.Core.Path.{_≡_};
 ghost use Prim.Native.Nat.{ℕ, _+_, _-_, _*_, _≤_, _<_};
 ghost use Rattle.plane.specs.Arrays.{at};
-ghost use Rattle.plane.specs.Faults.{lowest};
+ghost use Rattle.faults.specs.Faults.{lowest};
 ghost use Rattle.plane.specs.Planes.{srcStrides};
 ghost use Rattle.plane.specs.Helpers.{badSubSize, rankFault, noSub, subOf, subByte, subAnswer, subTensorOf};
 ghost use Rattle.plane.specs.Private.{stayingOf};
@@ -97,11 +97,11 @@ fn shrink(t: Tensor, s: SubConfig, stride: [u32; 4]) -> SubTensor
         dim: 0,
         tensor: Tensor {
             rank: m as u8,
-            size: t.size,
+            element_size: t.element_size,
             shape,
             stride: kept,
         },
-        byte: distance(n, offset, stride) * (t.size as u64),
+        byte: distance(n, offset, stride) * (t.element_size as u64),
     }
 }
 

@@ -29,7 +29,7 @@ pub fn source_of(t: Tensor) -> Source
     if rank_is_bad(n) {
         return refused(Fault { status: 1, dim: 0 });
     }
-    if element_size(t.size) == 0 {
+    if element_size(t.element_size) == 0 {
         return refused(Fault { status: 2, dim: 0 });
     }
     let shape = t.shape;
@@ -47,6 +47,6 @@ pub fn source_of(t: Tensor) -> Source
     Source {
         fault: g,
         stride: stride,
-        span: bytes(n, [0u32; 4], shape, stride, t.size),
+        span: bytes(n, [0u32; 4], shape, stride, t.element_size),
     }
 }

@@ -15,7 +15,7 @@ impl Tensor {
     {
         Tensor {
             rank: 0,
-            size: 0,
+            element_size: 0,
             shape: [0u32; 4],
             stride: [0u32; 4],
         }
@@ -49,7 +49,7 @@ impl Answer {
             status: f.status,
             dim: f.dim,
             rank: 0,
-            size: 0,
+            element_size: 0,
             extent: [0u32; 4],
             stride: [0u32; 4],
             need: 0,

@@ -1,6 +1,6 @@
 -- Each public call asks nothing of its caller, and no two differing outcomes satisfy its contract. Assumes nothing.
-use Rattle.plane.specs.Decided.{Decided}
-use Rattle.plane.proofs.Decided.{by-equation}
+use Rattle.faults.specs.Decided.{Decided}
+use Rattle.faults.proofs.Deciding.{by-equation}
 use Rattle.ready_made.proofs.copy.Reads as copy
 use Rattle.ready_made.proofs.slice.Reads as slice
 use Rattle.ready_made.proofs.concatenate.Reads as concatenate

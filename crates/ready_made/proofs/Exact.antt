@@ -24,13 +24,13 @@ module _ (n : ℕ) (c : Config) where
 pub made-unseen : (n : ℕ) (c c′ : Config) → SameConfig n c c′ → madeFor n c ≡ madeFor n c′
 unfolding madeFor cutTo
 made-unseen n c c′ b =
-    let o = firsts-same n (at (c .offset)) (at (c′ .offset)) (b .offset) in
-    let z = firsts-same n (at (c .size)) (at (c′ .size)) (b .size) in
-    let s = firsts-same n (at (c .step)) (at (c′ .step)) (b .step) in
-    let d = firsts-same n (at (c .«dst_offset»)) (at (c′ .«dst_offset»)) (b .dst-offset) in
-    let e = firsts-same n (at (c .«dst_stride»)) (at (c′ .«dst_stride»)) (b .dst-stride) in
-    let p = firsts-same n (at (c .perm)) (at (c′ .perm)) (b .perm) in
-    let f = firsts-same n (at (c .pre)) (at (c′ .pre)) (b .pre) in
-    let g = firsts-same n (at (c .post)) (at (c′ .post)) (b .post) in
+    let o = firsts-same 0 n (at (c .offset)) (at (c′ .offset)) (b .offset) in
+    let z = firsts-same 0 n (at (c .size)) (at (c′ .size)) (b .size) in
+    let s = firsts-same 0 n (at (c .step)) (at (c′ .step)) (b .step) in
+    let d = firsts-same 0 n (at (c .«dst_offset»)) (at (c′ .«dst_offset»)) (b .dst-offset) in
+    let e = firsts-same 0 n (at (c .«dst_stride»)) (at (c′ .«dst_stride»)) (b .dst-stride) in
+    let p = firsts-same 0 n (at (c .perm)) (at (c′ .perm)) (b .perm) in
+    let f = firsts-same 0 n (at (c .pre)) (at (c′ .pre)) (b .pre) in
+    let g = firsts-same 0 n (at (c .post)) (at (c′ .post)) (b .post) in
     ap (λ (x : Config). cond (badRank n) (record { status = 1; config = zeroConfig }) (record { status = 0; config = x }))
     (λ i. configOf (o i) (z i) (s i) (d i) (e i) (p i) (f i) (g i))

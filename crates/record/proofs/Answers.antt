@@ -10,12 +10,12 @@ use lib.ListN.{length}
 use lib.Seq.{sets}
 use Rattle.plane.specs.declared.Tensor.{Tensor}
 use Rattle.plane.specs.declared.Config.{Config}
-use Rattle.plane.specs.declared.Fault.{Fault}
-use Rattle.plane.specs.Faults.{fault}
-use Rattle.plane.proofs.Faults.{status, is-fault, given, spared, unless-fault, unless-none}
+use Rattle.faults.specs.declared.Fault.{Fault}
+use Rattle.faults.specs.Faults.{fault}
+use Rattle.faults.proofs.Faults.{status, is-fault, given, spared, if-fault, if-none}
 use Rattle.record.specs.declared.Reading.{Reading}
 use Rattle.record.specs.Layout.{recordLength}
-use Rattle.record.specs.Records.{tensorIn, configIn, recordBytes, badLength, badMark, badVersion, fieldsFault, readFault, writeFault, refused, accepted, readOf, writtenRoom}
+use Rattle.record.specs.Records.{tensorIn, configIn, recordBytes, badLength, badMark, badVersion, fieldsFault, readFault, writeFault, noReading, reading, readOf, writtenRoom}
 use Rattle.record.specs.Private.{tensorBytes, configBytes}
 use Rattle.record.proofs.Laying.{record-laid}
 
@@ -44,21 +44,21 @@ module _ (bs : List ℕ) where
   unfolding readFault
   read-fields l m v = spared 25 0 _ _ (length-good _ l) ∙ spared 26 0 _ _ m ∙ spared 27 0 _ _ v
 
-  pub read-refused : {f : Fault} {r : Reading} → readFault bs ≡ f → (f .status ≡ 0 → ⊥) → r ≡ refused f → r ≡ readOf bs
+  pub read-refused : {f : Fault} {r : Reading} → readFault bs ≡ f → (f .status ≡ 0 → ⊥) → r ≡ noReading f → r ≡ readOf bs
   unfolding readOf
   read-refused e h q =
-      q ∙ ap refused (sym e) ∙ sym (unless-fault (readFault bs) (refused (readFault bs)) (accepted (tensorIn bs) (configIn bs)) (λ z. h (sym (status e) ∙ z)))
+      q ∙ ap noReading (sym e) ∙ sym (if-fault (readFault bs) (noReading (readFault bs)) (reading (tensorIn bs) (configIn bs)) (λ z. h (sym (status e) ∙ z)))
 
-  pub read-given : readFault bs .status ≡ 0 → readOf bs ≡ accepted (tensorIn bs) (configIn bs)
+  pub read-given : readFault bs .status ≡ 0 → readOf bs ≡ reading (tensorIn bs) (configIn bs)
   unfolding readOf
-  read-given z = unless-none (readFault bs) (refused (readFault bs)) (accepted (tensorIn bs) (configIn bs)) z
+  read-given z = if-none (readFault bs) (noReading (readFault bs)) (reading (tensorIn bs) (configIn bs)) z
 
   -- an answer's number is its fault's
   pub read-status : readOf bs .status ≡ readFault bs .status
   unfolding readOf
   read-status = elim (ℕ-discrete (readFault bs .status) 0) [
-    | yes z ↦ ap (λ (r : Reading). r .status) (unless-none (readFault bs) (refused (readFault bs)) (accepted (tensorIn bs) (configIn bs)) z) ∙ sym z
-    | no z ↦ ap (λ (r : Reading). r .status) (unless-fault (readFault bs) (refused (readFault bs)) (accepted (tensorIn bs) (configIn bs)) z)
+    | yes z ↦ ap (λ (r : Reading). r .status) (if-none (readFault bs) (noReading (readFault bs)) (reading (tensorIn bs) (configIn bs)) z) ∙ sym z
+    | no z ↦ ap (λ (r : Reading). r .status) (if-fault (readFault bs) (noReading (readFault bs)) (reading (tensorIn bs) (configIn bs)) z)
   ]
 
   -- as the code comes to it: the fields read, and then judged
@@ -66,11 +66,11 @@ module _ (bs : List ℕ) where
     read-judged : readFault bs ≡ f
     read-judged = read-fields l m v ∙ ap₂ fieldsFault (sym te) (sym ce) ∙ sym fe
 
-    pub fields-refused : {r : Reading} → (f .status ≡ 0 → ⊥) → r ≡ refused f → r ≡ readOf bs
+    pub fields-refused : {r : Reading} → (f .status ≡ 0 → ⊥) → r ≡ noReading f → r ≡ readOf bs
     fields-refused h q = read-refused read-judged h q
 
-    pub fields-given : f .status ≡ 0 → accepted t c ≡ readOf bs
-    fields-given z = ap₂ accepted te ce ∙ sym (read-given (status read-judged ∙ z))
+    pub fields-given : f .status ≡ 0 → reading t c ≡ readOf bs
+    fields-given z = ap₂ reading te ce ∙ sym (read-given (status read-judged ∙ z))
 
 -- ---- write
 
@@ -86,11 +86,11 @@ module _ (t : Tensor) (c : Config) where
   module _ (room : List ℕ) where
     pub room-kept : (writeFault t c (length room) .status ≡ 0 → ⊥) → writtenRoom t c room ≡ room
     unfolding writtenRoom
-    room-kept h = unless-fault (writeFault t c (length room)) room (recordBytes t c) h
+    room-kept h = if-fault (writeFault t c (length room)) room (recordBytes t c) h
 
     pub room-written : writeFault t c (length room) .status ≡ 0 → writtenRoom t c room ≡ recordBytes t c
     unfolding writtenRoom
-    room-written z = unless-none (writeFault t c (length room)) room (recordBytes t c) z
+    room-written z = if-none (writeFault t c (length room)) room (recordBytes t c) z
 
     -- as the code comes to it
     pub write-short : (length room ≡ recordLength → ⊥) → (fault 25 0 ≡ writeFault t c (length room)) × (room ≡ writtenRoom t c room)

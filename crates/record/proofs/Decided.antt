@@ -2,8 +2,8 @@
 -- contract of the call as the checker reads it off the source. Assumes nothing.
 use mathlib.Core.Path.{sym, _∙_}
 use denote.Ref.{now}
-use Rattle.plane.specs.Decided.{Decided, OneBytes}
-use Rattle.plane.proofs.Decided.{by-equation, by-first}
+use Rattle.faults.specs.Decided.{Decided, OneBytes}
+use Rattle.faults.proofs.Deciding.{by-equation, by-first}
 use Rattle.record.proofs.reader.read.Reads as read
 use Rattle.record.proofs.writer.write.Reads as write
 

@@ -7,13 +7,13 @@ use mathlib.Core.List.{List}
 use lib.ListN.{length}
 use Rattle.plane.specs.declared.Tensor.{Tensor}
 use Rattle.plane.specs.declared.Config.{Config}
-use Rattle.plane.specs.Faults.{none, fault, when}
+use Rattle.faults.specs.Faults.{none, fault, when}
 use Rattle.plane.specs.Planes.{badRank}
-use Rattle.plane.specs.Exactness.{fromFirst, Exact}
-use Rattle.plane.proofs.Faults.{or-path, or-clear, or-none}
-use Rattle.plane.proofs.Chains.{Positive, chain, exact, or-last, whole-is}
+use Rattle.faults.specs.Exactness.{fromFirst, Exact}
+use Rattle.faults.proofs.Faults.{or-path, or-clear, or-none}
+use Rattle.faults.proofs.Chains.{Positive, chain, exact, or-last, whole-is}
 use Rattle.record.specs.declared.Reading.{Reading}
-use Rattle.record.specs.Records.{tensorIn, configIn, badLength, stray, fieldsFault, readFault, writeFault, refused, readOf, writtenRoom}
+use Rattle.record.specs.Records.{tensorIn, configIn, badLength, stray, fieldsFault, readFault, writeFault, noReading, readOf, writtenRoom}
 use Rattle.record.specs.Orders.{fieldsRules, readRules, writeRules}
 use Rattle.record.proofs.Strays.{none-stray}
 use Rattle.record.proofs.Answers.{read-refused, read-status, room-kept}
@@ -43,10 +43,10 @@ positive-write t c n = omega arith
 -- ---- the theorems
 
 module _ (bs : List ℕ) where
-  pub read-zeros : (readOf bs .status ≡ 0 → ⊥) → readOf bs ≡ refused (fault (readOf bs .status) (readOf bs .dim))
+  pub read-zeros : (readOf bs .status ≡ 0 → ⊥) → readOf bs ≡ noReading (fault (readOf bs .status) (readOf bs .dim))
   read-zeros h =
       let e = sym (read-refused bs refl (λ z. h (read-status bs ∙ z)) refl) in
-      e ∙ ap (λ (r : Reading). refused (fault (r .status) (r .dim))) (sym e)
+      e ∙ ap (λ (r : Reading). noReading (fault (r .status) (r .dim))) (sym e)
 
   pub read-exact : Exact (readRules bs) (readOf bs .status) (readOf bs .dim)
   read-exact =

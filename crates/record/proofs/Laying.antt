@@ -19,14 +19,14 @@ group-next : (l : List ℕ) (i : ℕ) (xs : List ℕ) (w : ℕ) (ys : List ℕ) 
 group-next l i xs w ys s e = stored-next l i xs (fourBytes w ys) (4 * w) s (length-four w ys) e
 
 module _ (l : List ℕ) (t : Tensor) where
-  tensor-stored : {a b m : List ℕ} → a ≡ sets l 0 (headBytes (t .rank) (t .size)) → b ≡ sets a 7 (fourBytes 4 (t .shape)) → m ≡ sets b 23 (fourBytes 4 (t .stride)) → Stored l 0 39 (tensorBytes t) m
+  tensor-stored : {a b m : List ℕ} → a ≡ sets l 0 (headBytes (t .rank) (t .«element_size»)) → b ≡ sets a 7 (fourBytes 4 (t .shape)) → m ≡ sets b 23 (fourBytes 4 (t .stride)) → Stored l 0 39 (tensorBytes t) m
   unfolding tensorBytes little
   tensor-stored ea eb em =
-      let h = headBytes (t .rank) (t .size) in
+      let h = headBytes (t .rank) (t .«element_size») in
       let one = group-next l 0 h 4 (t .shape) (record { is = ea; long = refl }) eb in
       group-next l 0 (h ++ fourBytes 4 (t .shape)) 4 (t .stride) one em
 
-  pub tensor-laid : {a b m : List ℕ} → a ≡ sets l 0 (headBytes (t .rank) (t .size)) → b ≡ sets a 7 (fourBytes 4 (t .shape)) → m ≡ sets b 23 (fourBytes 4 (t .stride)) → m ≡ sets l 0 (tensorBytes t)
+  pub tensor-laid : {a b m : List ℕ} → a ≡ sets l 0 (headBytes (t .rank) (t .«element_size»)) → b ≡ sets a 7 (fourBytes 4 (t .shape)) → m ≡ sets b 23 (fourBytes 4 (t .stride)) → m ≡ sets l 0 (tensorBytes t)
   tensor-laid ea eb em = tensor-stored ea eb em .is
 
 module _ (l : List ℕ) (c : Config) {m1 m2 m3 m4 m5 m6 m7 m8 : List ℕ} (e1 : m1 ≡ sets l 39 (fourBytes 4 (c .offset))) (e2 : m2 ≡ sets m1 55 (fourBytes 4 (c .size))) (e3 : m3 ≡ sets m2 71 (fourBytes 4 (c .step))) (e4 : m4 ≡ sets m3 87 (fourBytes 4 (c .«dst_offset»))) (e5 : m5 ≡ sets m4 103 (fourBytes 4 (c .«dst_stride»))) (e6 : m6 ≡ sets m5 119 (fourBytes 1 (c .perm))) (e7 : m7 ≡ sets m6 123 (fourBytes 1 (c .pre))) (e8 : m8 ≡ sets m7 127 (fourBytes 1 (c .post))) where
@@ -57,13 +57,13 @@ module _ (t : Tensor) (c : Config) where
   unfolding recordBytes little sum
   length-record =
       let groups = joined groupCount (λ k. fourBytes (width k) (group t c k)) in
-      length-append (headBytes (t .rank) (t .size)) groups ∙
+      length-append (headBytes (t .rank) (t .«element_size»)) groups ∙
       ap (λ (n : ℕ). 7 + n) (length-joined groupCount (λ k. fourBytes (width k) (group t c k)) (λ k. 4 * width k) (λ k _. length-four (width k) (group t c k)))
 
   two-pieces : tensorBytes t ++ configBytes c ≡ recordBytes t c
   unfolding tensorBytes configBytes recordBytes joined
   two-pieces =
-      regroup (headBytes (t .rank) (t .size)) (fourBytes 4 (t .shape)) (fourBytes 4 (t .stride)) (fourBytes 4 (c .offset)) (fourBytes 4 (c .size))
+      regroup (headBytes (t .rank) (t .«element_size»)) (fourBytes 4 (t .shape)) (fourBytes 4 (t .stride)) (fourBytes 4 (c .offset)) (fourBytes 4 (c .size))
       (fourBytes 4 (c .step)) (fourBytes 4 (c .«dst_offset»)) (fourBytes 4 (c .«dst_stride»)) (fourBytes 1 (c .perm)) (fourBytes 1 (c .pre)) (fourBytes 1 (c .post))
 
   -- both pieces stored in a room of the record's length

@@ -15,14 +15,14 @@ use lib.Seq.{take-all, take-add}
 use Rattle.plane.specs.declared.Tensor.{Tensor}
 use Rattle.plane.specs.declared.Config.{Config}
 use Rattle.plane.specs.Arrays.{at, sum, some}
-use Rattle.plane.specs.Faults.{when}
+use Rattle.faults.specs.Faults.{when}
 use Rattle.plane.specs.Settings.{configOf}
-use Rattle.plane.proofs.Bools.{either-clear}
+use Rattle.faults.proofs.Bools.{either-clear}
 use Rattle.plane.proofs.Arrays.{table-at, is-table}
-use Rattle.plane.proofs.Faults.{status, or-clear, when-clear}
+use Rattle.faults.proofs.Faults.{status, or-clear, when-clear}
 use Rattle.record.specs.declared.Reading.{Reading}
 use Rattle.record.specs.Layout.{little, number, part, joined, recordLength, mark, theVersion, versionIn, rankIn, sizeIn, headBytes, groupCount, group, width, start, fourBytes}
-use Rattle.record.specs.Records.{groupIn, tensorIn, configIn, recordBytes, badLength, badMark, badVersion, fieldsFault, readFault, writeFault, accepted, readOf, writtenRoom}
+use Rattle.record.specs.Records.{groupIn, tensorIn, configIn, recordBytes, badLength, badMark, badVersion, fieldsFault, readFault, writeFault, reading, readOf, writtenRoom}
 use Rattle.record.specs.RoundTrip.{Fits, Bytes, OneWriting}
 use Rattle.record.proofs.Parts.{part-cons, length-part, part-append, part-part, sum-step, sum-const, joined-same, part-joined, joined-parts}
 use Rattle.record.proofs.Digits.{bytes-part, length-little, number-little, little-number, number-fits, number-two, length-four}
@@ -50,7 +50,7 @@ module _ (t : Tensor) (c : Config) (f : Fits t c) where
       let w = width k in
       let xs = group t c k in
       let s = sum k four in
-      let heads = headBytes (t .rank) (t .size) in
+      let heads = headBytes (t .rank) (t .«element_size») in
       let all = joined groupCount (λ j. fourBytes (width j) (group t c j)) in
       let place : start k + d * w ≡ length heads + (s + d * w) = omega arith in
       let same : d * w ≡ sum d (λ _. w) = sym (sum-const d w) in
@@ -65,12 +65,12 @@ module _ (t : Tensor) (c : Config) (f : Fits t c) where
 
   group-back : (k : ℕ) → k < groupCount → groupIn (recordBytes t c) k ≡ group t c k
   group-back k h =
-      sym (is-table (group t c k) (λ d. number (part (start k + d * width k) (width k) (recordBytes t c))) (f .long k h) (λ d q. sym (entry-back k d h q)))
+      sym (is-table 0 (group t c k) (λ d. number (part (start k + d * width k) (width k) (recordBytes t c))) (f .long k h) (λ d q. sym (entry-back k d h q)))
 
   tensor-back : tensorIn (recordBytes t c) ≡ t
   unfolding tensorIn recordBytes little
   tensor-back =
-      λ i. record { rank = t .rank; size = t .size; shape = group-back 0 (omega arith) i; stride = group-back 1 (omega arith) i }
+      λ i. record { rank = t .rank; «element_size» = t .«element_size»; shape = group-back 0 (omega arith) i; stride = group-back 1 (omega arith) i }
 
   config-back : configIn (recordBytes t c) ≡ c
   unfolding configIn
@@ -90,11 +90,11 @@ module _ (t : Tensor) (c : Config) (f : Fits t c) where
   fault-back : readFault (recordBytes t c) ≡ fieldsFault t c
   fault-back = read-fields (recordBytes t c) (length-record t c) mark-back version-back ∙ ap₂ fieldsFault tensor-back config-back
 
-  record-back : fieldsFault t c .status ≡ 0 → readOf (recordBytes t c) ≡ accepted t c
-  record-back z = read-given (recordBytes t c) (status fault-back ∙ z) ∙ ap₂ accepted tensor-back config-back
+  record-back : fieldsFault t c .status ≡ 0 → readOf (recordBytes t c) ≡ reading t c
+  record-back z = read-given (recordBytes t c) (status fault-back ∙ z) ∙ ap₂ reading tensor-back config-back
 
   -- the theorem: what is written reads back
-  pub read-back : (room : List ℕ) → writeFault t c (length room) .status ≡ 0 → readOf (writtenRoom t c room) ≡ accepted t c
+  pub read-back : (room : List ℕ) → writeFault t c (length room) .status ≡ 0 → readOf (writtenRoom t c room) ≡ reading t c
   unfolding writeFault
   read-back room z = ap readOf (room-written t c room z) ∙ record-back (or-clear _ _ z .1)
 
@@ -183,7 +183,7 @@ module _ (bs : List ℕ) (b : Bytes bs) where
     unfolding tensorIn
     fits-read = record {
       rank = b 5;
-      size = b 6;
+      element = b 6;
       long = λ k h. ap length (group-in k h);
       small = λ k d h q. small k d h q;
     }

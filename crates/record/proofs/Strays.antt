@@ -9,8 +9,8 @@ use lib.Dec.{eqb}
 use Rattle.plane.specs.declared.Tensor.{Tensor}
 use Rattle.plane.specs.declared.Config.{Config}
 use Rattle.plane.specs.Arrays.{at, some}
-use Rattle.plane.specs.Faults.{none, lowest}
-use Rattle.plane.proofs.Faults.{Searched, searched-start, searched-more, lowest-clear}
+use Rattle.faults.specs.Faults.{none, lowest}
+use Rattle.faults.proofs.Faults.{Searched, searched-start, searched-more, lowest-clear}
 use Rattle.record.specs.Layout.{groupCount, group}
 use Rattle.record.specs.Records.{stray}
 

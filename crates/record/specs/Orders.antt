@@ -5,7 +5,7 @@ use lib.ListN.{length}
 use Rattle.plane.specs.declared.Tensor.{Tensor}
 use Rattle.plane.specs.declared.Config.{Config}
 use Rattle.plane.specs.Planes.{badRank}
-use Rattle.plane.specs.Exactness.{Rule, whole, fromFirst}
+use Rattle.faults.specs.Exactness.{Rule, whole, fromFirst}
 use Rattle.record.specs.Records.{tensorIn, configIn, badLength, badMark, badVersion, stray}
 
 -- 1 and 28

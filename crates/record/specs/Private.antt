@@ -7,7 +7,7 @@ use Rattle.record.specs.Layout.{headBytes, fourBytes}
 
 -- the record's bytes up to the end of the strides
 unfoldable pub tensorBytes : Tensor → List ℕ
-tensorBytes t = headBytes (t .rank) (t .size) ++ fourBytes 4 (t .shape) ++ fourBytes 4 (t .stride)
+tensorBytes t = headBytes (t .rank) (t .«element_size») ++ fourBytes 4 (t .shape) ++ fourBytes 4 (t .stride)
 
 -- and from there on
 unfoldable pub configBytes : Config → List ℕ

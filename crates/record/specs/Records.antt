@@ -6,9 +6,9 @@ use lib.Dec.{leb, eqb}
 use lib.ListN.{length}
 use Rattle.plane.specs.declared.Tensor.{Tensor}
 use Rattle.plane.specs.declared.Config.{Config}
-use Rattle.plane.specs.declared.Fault.{Fault}
+use Rattle.faults.specs.declared.Fault.{Fault}
 use Rattle.plane.specs.Arrays.{at, some}
-use Rattle.plane.specs.Faults.{when, _orElse_, lowest, unless}
+use Rattle.faults.specs.Faults.{when, _orElse_, lowest, ifFault}
 use Rattle.plane.specs.Planes.{badRank}
 use Rattle.plane.specs.Settings.{configOf, zeroConfig}
 use Rattle.plane.specs.Planes.{zeroTensor}
@@ -21,7 +21,7 @@ abbrev pub groupIn : List ℕ → ℕ → List ℕ
 groupIn bs k = fourIn (start k) (width k) bs
 
 unfoldable pub tensorIn : List ℕ → Tensor
-tensorIn bs = record { rank = rankIn bs; size = sizeIn bs; shape = groupIn bs 0; stride = groupIn bs 1 }
+tensorIn bs = record { rank = rankIn bs; «element_size» = sizeIn bs; shape = groupIn bs 0; stride = groupIn bs 1 }
 
 unfoldable pub configIn : List ℕ → Config
 configIn bs =
@@ -30,7 +30,7 @@ configIn bs =
 
 -- the first seven bytes, and then the groups
 unfoldable pub recordBytes : Tensor → Config → List ℕ
-recordBytes t c = headBytes (t .rank) (t .size) ++ joined groupCount (λ k. fourBytes (width k) (group t c k))
+recordBytes t c = headBytes (t .rank) (t .«element_size») ++ joined groupCount (λ k. fourBytes (width k) (group t c k))
 
 -- ---- The numbers of refusal
 
@@ -67,15 +67,15 @@ writeFault t c n = when 25 0 (badLength n) orElse fieldsFault t c
 
 -- ---- The answers
 
-abbrev pub refused : Fault → Reading
-refused f = record { status = f .status; dim = f .dim; tensor = zeroTensor; config = zeroConfig }
+abbrev pub noReading : Fault → Reading
+noReading f = record { status = f .status; dim = f .dim; tensor = zeroTensor; config = zeroConfig }
 
-abbrev pub accepted : Tensor → Config → Reading
-accepted t c = record { status = 0; dim = 0; tensor = t; config = c }
+abbrev pub reading : Tensor → Config → Reading
+reading t c = record { status = 0; dim = 0; tensor = t; config = c }
 
 unfoldable pub readOf : List ℕ → Reading
-readOf bs = unless (readFault bs) (refused (readFault bs)) (accepted (tensorIn bs) (configIn bs))
+readOf bs = ifFault (readFault bs) (noReading (readFault bs)) (reading (tensorIn bs) (configIn bs))
 
 -- a write answers its fault, and leaves a refused room as it was
 unfoldable pub writtenRoom : Tensor → Config → List ℕ → List ℕ
-writtenRoom t c room = unless (writeFault t c (length room)) room (recordBytes t c)
+writtenRoom t c room = ifFault (writeFault t c (length room)) room (recordBytes t c)

@@ -12,7 +12,7 @@ use Rattle.record.specs.Records.{recordBytes, fieldsFault}
 -- what the types of the code say of the fields: arrays of four entries, and each entry fits its bytes
 pub record Fits (t : Tensor) (c : Config) : Type 0 where
   pub rank : t .rank < 256
-  pub size : t .size < 256
+  pub element : t .«element_size» < 256
   pub long : (k : ℕ) → k < groupCount → length (group t c k) ≡ 4
   pub small : (k d : ℕ) → k < groupCount → d < 4 → at (group t c k) d < 256 ^ width k
 

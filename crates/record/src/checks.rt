@@ -8,7 +8,7 @@ ghost use mathlib.Core.Bool.{not};
 ghost use Prim.Native.Nat.{_≤_, _<_};
 ghost use lib.Dec.{eqb};
 ghost use Rattle.plane.specs.Arrays.{at, some};
-ghost use Rattle.plane.specs.Faults.{lowest};
+ghost use Rattle.faults.specs.Faults.{lowest};
 ghost use Rattle.record.specs.Layout.{groupCount, group};
 ghost use Rattle.record.specs.Records.{stray, fieldsFault};
 

@@ -11,7 +11,7 @@ use plane::Tensor;
 ghost use mathlib.Core.Path.{_≡_};
 ghost use lib.ListN.{length};
 ghost use Rattle.record.specs.Layout.{recordLength};
-ghost use Rattle.record.specs.Records.{badMark, badVersion, tensorIn, configIn, refused, readOf};
+ghost use Rattle.record.specs.Records.{badMark, badVersion, tensorIn, configIn, noReading, readOf};
 
 // 26
 fn mark_is_bad(bytes: &[u8]) -> bool
@@ -36,7 +36,7 @@ fn tensor_in(bytes: &[u8]) -> Tensor
 {
     Tensor {
         rank: bytes[layout::RANK],
-        size: bytes[layout::ELEMENT_SIZE],
+        element_size: bytes[layout::ELEMENT_SIZE],
         shape: words(bytes, layout::SHAPE),
         stride: words(bytes, layout::STRIDE),
     }
@@ -61,7 +61,7 @@ fn config_in(bytes: &[u8]) -> Config
 
 // Zeros besides the fault.
 fn refused(f: Fault) -> Reading
-    ensures { λ r. ⌜ r ≡ refused f ⌝ }
+    ensures { λ r. ⌜ r ≡ noReading f ⌝ }
 {
     Reading {
         status: f.status,

@@ -34,7 +34,7 @@ fn put_tensor(room: &mut [u8], t: Tensor)
 {
     let shape = t.shape;
     let stride = t.stride;
-    put_head(room, t.rank, t.size);
+    put_head(room, t.rank, t.element_size);
     put_words(room, layout::SHAPE, shape);
     put_words(room, layout::STRIDE, stride);
 }

@@ -62,7 +62,7 @@ pub(crate) fn tensor(out: &mut [u8], p: usize, t: Tensor) -> usize {
     let shape = t.shape;
     let stride = t.stride;
     let p1 = byte(out, p, t.rank);
-    let p2 = byte(out, p1, t.size);
+    let p2 = byte(out, p1, t.element_size);
     let p3 = words(out, p2, shape);
     words(out, p3, stride)
 }
@@ -92,7 +92,7 @@ pub(crate) fn answer(out: &mut [u8], p: usize, a: Answer) -> usize {
     let p1 = byte(out, p, a.status);
     let p2 = byte(out, p1, a.dim);
     let p3 = byte(out, p2, a.rank);
-    let p4 = byte(out, p3, a.size);
+    let p4 = byte(out, p3, a.element_size);
     let p5 = words(out, p4, extent);
     let p6 = words(out, p5, stride);
     long(out, p6, a.need)

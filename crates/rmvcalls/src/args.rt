@@ -53,7 +53,7 @@ pub(crate) fn tensor(b: &[u8], p: usize) -> Tensor
 {
     Tensor {
         rank: byte(b, p),
-        size: byte(b, p + 1),
+        element_size: byte(b, p + 1),
         shape: words(b, p + 2),
         stride: words(b, p + 18),
     }

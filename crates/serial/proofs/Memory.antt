@@ -9,7 +9,7 @@ use native.Mathlib.Decide.{decLt}
 use mathlib.Core.List.{List, [], _∷_}
 use lib.ListN.{length, drop, getD, set, length-set, length-take, length-drop}
 use lib.Seq.{sets, length-sets, getD-take, getD-drop, ext-getD, getD-set-same, getD-set-other}
-use Rattle.serial.specs.Parts.{Part, Within, Apart, bytesOf, replaced}
+use Rattle.serial.specs.Parts.{Part, Has, Apart, bytesOf, replaced}
 
 pub apart-sym : (p q : Part) → Apart p q → Apart q p
 apart-sym p q a i x y = a i y x
@@ -35,7 +35,7 @@ sets-in (v ∷ vs) l i (suc k) h m =
 
 data Lies (p : Part) (i : ℕ) : Type 0 where
   in-it : (k : ℕ) → k < p .length → i ≡ p .start + k → Lies p i
-  out-of-it : (Within p i → ⊥) → Lies p i
+  out-of-it : (Has p i → ⊥) → Lies p i
 
 lies : (p : Part) (i : ℕ) → Lies p i
 lies p i = go (decLt i (p .start)) (decLt i (p .start + p .length))
@@ -56,7 +56,7 @@ length-replaced p m e = length-sets m (p .start) e
 
 -- two memories that agree in the part and out of it
 same-memory : (p : Part) (x y : List ℕ) → length x ≡ length y → ((k : ℕ) → k < p .length → getD x (p .start + k) 0 ≡ getD y (p .start + k) 0)
-    → ((i : ℕ) → (Within p i → ⊥) → getD x i 0 ≡ getD y i 0) → x ≡ y
+    → ((i : ℕ) → (Has p i → ⊥) → getD x i 0 ≡ getD y i 0) → x ≡ y
 same-memory p x y long inside outside = ext-getD 0 x y long (λ i h. at-byte i (lies p i))
   where
     at-byte : (i : ℕ) → Lies p i → getD x i 0 ≡ getD y i 0
@@ -72,7 +72,7 @@ module _ (p : Part) (m : List ℕ) (fits : p .start + p .length ≤ length m) wh
     unfolding replaced
     at-in k h = sets-in e m (p .start) k (omega arith) (omega arith)
 
-    at-out : (i : ℕ) → (Within p i → ⊥) → getD (replaced p e m) i 0 ≡ getD m i 0
+    at-out : (i : ℕ) → (Has p i → ⊥) → getD (replaced p e m) i 0 ≡ getD m i 0
     unfolding replaced
     at-out i o = sets-out e m (p .start) i (out (decLt i (p .start)) (decLt i (p .start + p .length)))
       where
@@ -137,7 +137,7 @@ module _ (p q : Part) (m : List ℕ) (apart : Apart p q) (p-fits : p .start + p 
         ∙ sym (at-out q (replaced p e m) q-fits′ f f-long (p .start + k) (apart (p .start + k) (omega arith, omega arith)) ∙ at-in p m p-fits e e-long k h))
         (λ i o. at-out p (replaced q f m) p-fits′ e e-long i o ∙ elsewhere i o (lies q i))
       where
-        elsewhere : (i : ℕ) → (Within p i → ⊥) → Lies q i → getD (replaced q f m) i 0 ≡ getD (replaced q f (replaced p e m)) i 0
+        elsewhere : (i : ℕ) → (Has p i → ⊥) → Lies q i → getD (replaced q f m) i 0 ≡ getD (replaced q f (replaced p e m)) i 0
         elsewhere i o (in-it k h r) = rw r (at-in q m q-fits f f-long k h ∙ sym (at-in q (replaced p e m) q-fits′ f f-long k h))
         elsewhere i o (out-of-it u) =
             at-out q m q-fits f f-long i u ∙ sym (at-out q (replaced p e m) q-fits′ f f-long i u ∙ at-out p m p-fits e e-long i o)

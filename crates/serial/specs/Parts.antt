@@ -10,12 +10,12 @@ pub record Part : Type 0 where
   pub length : ℕ
 
 -- the byte i is one of the part's
-abbrev pub Within : Part → ℕ → Type 0
-Within p i = (p .start ≤ i) × (i < p .start + p .length)
+abbrev pub Has : Part → ℕ → Type 0
+Has p i = (p .start ≤ i) × (i < p .start + p .length)
 
 -- two parts that share no byte
 abbrev pub Apart : Part → Part → Type 0
-Apart p q = (i : ℕ) → Within p i → Within q i → ⊥
+Apart p q = (i : ℕ) → Has p i → Has q i → ⊥
 
 -- the part's bytes
 abbrev pub bytesOf : Part → List ℕ → List ℕ

@@ -8,11 +8,11 @@ use borrow.Author.Tests.{eq-eqb, ne-eqb, le-ltb}
 use Rattle.plane.specs.declared.Tensor.{Tensor}
 use Rattle.plane.specs.declared.Config.{Config}
 use Rattle.plane.specs.Arrays.{at, table, firsts, zeros, sum, product}
-use Rattle.plane.specs.Planes.{shapeAt, strideAt, resolved, srcStrides}
+use Rattle.plane.specs.Planes.{shapeAt, strideAt, resolved, srcStrides, sourceAt}
 use Rattle.plane.specs.Moves.{taken, count, extent, dstExtents, dstStrides}
 use Rattle.ready_made.specs.ReadyMade.{defaults, cutTo, madeFor}
 use Rattle.plane.proofs.Arrays.{table-at, zeros-at, firsts-at, firsts-same, sum-same, product-same}
-use Rattle.plane.specs.Good.{GoodSource, GoodConfig, GoodPlace}
+use Rattle.plane.specs.Good.{GoodSource, GoodConfig, GoodDst}
 use Rattle.plane.proofs.Falling.{stride-positive}
 use Rattle.mover.specs.Element.{sourcePlace}
 use Rattle.slices.proofs.Compact.{compact-at, compact-good}
@@ -37,9 +37,9 @@ module _ {u : Tensor} {c : Config} {z : List ℕ} (b : Boxed u c z) where
 
   boxed-extents : dstExtents u c ≡ firsts (u .rank) (at z)
   unfolding dstExtents
-  boxed-extents = firsts-same (u .rank) _ _ (λ i h. ap (extent u c) (b .perm i h) ∙ boxed-extent i h)
+  boxed-extents = firsts-same 0 (u .rank) _ _ (λ i h. ap (extent u c) (b .perm i h) ∙ boxed-extent i h)
 
-  pub boxed-source : (x : ℕ → ℕ) → sourcePlace u c x ≡ sum (u .rank) (λ i. (at (c .offset) i + x i) * at (srcStrides u) i)
+  pub boxed-source : (x : ℕ → ℕ) → sourcePlace u c x ≡ sum (u .rank) (λ i. sourceAt u i (at (c .offset) i + x i))
   unfolding sourcePlace
   boxed-source x = sum-same (u .rank) _ _ (λ i h. let m : x i - 0 ≡ x i = omega arith in rw (b .perm i h, b .pre i h, b .step i h, mul-one, m))
 
@@ -55,7 +55,7 @@ module _ {u : Tensor} {c : Config} {z : List ℕ} (b : Boxed u c z) where
   }
 
   pub boxed-extent-at : u .rank ≤ 4 → (i : ℕ) → i < u .rank → at (dstExtents u c) i ≡ at z i
-  boxed-extent-at few i h = ap (λ (l : List ℕ). at l i) boxed-extents ∙ firsts-at (u .rank) (at z) i few h
+  boxed-extent-at few i h = ap (λ (l : List ℕ). at l i) boxed-extents ∙ firsts-at 0 (u .rank) (at z) i few h
 
   -- nothing is padded, so every element of the destination is the source's
   pub boxed-kept : u .rank ≤ 4 → (x : ℕ → ℕ) → IsCoordinate u c x → (i : ℕ) → i < u .rank → KeptAt u c x i
@@ -67,19 +67,19 @@ module _ {u : Tensor} {c : Config} {z : List ℕ} (b : Boxed u c z) where
   boxed-stride few p i h =
       ap₂ (λ (x y : ℕ). x * y)
       (sym (product-same (suc i) _ _ (λ j l. boxed-extent-at few j (omega arith))))
-      (firsts-at (u .rank) (resolved (u .rank) (at (dstExtents u c)) (at (c .«dst_stride»))) i few h) ∙
+      (firsts-at 0 (u .rank) (resolved (u .rank) (at (dstExtents u c)) (at (c .«dst_stride»))) i few h) ∙
       compact-at (u .rank) (at (dstExtents u c)) (at (c .«dst_stride»)) p i h ∙
       product-same (u .rank) _ _ (boxed-extent-at few)
 
   -- and so is its destination, where strides are asked for by 0 and there are no offsets
-  pub boxed-place : GoodSource u → ((i : ℕ) → i < u .rank → (1 ≤ at z i) × (at z i ≤ shapeAt u i)) → ((i : ℕ) → i < u .rank → at (c .«dst_stride») i ≡ 0) → ((i : ℕ) → i < u .rank → at (c .«dst_offset») i ≡ 0) → GoodPlace u c
+  pub boxed-place : GoodSource u → ((i : ℕ) → i < u .rank → (1 ≤ at z i) × (at z i ≤ shapeAt u i)) → ((i : ℕ) → i < u .rank → at (c .«dst_stride») i ≡ 0) → ((i : ℕ) → i < u .rank → at (c .«dst_offset») i ≡ 0) → GoodDst u c
   boxed-place g w p o =
       let few = g .rank .1 in
       let s = compact-good (u .rank) (at (dstExtents u c)) (at (c .«dst_stride»)) p (shapeAt u) (strideAt u) (λ i h. rw (boxed-extent-at few i h) (w i h .1)) (g .strides) in
       record {
         strides = s;
         offset = λ i h.
-            rw (o i h, firsts-at (u .rank) (resolved (u .rank) (at (dstExtents u c)) (at (c .«dst_stride»))) i few h)
+            rw (o i h, firsts-at 0 (u .rank) (resolved (u .rank) (at (dstExtents u c)) (at (c .«dst_stride»))) i few h)
             (stride-positive (u .rank) (at (dstExtents u c)) (at (c .«dst_stride»)) (λ j l. rw (boxed-extent-at few j l) (w j l .0)) s i h, omega arith);
       }
 
@@ -93,7 +93,7 @@ taken-some u c i h = rw (ne-eqb (at (c .size) i) 0 (λ e. omega arith))
 -- entries of a configuration cut to the rank n
 module _ (n : ℕ) (few : n ≤ 4) where
   pub cut-at : (l : List ℕ) (i : ℕ) → i < n → at (firsts n (at l)) i ≡ at l i
-  cut-at l i h = firsts-at n (at l) i few h
+  cut-at l i h = firsts-at 0 n (at l) i few h
 
   pub cut-zero : (i : ℕ) → i < n → at (firsts n (at zeros)) i ≡ 0
   cut-zero i h = cut-at zeros i h ∙ zeros-at i
@@ -123,7 +123,7 @@ module _ (u : Tensor) (few : u .rank ≤ 4) where
   }
 
   -- and reads at each coordinate the element of that coordinate
-  pub copy-place : (x : ℕ → ℕ) → sourcePlace u (copied (u .rank)) x ≡ sum (u .rank) (λ i. x i * at (srcStrides u) i)
+  pub copy-place : (x : ℕ → ℕ) → sourcePlace u (copied (u .rank)) x ≡ sum (u .rank) (λ i. sourceAt u i (x i))
   unfolding cutTo
   copy-place x =
       boxed-source copy-whole x ∙

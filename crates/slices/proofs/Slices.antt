@@ -19,7 +19,7 @@ use Rattle.plane.specs.Helpers.{excess, subDim, subTensorOf, subOf, subByte}
 use Rattle.ready_made.specs.ReadyMade.{defaults, cutTo, copyOf, sliceOf}
 use Rattle.plane.proofs.Arrays.{sum-same, product-same}
 use Rattle.plane.proofs.Counting.{product-grows}
-use Rattle.plane.specs.Good.{GoodConfig, GoodPlace, GoodMove, GoodSub}
+use Rattle.plane.specs.Good.{GoodConfig, GoodDst, GoodMove, GoodSub}
 use Rattle.plane.proofs.Good.{move-clear}
 use Rattle.plane.proofs.Staying.{staying-sum}
 use Rattle.plane.proofs.SubTensors.{sub-told, sub-given, sub-count, subDim-below, sub-shape, sub-source, sub-within}
@@ -108,18 +108,18 @@ module _ {t : Tensor} {s : SubConfig} {srcLen : ℕ} (g : GoodSub t s srcLen) wh
         sum-same (t .rank) _ _ (λ d h. sym (ap (λ (a : ℕ). (a + wide d) * theirs d) (cut-zero (t .rank) few d h) ∙ simp zero-add))
 
     -- the byte of the sub-tensor and a place in it are the place in the whole
-    sources : subByte t s + sourcePlace (subOf t s) (copied (s .rank)) x * t .size ≡ sourcePlace t (sliced t s) wide * t .size
+    sources : subByte t s + sourcePlace (subOf t s) (copied (s .rank)) x * t .«element_size» ≡ sourcePlace t (sliced t s) wide * t .«element_size»
     unfolding subOf cutTo
     sources =
         rw (copy-place (subOf t s) few-stay x, boxed-source slice-boxed wide)
         (place-whole g x ∙
-        ap (λ (y : ℕ). y * t .size)
+        ap (λ (y : ℕ). y * t .«element_size»)
         (sum-same (t .rank) _ _ (λ d h. ap (λ (a : ℕ). (a + wide d) * at (srcStrides t) d) (sym (cut-at (t .rank) few (s .offset) d h)))))
 
   needs : need (subOf t s) (copied (s .rank)) ≡ need t (sliced t s)
   unfolding need subOf cutTo
   needs =
-      ap (λ (y : ℕ). (1 + y) * t .size)
+      ap (λ (y : ℕ). (1 + y) * t .«element_size»)
       (sum-same (s .rank) _ _
       (λ i h. let z = cut-zero (s .rank) few-stay i h in ap₂ (λ (a b : ℕ). a * b) (omega (arith, z, copy-extent i h)) (stride-same i h)) ∙
       ap (λ (m : ℕ). sum m (λ i. (at (s .size) (subDim t s i) - 1) * theirs (subDim t s i))) (sym (sub-count g)) ∙
@@ -137,7 +137,7 @@ module _ {t : Tensor} {s : SubConfig} {srcLen : ℕ} (g : GoodSub t s srcLen) wh
       (λ i h. omega (arith, cut-zero (s .rank) few-stay i h, sub-source g .shape i h .0))
       (λ i h. omega (arith, cut-zero (s .rank) few-stay i h))
 
-  copy-good : GoodPlace (subOf t s) (copied (s .rank))
+  copy-good : GoodDst (subOf t s) (copied (s .rank))
   unfolding cutTo subOf
   copy-good =
       boxed-place copy-boxed (sub-source g) (λ i h. (sub-source g .shape i h .0, omega arith))
@@ -151,7 +151,7 @@ module _ {t : Tensor} {s : SubConfig} {srcLen : ℕ} (g : GoodSub t s srcLen) wh
       (λ d h. omega (arith, cut-at (t .rank) few (s .offset) d h, g .offset d h))
       (λ d h. omega (arith, cut-at (t .rank) few (s .offset) d h, cut-at (t .rank) few (s .size) d h, g .size d h .1))
 
-  slice-good : GoodPlace t (sliced t s)
+  slice-good : GoodDst t (sliced t s)
   unfolding cutTo
   slice-good =
       boxed-place slice-boxed (g .source) (λ d h. (g .size d h .0, omega (arith, g .size d h .1)))
@@ -202,12 +202,12 @@ module _ (t : Tensor) (s : SubConfig) (src dst : List ℕ) (g : GoodSub t s (len
     source = sub-source g;
     long = rw length-drop (omega (arith, sub-within g, g .long));
     config = copy-config g;
-    place = copy-good g;
+    destination = copy-good g;
     room = rw (needs g) h;
   }
 
   slice-too : need t (sliced t s) ≤ length dst → GoodMove t (sliced t s) (length src) (length dst)
-  slice-too h = record { source = g .source; long = g .long; config = slice-config g; place = slice-good g; room = h }
+  slice-too h = record { source = g .source; long = g .long; config = slice-config g; destination = slice-good g; room = h }
 
   slice-memory : moveMemory (subOf t s) (copied (s .rank)) part dst ≡ moveMemory t (sliced t s) src dst
   slice-memory = elim (decLe (need t (sliced t s)) (length dst)) [

@@ -13,7 +13,7 @@ use Rattle.plane.specs.declared.Config.{Config}
 use Rattle.plane.specs.declared.SubConfig.{SubConfig}
 use Rattle.plane.specs.declared.SubTensor.{SubTensor}
 use Rattle.plane.specs.Arrays.{at, sum}
-use Rattle.plane.specs.Planes.{shapeAt, srcStrides}
+use Rattle.plane.specs.Planes.{shapeAt, srcStrides, sourceAt}
 use Rattle.plane.specs.Helpers.{removed, excess, subDim, subOf, subByte, subTensorOf}
 use Rattle.ready_made.specs.ReadyMade.{defaults, copyOf}
 use Rattle.plane.proofs.Arrays.{sum-same}
@@ -46,14 +46,14 @@ module _ {t : Tensor} {s : SubConfig} {srcLen : ℕ} (g : GoodSub t s srcLen) (x
       omega (arith, g .size d h .1)
 
   -- places are the same, in bytes
-  pub place-whole : subByte t s + sum (s .rank) (λ i. x i * at (srcStrides (subOf t s)) i) * t .size ≡ sum (t .rank) (λ d. wholeAt t s x d * at (srcStrides t) d) * t .size
+  pub place-whole : subByte t s + sum (s .rank) (λ i. sourceAt (subOf t s) i (x i)) * t .«element_size» ≡ sum (t .rank) (λ d. sourceAt t d (wholeAt t s x d)) * t .«element_size»
   unfolding subByte
   place-whole =
       let e : sum (s .rank) (λ i. x i * at (srcStrides (subOf t s)) i) ≡ sum (t .rank) (λ d. spread (at (s .size)) (excess t s) x d * at (srcStrides t) d) =
       sum-same (s .rank) _ _ (λ i h. ap (λ (y : ℕ). x i * y) (ap (λ (l : List ℕ). at l i) (sub-resolved g) ∙ sub-stride g i h)) ∙
       ap (λ (m : ℕ). sum m (λ i. x i * at (srcStrides t) (subDim t s i))) (sym (sub-count g)) ∙
       spread-sum (at (s .size)) (excess t s) x (at (srcStrides t)) (t .rank) in
-      rw e (sum-joined (t .rank) _ _ _ (t .size) (λ d h. sym (add-mul (at (s .offset) d) (spread (at (s .size)) (excess t s) x d) (at (srcStrides t) d))))
+      rw e (sum-joined (t .rank) _ _ _ (t .«element_size») (λ d h. sym (add-mul (at (s .offset) d) (spread (at (s .size)) (excess t s) x d) (at (srcStrides t) d))))
 
 -- ---- the theorems, on what the calls answer
 
@@ -68,7 +68,7 @@ module _ (t : Tensor) (s : SubConfig) (src : List ℕ) (z : subTensorOf t s (len
   its-tensor = ap (λ (r : SubTensor). r .tensor) (sub-given t s (length src) z)
 
   -- where the copy of the sub-tensor reads x, from the sub-tensor's byte on, is where the copy of the plane reads that coordinate
-  pub sub-place : subTensorOf t s (length src) .byte + sourcePlace (subAt t s src) (copy (s .rank)) x * t .size ≡ sourcePlace t (copy (t .rank)) (wholeAt t s x) * t .size
+  pub sub-place : subTensorOf t s (length src) .byte + sourcePlace (subAt t s src) (copy (s .rank)) x * t .«element_size» ≡ sourcePlace t (copy (t .rank)) (wholeAt t s x) * t .«element_size»
   unfolding subOf
   sub-place =
       let n = told .source .rank in
@@ -77,7 +77,7 @@ module _ (t : Tensor) (s : SubConfig) (src : List ℕ) (z : subTensorOf t s (len
       (place-whole told x)
 
   -- so each byte of the sub-tensor's element at x, in the part that the second call hands back, is the plane's
-  pub sub-element : (b : ℕ) → getD (subPart t s src) (sourcePlace (subAt t s src) (copy (s .rank)) x * t .size + b) 0 ≡ getD src (sourcePlace t (copy (t .rank)) (wholeAt t s x) * t .size + b) 0
+  pub sub-element : (b : ℕ) → getD (subPart t s src) (sourcePlace (subAt t s src) (copy (s .rank)) x * t .«element_size» + b) 0 ≡ getD src (sourcePlace t (copy (t .rank)) (wholeAt t s x) * t .«element_size» + b) 0
   sub-element b =
       rw (part-here t s src z, getD-drop)
       (ap (λ (k : ℕ). getD src k 0) (sym (add-assoc _ _ b) ∙ ap (λ (k : ℕ). k + b) sub-place))

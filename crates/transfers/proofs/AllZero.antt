@@ -9,7 +9,7 @@ use borrow.Author.Tests.{eqb-true}
 use lib.Dec.{eqb}
 use lib.ListN.{length}
 use Rattle.plane.specs.Arrays.{at, zeros}
-use Rattle.plane.proofs.Bools.{both-first, both-second}
+use Rattle.faults.proofs.Bools.{both-first, both-second}
 use Rattle.plane.proofs.Arrays.{every-each}
 use Rattle.mover.specs.declared.Part.{Part}
 use Rattle.mover.specs.declared.Job.{Job}
@@ -41,14 +41,14 @@ module _ (j : Job) (f : FourEntries j) where
   unfolding isZeroTensor
   no-tensor e =
       let t = j .tensor in
-      let ends = eqb (t .rank) 0 && eqb (t .size) 0 in
+      let ends = eqb (t .rank) 0 && eqb (t .«element_size») 0 in
       let x = both-first (ends && isZeroArray (t .shape)) (isZeroArray (t .stride)) e in
       let y = both-first ends (isZeroArray (t .shape)) x in
-      let rank = eqb-true (t .rank) 0 (both-first _ (eqb (t .size) 0) y) in
-      let size = eqb-true (t .size) 0 (both-second (eqb (t .rank) 0) _ y) in
+      let rank = eqb-true (t .rank) 0 (both-first _ (eqb (t .«element_size») 0) y) in
+      let size = eqb-true (t .«element_size») 0 (both-second (eqb (t .rank) 0) _ y) in
       let shape = no-entry (t .shape) (f .shape) (both-second ends (isZeroArray (t .shape)) x) in
       let stride = no-entry (t .stride) (f .stride) (both-second (ends && isZeroArray (t .shape)) (isZeroArray (t .stride)) e) in
-      λ i. record { rank = rank i; size = size i; shape = shape i; stride = stride i }
+      λ i. record { rank = rank i; «element_size» = size i; shape = shape i; stride = stride i }
 
   no-config : isZeroConfig (j .config) ≡ true → j .config ≡ zeroConfig
   unfolding isZeroConfig

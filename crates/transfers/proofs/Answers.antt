@@ -5,10 +5,10 @@ use mathlib.Core.Path.{_≡_, refl, sym, ap, _∙_}
 use mathlib.Core.Bool.{Bool, true, false, not, _||_}
 use borrow.Author.Tests.{eq-eqb, ne-eqb, eqb-true, eqb-false, lt-ltb, le-ltb, ltb-false, not-false}
 use lib.Dec.{ltb, eqb}
-use Rattle.plane.specs.declared.Fault.{Fault}
-use Rattle.plane.specs.Faults.{fault, when, _orElse_}
-use Rattle.plane.proofs.Bools.{either-clear, either-first, either-second, neither}
-use Rattle.plane.proofs.Faults.{status, or-none, or-found, or-clear, unless-fault, unless-none, when-bad, when-clear, when-zero, given, spared}
+use Rattle.faults.specs.declared.Fault.{Fault}
+use Rattle.faults.specs.Faults.{fault, when, _orElse_}
+use Rattle.faults.proofs.Bools.{either-clear, either-first, either-second, neither}
+use Rattle.faults.proofs.Faults.{status, or-none, or-found, or-clear, if-fault, if-none, when-bad, when-clear, when-zero, given, spared}
 use Rattle.mover.specs.declared.Job.{Job}
 use Rattle.mover.specs.declared.Verdict.{Verdict}
 use Rattle.mover.specs.Within.{jobFault, verdictOf}
@@ -120,7 +120,7 @@ module _ (t : Table) (n : ℕ) (j : Job) where
   unfolding prepareOf
   refuses e b =
       ap (λ (f : Fault). record { status = f .status; dim = f .dim; handle = 0; table = t }) (sym e) ∙
-      sym (unless-fault (prepareFault t n j) _ _ (λ z. b (sym (status e) ∙ z)))
+      sym (if-fault (prepareFault t n j) _ _ (λ z. b (sym (status e) ∙ z)))
 
   pub prepare-closed : {r : ℕ} → r ≡ openFault t n .status → (r ≡ 0 → ⊥) → record { status = r; dim = 0; handle = 0; table = t } ≡ prepareOf t n j
   unfolding prepareFault
@@ -160,7 +160,7 @@ module _ (t : Table) (n : ℕ) (j : Job) where
           prepare-given p {h} eh eu =
               let w = eu ∙ ap (λ (k : ℕ). withSlot t k (newSlot j)) eh in
               (λ i. record { status = 0; dim = 0; handle = eh i; table = w i }) ∙
-              sym (unless-none (prepareFault t n j) _ _ (status prepare-clear ∙ when-zero 22 0 _ p))
+              sym (if-none (prepareFault t n j) _ _ (status prepare-clear ∙ when-zero 22 0 _ p))
 
   -- what a prepare that is not refused knows
   pub record Preparing : Type 0 where
@@ -191,8 +191,8 @@ module _ (f : Fault) (t : Table) (h : ℕ) (s : Slot) where
   pub change-refused : {r : ℕ} → r ≡ f .status → (r ≡ 0 → ⊥) → record { status = r; table = t } ≡ changed f t h s
   unfolding changed
   change-refused e b =
-      ap (λ (k : ℕ). record { status = k; table = t }) e ∙ sym (unless-fault f _ _ (λ z. b (e ∙ z)))
+      ap (λ (k : ℕ). record { status = k; table = t }) e ∙ sym (if-fault f _ _ (λ z. b (e ∙ z)))
 
   pub change-given : f .status ≡ 0 → {u : Table} → u ≡ withSlot t h s → record { status = 0; table = u } ≡ changed f t h s
   unfolding changed
-  change-given z e = ap (λ (x : Table). record { status = 0; table = x }) e ∙ sym (unless-none f _ _ z)
+  change-given z e = ap (λ (x : Table). record { status = 0; table = x }) e ∙ sym (if-none f _ _ z)

@@ -1,8 +1,8 @@
 -- Each public call asks nothing of its caller, and no two differing outcomes satisfy its contract: neither two answers, the table
 -- handed back with them, nor two memories. `Pre` and `Post` are the contract as the checker reads it off the source. Assumes nothing.
 use mathlib.Core.Path.{sym, _∙_}
-use Rattle.plane.specs.Decided.{Decided, OneBytes}
-use Rattle.plane.proofs.Decided.{by-equation, by-first}
+use Rattle.faults.specs.Decided.{Decided, OneBytes}
+use Rattle.faults.proofs.Deciding.{by-equation, by-first}
 use Rattle.transfers.proofs.Table.fresh.Reads as fresh
 use Rattle.transfers.proofs.Table.prepare.Reads as prepare
 use Rattle.transfers.proofs.Table.start.Reads as start

@@ -8,10 +8,10 @@ use mathlib.Core.List.{List, [], _∷_}
 use lib.Dec.{eqb, leb}
 use lib.ListN.{length, getD}
 use borrow.Author.Tests.{ne-eqb}
-use Rattle.plane.specs.declared.Fault.{Fault}
-use Rattle.plane.specs.Faults.{unless}
+use Rattle.faults.specs.declared.Fault.{Fault}
+use Rattle.faults.specs.Faults.{ifFault}
 use Rattle.plane.proofs.Arrays.{some-clear}
-use Rattle.plane.proofs.Faults.{unless-none, unless-fault}
+use Rattle.faults.proofs.Faults.{if-none, if-fault}
 use Rattle.mover.specs.declared.Job.{Job}
 use Rattle.mover.specs.Within.{advancedBy}
 use Rattle.serial.specs.Machine.{Clear, Reached}
@@ -35,17 +35,17 @@ use Rattle.transfers.proofs.Midway.{in-place-each}
 -- ---- each call
 
 -- a fault's two cases
-pub by-fault : {A : Type 0} (P : A → Type 0) (f : Fault) {x y : A} → (f .status ≡ 0 → P x) → ((f .status ≡ 0 → ⊥) → P y) → P (unless f y x)
+pub by-fault : {A : Type 0} (P : A → Type 0) (f : Fault) {x y : A} → (f .status ≡ 0 → P x) → ((f .status ≡ 0 → ⊥) → P y) → P (ifFault f y x)
 by-fault P f {x} {y} go stop = elim (ℕ-discrete (f .status) 0) [
-  | yes z ↦ subst P (sym (unless-none f y x z)) (go z)
-  | no z ↦ subst P (sym (unless-fault f y x z)) (stop z)
+  | yes z ↦ subst P (sym (if-none f y x z)) (go z)
+  | no z ↦ subst P (sym (if-fault f y x z)) (stop z)
 ]
 
 by-fault₂ : {A B : Type 0} (P : A → B → Type 0) (f : Fault) {x y : A} {v w : B} → (f .status ≡ 0 → P x v) → ((f .status ≡ 0 → ⊥) → P y w)
-    → P (unless f y x) (unless f w v)
+    → P (ifFault f y x) (ifFault f w v)
 by-fault₂ P f {x} {y} {v} {w} go stop = elim (ℕ-discrete (f .status) 0) [
-  | yes z ↦ subst₂ P (sym (unless-none f y x z)) (sym (unless-none f w v z)) (go z)
-  | no z ↦ subst₂ P (sym (unless-fault f y x z)) (sym (unless-fault f w v z)) (stop z)
+  | yes z ↦ subst₂ P (sym (if-none f y x z)) (sym (if-none f w v z)) (go z)
+  | no z ↦ subst₂ P (sym (if-fault f y x z)) (sym (if-fault f w v z)) (stop z)
 ]
 
 module _ (m₀ : List ℕ) where

@@ -8,11 +8,11 @@ use mathlib.Core.Bool.{Bool, true, false, cond, not, _||_}
 use mathlib.Core.List.{List, [], _∷_, _++_}
 use lib.Dec.{ltb, leb, eqb}
 use lib.ListN.{length}
-use Rattle.plane.specs.declared.Fault.{Fault}
-use Rattle.plane.specs.Faults.{when, _orElse_, unless}
-use Rattle.plane.specs.Exactness.{whole, Exact}
-use Rattle.plane.proofs.Faults.{or-none, or-found, unless-fault, unless-none}
-use Rattle.plane.proofs.Chains.{Positive, chain, exact, join, one-chain}
+use Rattle.faults.specs.declared.Fault.{Fault}
+use Rattle.faults.specs.Faults.{when, _orElse_, ifFault}
+use Rattle.faults.specs.Exactness.{whole, Exact}
+use Rattle.faults.proofs.Faults.{or-none, or-found, if-fault, if-none}
+use Rattle.faults.proofs.Chains.{Positive, chain, exact, join, one-chain}
 use Rattle.mover.specs.declared.Job.{Job}
 use Rattle.mover.specs.Orders.{jobRules}
 use Rattle.mover.proofs.Exact.{job-chain}
@@ -72,10 +72,10 @@ call-dim t n h want =
     or-dim _ _ (or-dim _ _ (when-dim 17 _) (when-dim 18 _)) (or-dim _ _ (when-dim 23 _) (when-dim 24 _))
 
 -- an answer that has number 0 where there is no fault, and the fault's where there is one
-number-of : {A : Type 0} (f : Fault) (y x : A) (number : A → ℕ) → number y ≡ f .status → number x ≡ 0 → number (unless f y x) ≡ f .status
+number-of : {A : Type 0} (f : Fault) (y x : A) (number : A → ℕ) → number y ≡ f .status → number x ≡ 0 → number (ifFault f y x) ≡ f .status
 number-of f y x number p q = elim (ℕ-discrete (f .status) 0) [
-  | yes z ↦ ap number (unless-none f y x z) ∙ q ∙ sym z
-  | no b ↦ ap number (unless-fault f y x b) ∙ p
+  | yes z ↦ ap number (if-none f y x z) ∙ q ∙ sym z
+  | no b ↦ ap number (if-fault f y x b) ∙ p
 ]
 
 -- and a call that names no dimension
@@ -113,7 +113,7 @@ module _ (t : Table) (n : ℕ) (j : Job) where
   -- where there is a fault, the answer has its dimension, no handle, and the table that was given
   prepare-back : (prepareFault t n j .status ≡ 0 → ⊥) → prepareOf t n j ≡ record { status = prepareFault t n j .status; dim = prepareFault t n j .dim; handle = 0; table = t }
   unfolding prepareOf
-  prepare-back b = unless-fault (prepareFault t n j) _ _ b
+  prepare-back b = if-fault (prepareFault t n j) _ _ b
 
   pub prepare-exact : Exact (prepareRules t n j) (prepareOf t n j .status) (prepareOf t n j .dim)
   prepare-exact =
@@ -133,7 +133,7 @@ module _ (t : Table) (n h : ℕ) where
   change-back : (f : Fault) (s : Slot) → (changed f t h s .status ≡ 0 → ⊥) → changed f t h s ≡ record { status = changed f t h s .status; table = t }
   unfolding changed
   change-back f s b =
-      let e = unless-fault {A = Changed} f (record { status = f .status; table = t }) (record { status = 0; table = withSlot t h s }) (λ z. b (change-number f s ∙ z)) in
+      let e = if-fault {A = Changed} f (record { status = f .status; table = t }) (record { status = 0; table = withSlot t h s }) (λ z. b (change-number f s ∙ z)) in
       e ∙ ap (λ (r : Changed). record { status = r .status; table = t }) (sym e)
 
   pub start-exact : Exact (callRules t n h 1) (startOf t n h .status) 0
@@ -166,8 +166,8 @@ module _ (t : Table) (h budget : ℕ) where
   unfolding stepOf stepMemory
   step-refused m b =
       let d : callFault t (length m) h 2 .status ≡ 0 → ⊥ = λ z. b (step-number (length m) ∙ z) in
-      let e = unless-fault (callFault t (length m) h 2) _ _ d in
-      (e ∙ ap (λ (r : Stepped). record { status = r .status; count = 0; table = t }) (sym e), unless-fault (callFault t (length m) h 2) _ _ d)
+      let e = if-fault (callFault t (length m) h 2) _ _ d in
+      (e ∙ ap (λ (r : Stepped). record { status = r .status; count = 0; table = t }) (sym e), if-fault (callFault t (length m) h 2) _ _ d)
 
 module _ (t : Table) (h : ℕ) where
   slot-number : (a b c : Bool) (k : ℕ) → pollStatus (cond a poll.Free (cond b (poll.Prepared k) (cond c (poll.Running k) poll.Done))) ≡ 0

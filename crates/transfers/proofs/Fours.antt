@@ -22,7 +22,7 @@ past = record {
   job = record {
     source = record { start = 0; length = 0 };
     destination = record { start = 0; length = 0 };
-    tensor = record { rank = 0; size = 0; shape = []; stride = [] };
+    tensor = record { rank = 0; «element_size» = 0; shape = []; stride = [] };
     config = record { offset = []; size = []; step = []; «dst_offset» = []; «dst_stride» = []; perm = []; pre = []; post = [] };
   };
   moved = 0;

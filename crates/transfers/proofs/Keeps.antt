@@ -6,11 +6,11 @@ use mathlib.Core.Path.{_≡_, refl, sym, subst, _∙_}
 use mathlib.Core.Bool.{Bool, true, false, cond}
 use borrow.Author.Tests.{eqb-true, eqb-false, leb-true, lt-ltb}
 use lib.Dec.{leb, eqb}
-use Rattle.plane.specs.declared.Fault.{Fault}
-use Rattle.plane.specs.Faults.{unless}
+use Rattle.faults.specs.declared.Fault.{Fault}
+use Rattle.faults.specs.Faults.{ifFault}
 use Rattle.plane.specs.Arrays.{every}
 use Rattle.plane.proofs.Arrays.{some-clear}
-use Rattle.plane.proofs.Faults.{unless-fault, unless-none}
+use Rattle.faults.proofs.Faults.{if-fault, if-none}
 use Rattle.mover.specs.declared.Job.{Job}
 use Rattle.mover.specs.Within.{totalOf}
 use Rattle.mover.proofs.Laws.{job-total}
@@ -122,10 +122,10 @@ module _ (t : Table) (h : ℕ) (s : Slot) (w : SoundTable t) (q : h < 4) (one : 
   }
 
 -- what an answer has, given with a fault and without
-either-way : {A : Type 0} (f : Fault) (y x : A) (P : A → Type 0) → P y → (f .status ≡ 0 → P x) → P (unless f y x)
+either-way : {A : Type 0} (f : Fault) (y x : A) (P : A → Type 0) → P y → (f .status ≡ 0 → P x) → P (ifFault f y x)
 either-way f y x P p q = elim (ℕ-discrete (f .status) 0) [
-  | yes z ↦ subst P (sym (unless-none f y x z)) (q z)
-  | no b ↦ subst P (sym (unless-fault f y x b)) p
+  | yes z ↦ subst P (sym (if-none f y x z)) (q z)
+  | no b ↦ subst P (sym (if-fault f y x b)) p
 ]
 
 -- ---- the calls

@@ -7,7 +7,7 @@ use mathlib.Core.Bool.{false, _||_}
 use mathlib.Core.List.{List, [], _∷_}
 use lib.ListN.{length}
 use lib.Seq.{length-sets}
-use Rattle.plane.proofs.Bools.{either-clear}
+use Rattle.faults.proofs.Bools.{either-clear}
 use Rattle.mover.specs.declared.Job.{Job}
 use Rattle.mover.specs.Within.{meets, jobFault, totalOf, bytesOf, advancedBy}
 use Rattle.mover.proofs.Laws.{moved-none, moved-more, moved-length, source-fits, destination-fits, job-apart, job-whole, job-judged, advanced-length, advanced-outside, advanced-whole}

@@ -9,8 +9,8 @@ use mathlib.Core.List.{List, [], _∷_, _++_}
 use borrow.Author.Tests.{eq-eqb, le-leb}
 use lib.Dec.{ltb}
 use lib.ListN.{length}
-use Rattle.plane.specs.Exactness.{Rule, whole, Given, Exact}
-use Rattle.plane.proofs.Chains.{has, never-given}
+use Rattle.faults.specs.Exactness.{Rule, whole, Given, Exact}
+use Rattle.faults.proofs.Chains.{has, never-given}
 use Rattle.transfers.specs.declared.Table.{Table}
 use Rattle.transfers.specs.Slots.{tableSound, limit}
 use Rattle.transfers.specs.Calls.{freshOf, pollOf, pollStatus}

@@ -7,7 +7,7 @@ use mathlib.Core.Bool.{Bool, true, false, not, _&&_, true≢false}
 use borrow.Author.Tests.{eq-eqb, ne-eqb, eqb-true, ltb-true, leb-true, le-leb, lt-leb, not-true}
 use lib.Dec.{ltb, leb, eqb}
 use Rattle.plane.specs.Arrays.{every}
-use Rattle.plane.proofs.Bools.{both-first, both-second, both, not-first, not-second}
+use Rattle.faults.proofs.Bools.{both-first, both-second, both, not-first, not-second}
 use Rattle.plane.proofs.Arrays.{some-clear, some-none, every-all, every-each, every-missed, every-more, every-end}
 use Rattle.mover.specs.declared.Job.{Job}
 use Rattle.mover.specs.declared.Verdict.{Verdict}

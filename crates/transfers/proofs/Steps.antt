@@ -6,7 +6,7 @@ use mathlib.Core.Bool.{true, false}
 use mathlib.Core.List.{List}
 use borrow.Author.Tests.{ne-eqb, ltb-true, lt-ltb, le-ltb}
 use lib.ListN.{length}
-use Rattle.plane.proofs.Faults.{unless-fault, unless-none}
+use Rattle.faults.proofs.Faults.{if-fault, if-none}
 use Rattle.mover.specs.declared.Advanced.{Advanced}
 use Rattle.mover.specs.Within.{jobFault, totalOf, advancedBy, advanceOf, advanceMemory}
 use Rattle.transfers.specs.declared.Slot.{Slot}
@@ -33,8 +33,8 @@ module _ (t : Table) (h budget : ℕ) (m : List ℕ) where
   unfolding stepOf stepMemory
   step-refused e b =
       let d : callFault t (length m) h 2 .status ≡ 0 → ⊥ = λ z. b (e ∙ z) in (
-        ap (λ (k : ℕ). record { status = k; count = 0; table = t }) e ∙ sym (unless-fault (callFault t (length m) h 2) _ _ d),
-        sym (unless-fault (callFault t (length m) h 2) _ _ d),
+        ap (λ (k : ℕ). record { status = k; count = 0; table = t }) e ∙ sym (if-fault (callFault t (length m) h 2) _ _ d),
+        sym (if-fault (callFault t (length m) h 2) _ _ d),
       )
 
   module _ (z : callFault t (length m) h 2 .status ≡ 0) where
@@ -54,7 +54,7 @@ module _ (t : Table) (h budget : ℕ) (m : List ℕ) where
         its-count : a .count ≡ stepCount s budget
         unfolding advanceOf
         its-count =
-            ap (λ (x : Advanced). x .count) ea ∙ unless-none (jobFault (length m) (s .job)) 0 (stepCount s budget) (its-busy .clear)
+            ap (λ (x : Advanced). x .count) ea ∙ if-none (jobFault (length m) (s .job)) 0 (stepCount s budget) (its-busy .clear)
 
         -- what `later` asks
         pub step-fits : (jobFault (length m) (s .job) .status ≡ 0) × (s .moved + a .count ≤ totalOf (s .job))
@@ -70,15 +70,15 @@ module _ (t : Table) (h budget : ℕ) (m : List ℕ) where
             let p = its-count ∙ ap (λ (y : Slot). stepCount y budget) es in
             let q =
             eu ∙ ap (withSlot t h) (ex ∙ ap (later s) p ∙ ap (λ (y : Slot). later y (stepCount (slotAt t h) budget)) es) in
-            (λ i. record { status = 0; count = p i; table = q i }) ∙ sym (unless-none (callFault t (length m) h 2) _ _ z)
+            (λ i. record { status = 0; count = p i; table = q i }) ∙ sym (if-none (callFault t (length m) h 2) _ _ z)
 
       pub step-memory : {out : List ℕ} → out ≡ advanceMemory (s .job) (s .moved) budget m → out ≡ stepMemory t h budget m
       unfolding stepMemory advanceMemory
       step-memory eo =
           eo ∙
-          unless-none (jobFault (length m) (s .job)) _ _ (its-busy .clear) ∙
+          if-none (jobFault (length m) (s .job)) _ _ (its-busy .clear) ∙
           ap (λ (y : Slot). advancedBy (y .job) (y .moved) (stepCount y budget) m) es ∙
-          sym (unless-none (callFault t (length m) h 2) _ _ z)
+          sym (if-none (callFault t (length m) h 2) _ _ z)
 
 -- ---- poll
 

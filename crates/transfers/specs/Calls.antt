@@ -4,8 +4,8 @@ use mathlib.Core.Bool.{cond, not, _||_}
 use mathlib.Core.List.{List, [], _∷_}
 use lib.Dec.{ltb, leb, eqb}
 use lib.ListN.{length}
-use Rattle.plane.specs.declared.Fault.{Fault}
-use Rattle.plane.specs.Faults.{when, _orElse_, unless}
+use Rattle.faults.specs.declared.Fault.{Fault}
+use Rattle.faults.specs.Faults.{when, _orElse_, ifFault}
 use Rattle.mover.specs.declared.Job.{Job}
 use Rattle.mover.specs.Within.{jobFault, totalOf, further, advancedBy}
 use Rattle.transfers.specs.declared.Slot.{Slot}
@@ -54,7 +54,7 @@ newSlot j = record { state = 1; job = j; moved = 0 }
 
 unfoldable pub prepareOf : Table → ℕ → Job → Prepared
 prepareOf t n j =
-    unless (prepareFault t n j)
+    ifFault (prepareFault t n j)
     (record { status = prepareFault t n j .status; dim = prepareFault t n j .dim; handle = 0; table = t })
     (record { status = 0; dim = 0; handle = lowestFree t; table = withSlot t (lowestFree t) (newSlot j) })
 
@@ -63,7 +63,7 @@ prepareOf t n j =
 -- the answer for the table with the slot s at h
 unfoldable pub changed : Fault → Table → ℕ → Slot → Changed
 changed f t h s =
-    unless f (record { status = f .status; table = t }) (record { status = 0; table = withSlot t h s })
+    ifFault f (record { status = f .status; table = t }) (record { status = 0; table = withSlot t h s })
 
 -- the slot, running
 abbrev pub running : Slot → Slot
@@ -91,7 +91,7 @@ later s count = record {
 
 unfoldable pub stepOf : Table → ℕ → ℕ → ℕ → Stepped
 stepOf t n h budget =
-    unless (callFault t n h 2)
+    ifFault (callFault t n h 2)
     (record { status = callFault t n h 2 .status; count = 0; table = t })
     (record {
       status = 0;
@@ -102,7 +102,7 @@ stepOf t n h budget =
 -- the memory after a step: just as many elements newly moved, or as it was where the step is refused
 unfoldable pub stepMemory : Table → ℕ → ℕ → List ℕ → List ℕ
 stepMemory t h budget m =
-    unless (callFault t (length m) h 2) m
+    ifFault (callFault t (length m) h 2) m
     (advancedBy (slotAt t h .job) (slotAt t h .moved) (stepCount (slotAt t h) budget) m)
 
 -- ---- poll

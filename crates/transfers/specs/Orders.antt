@@ -3,7 +3,7 @@ use Prim.Native.Nat.{ℕ}
 use mathlib.Core.Bool.{not, _||_}
 use mathlib.Core.List.{List, [], _∷_, _++_}
 use lib.Dec.{ltb, leb, eqb}
-use Rattle.plane.specs.Exactness.{Rule, whole}
+use Rattle.faults.specs.Exactness.{Rule, whole}
 use Rattle.mover.specs.declared.Job.{Job}
 use Rattle.mover.specs.Orders.{jobRules}
 use Rattle.transfers.specs.declared.Table.{Table}

@@ -69,7 +69,7 @@ abbrev pub isZeroPart : Part → Bool
 isZeroPart p = eqb (p .start) 0 && eqb (p .length) 0
 
 unfoldable pub isZeroTensor : Tensor → Bool
-isZeroTensor t = eqb (t .rank) 0 && eqb (t .size) 0 && isZeroArray (t .shape) && isZeroArray (t .stride)
+isZeroTensor t = eqb (t .rank) 0 && eqb (t .«element_size») 0 && isZeroArray (t .shape) && isZeroArray (t .stride)
 
 unfoldable pub isZeroConfig : Config → Bool
 isZeroConfig c =

@@ -29,7 +29,7 @@ fn is_zero_tensor(t: Tensor) -> bool
 {
     let shape = t.shape;
     let stride = t.stride;
-    (t.rank == 0) & (t.size == 0) & is_zero_numbers(shape) & is_zero_numbers(stride)
+    (t.rank == 0) & (t.element_size == 0) & is_zero_numbers(shape) & is_zero_numbers(stride)
 }
 
 fn is_zero_config(c: Config) -> bool

@@ -8,7 +8,7 @@ use Rattle.ready_made.proofs.cut.Statement.{statement}
 use Rattle.ready_made.proofs.cut.Tie as tie
 
 abbrev Inv-loop : tie.InvT-loop
-Inv-loop n a out₀ d₀ out d = Filled n (at a) out d
+Inv-loop n a out₀ d₀ out d = Filled 0 n (at a) out d
 
 abbrev μ-loop : tie.MeasureT-loop
 μ-loop n a out₀ d₀ out d = n - d

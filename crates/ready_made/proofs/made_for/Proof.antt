@@ -1,7 +1,7 @@
 -- `ready_made::made_for` meets its contract. Assumes nothing.
 use mathlib.Core.Path.{sym, _∙_}
 use Rattle.ready_made.specs.ReadyMade.{madeFor}
-use Rattle.plane.proofs.Bools.{in-range}
+use Rattle.faults.proofs.Bools.{in-range}
 use borrow.Author.Needs.{needs}
 use Rattle.ready_made.proofs.made_for.Statement.{statement}
 use Rattle.ready_made.proofs.made_for.Tie as tie

@@ -7,7 +7,7 @@ use mathlib.Core.Logic.{⊎-elim}
 use native.Mathlib.Nat.{pos-of-ne-zero}
 use native.Mathlib.Omega.{arith}
 use Rattle.mover.proofs.Turns.{At, Keeps, start, turn, row, plane, block, at-spent, at-end, at-ready, Over}
-use Rattle.mover.specs.Private.{Ready, Within}
+use Rattle.mover.specs.Private.{Ready, InExtents}
 use Rattle.mover.proofs.engine.advance.Statement.{statement}
 use Rattle.mover.proofs.engine.advance.Tie as tie
 
@@ -82,7 +82,7 @@ at-loop3 : (c : AtLoop3) → let j = c .before .before in let k = j .before .bef
 at-loop3 c = let j = c .before .before in c .loop3 .inv (start-of (j .before .before .before .before) .args .dst .now) (at-loop2 j)
 
 -- in the innermost loop the coordinates are those of an element, and what `element` asks holds
-within : (c : InLoop3) → let j = c .before .before .before in let k = j .before .before in let l = all-of c in Within (start-of l .args .plan) (l .all .c0) (k .loop .c1) (j .loop2 .c2) (c .before .loop3 .c3)
+within : (c : InLoop3) → let j = c .before .before .before in let k = j .before .before in let l = all-of c in InExtents (start-of l .args .plan) (l .all .c0) (k .loop .c1) (j .loop2 .c2) (c .before .loop3 .c3)
 within c =
     let j = c .before .before in
     let k = j .before .before in

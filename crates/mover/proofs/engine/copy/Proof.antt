@@ -7,14 +7,14 @@ use Prim.Native.Nat.{_+_, _-_, _≤_}
 use native.Mathlib.Omega.{arith}
 use lib.ListN.{length, take, drop}
 use lib.Seq.{sets, length-sets}
-use Rattle.mover.specs.Private.{sourceOf}
+use Rattle.mover.specs.Private.{sourceBytes}
 use Rattle.mover.proofs.Runs.{copy-more, copy-keeps}
 use Rattle.mover.proofs.engine.copy.Statement.{statement}
 use Rattle.mover.proofs.engine.copy.Tie as tie
 
 abbrev Inv-loop : tie.InvT-loop
 Inv-loop src dst₀ origin at to size i₀ dst i =
-    (i ≤ size) × (dst ≡ sets dst₀ to (take i (drop at (sourceOf origin src dst₀))))
+    (i ≤ size) × (dst ≡ sets dst₀ to (take i (drop at (sourceBytes origin src dst₀))))
 
 abbrev μ-loop : tie.MeasureT-loop
 μ-loop src dst₀ origin at to size i₀ dst i = size - i
@@ -69,7 +69,7 @@ loop-again c =
     let a = c .before .before .before in
     let i = c .before .before .loop .i in
     let inv = c .before .before .loop .inv in
-    let s = sourceOf (a .args .origin) (a .args .src .now) (a .args .dst .now) in
+    let s = sourceBytes (a .args .origin) (a .args .src .now) (a .args .dst .now) in
     let e : c .match .b ≡ getD s (a .args .at + i) 0 =
     ⊎-elim
     (λ w. rw (w .1 .given .1) (w .3))

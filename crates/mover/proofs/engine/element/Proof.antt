@@ -4,7 +4,7 @@ use mathlib.Core.Path.{_≡_}
 use mathlib.Core.Bool.{true}
 use native.Mathlib.Omega.{arith}
 use borrow.Author.Needs.{needs}
-use Rattle.mover.specs.Private.{sourceOf, planKept, placeOf, homeOf, homeEnd, placeEnd}
+use Rattle.mover.specs.Private.{sourceBytes, planKept, placeOf, homeOf, homeEnd, placeEnd}
 use Rattle.mover.proofs.Runs.{source-long}
 use Rattle.mover.proofs.Places.{place-least, place-most, home-least, home-most, apart-part, told, put-kept, put-pad}
 use Rattle.mover.proofs.engine.element.Statement.{statement}
@@ -69,7 +69,7 @@ returns c =
     let k = c .before .before in
     let i = k .before .before .before in
     let a = i .before .before .before .before .before .args in
-    put-kept (a .plan) (a .c0) (a .c1) (a .c2) (a .c3) (sourceOf (a .origin) (a .src .now) (a .dst .now)) (a .dst .now)
+    put-kept (a .plan) (a .c0) (a .c1) (a .c2) (a .c3) (sourceBytes (a .origin) (a .src .now) (a .dst .now)) (a .dst .now)
     (kept i) (i .before .before .place .ensures) (k .before .before .home .ensures) (k .copy .ensures)
 
 returns-2 : tie.Need-returns-2
@@ -77,7 +77,7 @@ returns-2 c =
     let k = c .before .before in
     let i = k .before .before in
     let a = i .before .before .before .before .before .args in
-    put-pad (a .plan) (a .c0) (a .c1) (a .c2) (a .c3) (sourceOf (a .origin) (a .src .now) (a .dst .now)) (a .dst .now)
+    put-pad (a .plan) (a .c0) (a .c1) (a .c2) (a .c3) (sourceBytes (a .origin) (a .src .now) (a .dst .now)) (a .dst .now)
     (told (a .plan) (a .c0) (a .c1) (a .c2) (a .c3) (i .before .all-kept .ensures) (i .if1 .left))
     (i .before .before .place .ensures) (k .clear .ensures)
 

@@ -22,7 +22,7 @@ abbrev μ-loop : tie.MeasureT-loop
 small : (c : tie.After-times Inv-loop μ-loop) → c .times .result ≤ most
 small c =
     let l = c .before .before .before in
-    omega (arith, l .before .before .pre .place (l .before .loop .i) (l .loop-test .taken), c .times .ensures .1)
+    omega (arith, l .before .before .pre .dst-offset (l .before .loop .i) (l .loop-test .taken), c .times .ensures .1)
 
 add-total : tie.Need-add-total Inv-loop μ-loop
 add-total c =
@@ -38,7 +38,7 @@ mul-result : tie.Need-mul-result Inv-loop μ-loop
 mul-result c =
     let s = c .before .before .pre in
     let e = summed-end (c .before .loop .inv) (c .loop-test .left) in
-    omega (arith, bytes-fit _ _ _ (s .rank) (s .size) (e .1))
+    omega (arith, bytes-fit _ _ _ (s .rank) (s .element) (e .1))
 
 returns : tie.Need-returns Inv-loop μ-loop
 returns c = rw (summed-end (c .before .loop .inv) (c .loop-test .left) .0)

@@ -43,7 +43,7 @@ mul-result : tie.Need-mul-result Inv-loop μ-loop
 mul-result c =
     let s = c .before .before .before .pre in
     let e = summed-end (c .before .before .loop .inv) (c .before .loop-test .left) in
-    omega (arith, bytes-fit _ _ _ (s .rank) (s .size) (e .1))
+    omega (arith, bytes-fit _ _ _ (s .rank) (s .element) (e .1))
 
 returns : tie.Need-returns Inv-loop μ-loop
 returns c = rw (summed-end (c .before .before .loop .inv) (c .before .loop-test .left) .0)

@@ -3,7 +3,7 @@ use mathlib.Core.Path.{sym, _∙_}
 use native.Mathlib.Omega.{arith}
 use borrow.Author.Needs.{needs}
 use Rattle.plane.specs.Moves.{configFault}
-use Rattle.plane.proofs.Faults.{status, passed, stopped}
+use Rattle.faults.proofs.Faults.{status, passed, stopped}
 use Rattle.plane.proofs.Good.{offset-good, step-good}
 use Rattle.plane.proofs.destination.config_fault.Statement.{statement}
 use Rattle.plane.proofs.destination.config_fault.Tie as tie

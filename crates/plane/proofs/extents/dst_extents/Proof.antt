@@ -9,7 +9,7 @@ use Rattle.plane.proofs.extents.dst_extents.Statement.{statement}
 use Rattle.plane.proofs.extents.dst_extents.Tie as tie
 
 abbrev Inv-loop : tie.InvT-loop
-Inv-loop t c out₀ n i₀ out i = Filled (t .rank) (λ (k : ℕ). extent t c (at (c .perm) k)) out i
+Inv-loop t c out₀ n i₀ out i = Filled 0 (t .rank) (λ (k : ℕ). extent t c (at (c .perm) k)) out i
 
 abbrev μ-loop : tie.MeasureT-loop
 μ-loop t c out₀ n i₀ out i = t .rank - i

@@ -5,7 +5,7 @@ use native.Mathlib.Omega.{arith}
 use borrow.Author.Needs.{needs}
 use borrow.Author.Tests.{lt-ltb, le-ltb}
 use Rattle.plane.specs.Moves.{extent, badExtent}
-use Rattle.plane.proofs.Faults.{Searched, searched-start, searched-more, searched-found, searched-end}
+use Rattle.faults.proofs.Faults.{Searched, searched-start, searched-more, searched-found, searched-end}
 use Rattle.plane.proofs.extents.extent_fault.Statement.{statement}
 use Rattle.plane.proofs.extents.extent_fault.Tie as tie
 

@@ -3,11 +3,11 @@ use mathlib.Core.Path.{sym, ap, _∙_}
 use native.Mathlib.Omega.{arith}
 use borrow.Author.Needs.{needs}
 use borrow.Author.Tests.{le-leb, lt-leb}
-use Rattle.plane.specs.declared.Fault.{Fault}
+use Rattle.faults.specs.declared.Fault.{Fault}
 use Rattle.plane.specs.Helpers.{elements, countFault, countAnswer, countOf}
 use Rattle.plane.specs.Private.{productOf}
-use Rattle.plane.proofs.Bools.{in-range}
-use Rattle.plane.proofs.Faults.{status, given, spared, passed, stopped}
+use Rattle.faults.proofs.Bools.{in-range}
+use Rattle.faults.proofs.Faults.{status, given, spared, passed, stopped}
 use Rattle.plane.proofs.Rules.{shape-box}
 use Rattle.plane.proofs.Counting.{counts-refused}
 use Rattle.plane.proofs.helpers.element_count.Statement.{statement}

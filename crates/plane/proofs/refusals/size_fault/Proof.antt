@@ -5,7 +5,7 @@ use native.Mathlib.Omega.{arith}
 use borrow.Author.Needs.{needs}
 use Rattle.plane.specs.Arrays.{at}
 use Rattle.plane.specs.Moves.{badSize}
-use Rattle.plane.proofs.Faults.{Searched, searched-start, searched-more, searched-found, searched-end}
+use Rattle.faults.proofs.Faults.{Searched, searched-start, searched-more, searched-found, searched-end}
 use Rattle.plane.proofs.refusals.size_fault.Statement.{statement}
 use Rattle.plane.proofs.refusals.size_fault.Tie as tie
 

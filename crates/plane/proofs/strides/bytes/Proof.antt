@@ -12,7 +12,7 @@ use Rattle.plane.proofs.strides.bytes.Tie as tie
 
 -- the last coordinate is the offset and the extent less 1
 last-at : (c : tie.After-last) (d : ℕ) → d < c .before .args .n → at (c .last .result) d ≡ at (c .before .args .offset) d + at (c .before .args .extent) d - 1
-last-at c d h = ap (λ (l : List ℕ). at l d) (c .last .ensures) ∙ firsts-at _ _ d (c .before .pre .0) h
+last-at c d h = ap (λ (l : List ℕ). at l d) (c .last .ensures) ∙ firsts-at 0 _ _ d (c .before .pre .0) h
 
 distance-requires : tie.Need-distance-requires
 distance-requires c κs = (

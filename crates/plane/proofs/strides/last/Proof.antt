@@ -9,7 +9,7 @@ use Rattle.plane.proofs.strides.last.Statement.{statement}
 use Rattle.plane.proofs.strides.last.Tie as tie
 
 abbrev Inv-loop : tie.InvT-loop
-Inv-loop n offset extent out₀ d₀ out d = Filled n (λ (k : ℕ). at offset k + at extent k - 1) out d
+Inv-loop n offset extent out₀ d₀ out d = Filled 0 n (λ (k : ℕ). at offset k + at extent k - 1) out d
 
 abbrev μ-loop : tie.MeasureT-loop
 μ-loop n offset extent out₀ d₀ out d = n - d

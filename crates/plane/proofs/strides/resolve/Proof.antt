@@ -3,7 +3,7 @@ use Prim.Native.Nat.{_-_}
 use native.Mathlib.Omega.{arith}
 use borrow.Author.Needs.{needs}
 use Rattle.plane.specs.Arrays.{at}
-use Rattle.plane.proofs.Bools.{in-range}
+use Rattle.faults.proofs.Bools.{in-range}
 use Rattle.plane.proofs.Resolving.{Walked, walked-start, walked-more, walked-bad, walked-end}
 use Rattle.plane.proofs.strides.resolve.Statement.{statement}
 use Rattle.plane.proofs.strides.resolve.Tie as tie

@@ -4,7 +4,7 @@ use native.Mathlib.Omega.{arith}
 use native.Mathlib.Nat.{mul-le-mul}
 use borrow.Author.Needs.{needs}
 use Rattle.plane.specs.Helpers.{rankFault}
-use Rattle.plane.proofs.Faults.{given}
+use Rattle.faults.proofs.Faults.{given}
 use Rattle.plane.proofs.SubAnswers.{sub-refuses, rank-fits, rank-lacking, sub-given}
 use Rattle.plane.proofs.sub.shrink.Statement.{statement}
 use Rattle.plane.proofs.sub.shrink.Tie as tie
@@ -39,7 +39,7 @@ cast-t17 c =
 mul-t22 : tie.Need-mul-t22
 mul-t22 c =
     let a = c .before .before .before .before .before .before .before .before .before .before .args in
-    let b : a .t .size ≤ 255 = omega arith in
+    let b : a .t .«element_size» ≤ 255 = omega arith in
     omega (arith, mul-le-mul (c .before .distance .ensures .1) b)
 
 returns-3 : tie.Need-returns-3

@@ -4,7 +4,7 @@ use native.Mathlib.Omega.{arith}
 use borrow.Author.Needs.{needs}
 use Rattle.plane.specs.Arrays.{at}
 use Rattle.plane.specs.Helpers.{badSubSize}
-use Rattle.plane.proofs.Faults.{Searched, searched-start, searched-more, searched-found, searched-end}
+use Rattle.faults.proofs.Faults.{Searched, searched-start, searched-more, searched-found, searched-end}
 use Rattle.plane.proofs.sub.sub_size_fault.Statement.{statement}
 use Rattle.plane.proofs.sub.sub_size_fault.Tie as tie
 

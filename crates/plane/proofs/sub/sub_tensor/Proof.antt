@@ -3,11 +3,11 @@ use mathlib.Core.Path.{_≡_, _∙_}
 use native.Mathlib.Omega.{arith}
 use borrow.Author.Needs.{needs}
 use lib.Dec.{ltb}
-use Rattle.plane.specs.declared.Fault.{Fault}
-use Rattle.plane.specs.Faults.{when, _orElse_}
+use Rattle.faults.specs.declared.Fault.{Fault}
+use Rattle.faults.specs.Faults.{when, _orElse_}
 use Rattle.plane.specs.Planes.{span, sourceFault}
 use Rattle.plane.specs.Helpers.{subFault, subTensorOf}
-use Rattle.plane.proofs.Faults.{passed, stopped}
+use Rattle.faults.proofs.Faults.{passed, stopped}
 use Rattle.plane.proofs.Rules.{its-fault, its-good, its-strides}
 use Rattle.plane.specs.Good.{GoodSource}
 use Rattle.plane.proofs.SubAnswers.{sub-refuses, sub-defers, sub-short, sub-long, offset-small}

@@ -4,8 +4,8 @@ use native.Mathlib.Omega.{arith}
 use borrow.Author.Needs.{needs}
 use borrow.Author.Tests.{eq-eqb, ne-eqb}
 use Rattle.plane.specs.Planes.{sourceFault}
-use Rattle.plane.proofs.Bools.{in-range}
-use Rattle.plane.proofs.Faults.{status, given, spared, passed, stopped}
+use Rattle.faults.proofs.Bools.{in-range}
+use Rattle.faults.proofs.Faults.{status, given, spared, passed, stopped}
 use Rattle.plane.proofs.Resolving.{strides-fault, strides-ok}
 use Rattle.plane.proofs.Rules.{source-refused, source-given, shape-box}
 use Rattle.plane.proofs.tensors.source_of.Statement.{statement}

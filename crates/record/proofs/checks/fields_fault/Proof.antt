@@ -2,8 +2,8 @@
 use mathlib.Core.Path.{sym, _∙_}
 use native.Mathlib.Omega.{arith}
 use borrow.Author.Needs.{needs}
-use Rattle.plane.proofs.Bools.{in-range}
-use Rattle.plane.proofs.Faults.{given, spared}
+use Rattle.faults.proofs.Bools.{in-range}
+use Rattle.faults.proofs.Faults.{given, spared}
 use Rattle.record.specs.Records.{fieldsFault}
 use Rattle.record.proofs.checks.fields_fault.Statement.{statement}
 use Rattle.record.proofs.checks.fields_fault.Tie as tie

@@ -4,7 +4,7 @@ use mathlib.Core.Path.{refl, sym, _∙_}
 use native.Mathlib.Omega.{arith}
 use borrow.Author.Needs.{needs}
 use Rattle.record.specs.Records.{stray}
-use Rattle.plane.proofs.Faults.{Searched, searched-more, searched-found, searched-end}
+use Rattle.faults.proofs.Faults.{Searched, searched-more, searched-found, searched-end}
 use Rattle.record.proofs.Strays.{strays-from, stray-is}
 use Rattle.record.proofs.checks.stray_fault.Statement.{statement}
 use Rattle.record.proofs.checks.stray_fault.Tie as tie

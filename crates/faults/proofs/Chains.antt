@@ -9,11 +9,11 @@ use mathlib.Core.Bool.{Bool, true, false, _||_}
 use mathlib.Core.List.{List, [], _∷_, _++_}
 use borrow.Author.Tests.{eqb-false}
 use lib.Dec.{eqb}
-use Rattle.plane.specs.declared.Fault.{Fault}
-use Rattle.plane.specs.Faults.{none, fault, when, _orElse_, first, lowest, outward}
-use Rattle.plane.specs.Exactness.{Way, up, out, Rule, whole, Earlier, Kept, BrokenAt, AllKept, Given, Exact}
-use Rattle.plane.proofs.Bools.{either-clear}
-use Rattle.plane.proofs.Faults.{status, is-fault, or-none, or-found, or-path, or-assoc, first-at, first-zero, when-bad, when-good, when-zero}
+use Rattle.faults.specs.declared.Fault.{Fault}
+use Rattle.faults.specs.Faults.{none, fault, when, _orElse_, first, lowest, outward}
+use Rattle.faults.specs.Exactness.{Way, up, out, Rule, whole, Earlier, Kept, BrokenAt, AllKept, Given, Exact}
+use Rattle.faults.proofs.Bools.{either-clear}
+use Rattle.faults.proofs.Faults.{status, is-fault, or-none, or-found, or-path, or-assoc, first-at, first-zero, when-bad, when-good, when-zero}
 
 -- ---- one rule: kept or broken, and what it gives
 

@@ -1,12 +1,12 @@
--- `plane::destination::place` meets its contract. Assumes nothing.
+-- `plane::destination::placement` meets its contract. Assumes nothing.
 use mathlib.Core.Path.{_∙_}
 use native.Mathlib.Omega.{arith}
 use borrow.Author.Needs.{needs}
-use Rattle.plane.specs.Moves.{placeFault}
-use Rattle.plane.proofs.Faults.{status}
+use Rattle.plane.specs.Moves.{dstFault}
+use Rattle.faults.proofs.Faults.{status}
 use Rattle.plane.proofs.Rules.{refuses, accepts, place-stopped, place-strides, place-offsets, place-offset-small}
-use Rattle.plane.proofs.destination.place.Statement.{statement}
-use Rattle.plane.proofs.destination.place.Tie as tie
+use Rattle.plane.proofs.destination.placement.Statement.{statement}
+use Rattle.plane.proofs.destination.placement.Tie as tie
 
 returns : tie.Need-returns
 returns c =
@@ -46,10 +46,10 @@ returns-3 c =
     let a = r .before .before in
     let t = a .args .t in
     let k = a .args .c in
-    accepts t k (placeFault t k) (a .pre .1) (place-strides t k (a .pre .1) (r .resolve .ensures) (i .if1 .left)) (c .bytes .ensures)
+    accepts t k (dstFault t k) (a .pre .1) (place-strides t k (a .pre .1) (r .resolve .ensures) (i .if1 .left)) (c .bytes .ensures)
     (status (place-offsets t k (a .pre .1) (r .resolve .ensures) (i .if1 .left) (o .dst-offset-fault .ensures)) ∙ j .if2 .left)
 
-pub place-spec : {M : Type 1} → statement M
-place-spec =
+pub placement-spec : {M : Type 1} → statement M
+placement-spec =
     tie.close
     (tie.spec (λ c κs. search needs) (λ c κs. search needs) returns (λ c κs. search needs) (λ c κs. search needs) returns-2 bytes-requires returns-3)

@@ -8,8 +8,8 @@ use mathlib.Core.Path.{_≡_, refl, sym, ap, ap₂, subst, _∙_}
 use mathlib.Core.Logic.{⊎-elim}
 use mathlib.Core.Bool.{Bool, true, false}
 use borrow.Author.Tests.{eq-eqb, ne-eqb}
-use Rattle.plane.specs.declared.Fault.{Fault}
-use Rattle.plane.specs.Faults.{none, fault, when, _orElse_, first, lowest, outward, unless}
+use Rattle.faults.specs.declared.Fault.{Fault}
+use Rattle.faults.specs.Faults.{none, fault, when, _orElse_, first, lowest, outward, ifFault}
 
 pub status : {f g : Fault} → f ≡ g → f .status ≡ g .status
 status e = ap (λ (f : Fault). f .status) e
@@ -54,11 +54,11 @@ pub stopped : {f g : Fault} (h : Fault) → f ≡ g → (f .status ≡ 0 → ⊥
 stopped {g = g} h e z = or-found g h (λ y. z (status e ∙ y)) ∙ sym e
 
 -- what an answer is besides a fault, and without one
-pub unless-fault : {A : Type 0} (f : Fault) (y x : A) → (f .status ≡ 0 → ⊥) → unless f y x ≡ y
-unless-fault f y x h = simp (ne-eqb (f .status) 0 h)
+pub if-fault : {A : Type 0} (f : Fault) (y x : A) → (f .status ≡ 0 → ⊥) → ifFault f y x ≡ y
+if-fault f y x h = simp (ne-eqb (f .status) 0 h)
 
-pub unless-none : {A : Type 0} (f : Fault) (y x : A) → f .status ≡ 0 → unless f y x ≡ x
-unless-none f y x h = simp (eq-eqb (f .status) 0 h)
+pub if-none : {A : Type 0} (f : Fault) (y x : A) → f .status ≡ 0 → ifFault f y x ≡ x
+if-none f y x h = simp (eq-eqb (f .status) 0 h)
 
 -- ---- one condition
 

@@ -2,7 +2,7 @@
 use Prim.Native.Nat.{ℕ, zero, suc, _-_}
 use mathlib.Core.Bool.{Bool, cond}
 use lib.Dec.{eqb}
-use Rattle.plane.specs.declared.Fault.{Fault}
+use Rattle.faults.specs.declared.Fault.{Fault}
 
 infixr 30 _orElse_
 abbrev pub none : Fault
@@ -33,5 +33,5 @@ unfoldable pub outward : ℕ → ℕ → (ℕ → Bool) → Fault
 outward num n bad = first n (λ k. when num (n - suc k) (bad (n - suc k)))
 
 -- x where there is no fault, and y where there is one
-abbrev pub unless : {A : Type 0} → Fault → A → A → A
-unless f y x = cond (eqb (f .status) 0) x y
+abbrev pub ifFault : {A : Type 0} → Fault → A → A → A
+ifFault f y x = cond (eqb (f .status) 0) x y
