@@ -14,10 +14,10 @@ use crate::wire::{bytes_of, whole, Memory, Rest, Wire};
 pub fn break_table(random: &mut Random, table: &mut Table) {
     let one = draw_slot(random, table);
     let other = draw_slot(random, table);
-    match random.below(18) {
+    match random.below(20) {
         0 => table.length = random.pick(&[LIMIT + 1, u64::MAX, 1 << 32, 1 << 63]),
         1 => table.length = table.length.wrapping_add(random.pick(&[1, u64::MAX])),
-        2 => table.slot[one].state = random.between(4, 255) as u8,
+        2 | 18..=19 => table.slot[one].state = random.between(4, 255) as u8,
         3 => table.slot[one].state = random.below(4) as u8,
         4..=6 => break_moved(random, table, one),
         7 => set_byte(random, table, one),

@@ -1,7 +1,7 @@
 //! Puts faults into a move that would be accepted: every number of refusal, alone and in pairs, at any dimension.
 
 use super::planes::Drawn;
-use super::values::{any_u32, any_u64, any_u8, around};
+use super::values::{any_u32, any_u64, any_u8, around, WRONG_RANKS};
 use crate::moves::room;
 use crate::random::Random;
 use crate::tensor::{check_tensor, inner_product, wide, EXTENT_LIMIT, LIMIT};
@@ -61,7 +61,7 @@ fn spoil(random: &mut Random, drawn: &mut Drawn, number: u64, d: usize, lent: Le
     let shape = drawn.tensor.shape[d];
     let config = &mut drawn.config;
     match number {
-        1 => drawn.tensor.rank = random.pick(&[0, 5, 6, 7, 8, 9, 255]),
+        1 => drawn.tensor.rank = random.pick(&WRONG_RANKS),
         2 => drawn.tensor.element_size = random.pick(&[0, 3, 5, 6, 7, 8, 16, 255]),
         3 => drawn.tensor.shape[d] = random.pick(&[0, 65_536, 65_537, 1 << 31, u32::MAX]),
         4 => spoil_source_stride(random, drawn, d),
