@@ -61,15 +61,13 @@ impl Coverage {
 
     /// Counts a line by what it has to be answered.
     pub fn call(&mut self, calls: &Calls, line: &[u8], expected: &[u8]) {
-        let bytes = unhex(line).unwrap_or_default();
-        let call = bytes.first().and_then(|&number| calls.find(number));
+        let call = byte_at(line, 0).and_then(|number| calls.find(number));
         match (call, expected) {
             (Some(call), [0xff, WRONG_LENGTH]) => self.meet(&name(call), LENGTH),
             (Some(call), [number, answer @ ..]) if *number == call.number => {
-                let arguments = &bytes[1..];
-                self.meet(&name(call), &given(calls, call, arguments, answer));
+                self.meet(&name(call), &given(calls, call, line, answer));
                 for place in call.state_places() {
-                    self.meet(&name(call), state(arguments[place]));
+                    self.meet(&name(call), state(byte_at(line, 1 + place)));
                 }
             }
             _ => self.meet("no call", reason(line, expected)),
@@ -144,7 +142,7 @@ fn can_give(calls: &Calls, call: &Call) -> Vec<String> {
 }
 
 /// What a call gives with this answer, named as in its list.
-fn given(calls: &Calls, call: &Call, arguments: &[u8], answer: &[u8]) -> String {
+fn given(calls: &Calls, call: &Call, line: &[u8], answer: &[u8]) -> String {
     match call.gives {
         Gives::OneKind => "made".to_string(),
         Gives::First(_) => answer[0].to_string(),
@@ -154,8 +152,9 @@ fn given(calls: &Calls, call: &Call, arguments: &[u8], answer: &[u8]) -> String 
         }
         Gives::SameAs(number) => {
             let other = other(calls, number);
-            let answer = (other.answer)(arguments).expect("both take the same arguments");
-            given(calls, other, arguments, &answer[1..])
+            let bytes = unhex(line).expect("it is a call");
+            let answer = (other.answer)(&bytes[1..]).expect("both take the same arguments");
+            given(calls, other, line, &answer[1..])
         }
     }
 }
@@ -164,14 +163,19 @@ fn other(calls: &Calls, number: u8) -> &Call {
     calls.find(number).expect("the call that a list names")
 }
 
-fn state(state: u8) -> &'static str {
+fn state(state: Option<u8>) -> &'static str {
     STATES[match state {
-        FREE => 0,
-        PREPARED => 1,
-        RUNNING => 2,
-        DONE => 3,
+        Some(FREE) => 0,
+        Some(PREPARED) => 1,
+        Some(RUNNING) => 2,
+        Some(DONE) => 3,
         _ => 4,
     }]
+}
+
+/// One byte of a line, if there are digits for it.
+fn byte_at(line: &[u8], place: usize) -> Option<u8> {
+    unhex(line.get(2 * place..2 * place + 2)?).ok()?.pop()
 }
 
 /// Which reason a line that is no call is answered.

@@ -28,11 +28,11 @@ pub fn lay_out(random: &mut Random, drawn: &Drawn) -> (Job, u64) {
 pub fn misplace(random: &mut Random, job: &mut Job, length: u64) {
     let (part, other) =
         if random.chance(50) { (&mut job.source, job.destination) } else { (&mut job.destination, job.source) };
-    match random.below(16) {
+    match random.below(18) {
         0 => part.start = length.saturating_sub(part.length).saturating_add(1),
         1 => part.length = length.saturating_sub(part.start).saturating_add(1),
         2 => *part = Part { start: length, length: 0 },
-        3 => *part = Part { start: length.saturating_add(1), length: 0 },
+        3 | 16..=17 => *part = Part { start: length.saturating_add(1), length: 0 },
         4 => part.start = any_u64(random),
         5 => part.length = any_u64(random),
         // start + length wraps to a small number

@@ -43,7 +43,7 @@ fn any_number(random: &mut Random) -> u64 {
 /// Two faults, for the order of the numbers and of the dimensions: any two, the same twice, or neighbours.
 fn spoil_twice(random: &mut Random, drawn: &mut Drawn, lent: Lent) {
     let one = any_number(random);
-    let other = match random.below(6) {
+    let other = match random.below(8) {
         0..=2 => any_number(random),
         3 => one,
         _ => one % 13 + 1,
