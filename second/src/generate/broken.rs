@@ -140,7 +140,7 @@ pub fn wide_polls(work: &mut Work) {
         if work.random.chance(70) {
             break_table(&mut work.random, &mut table);
         }
-        let handle = if work.random.chance(90) { work.random.below(4) as u32 } else { any_u32(&mut work.random) };
+        let handle = if work.random.chance(75) { work.random.below(4) as u32 } else { any_u32(&mut work.random) };
         work.call(0x45, &(table, handle));
     }
     call_all(work, &table, &Job::default(), 0, &[]);

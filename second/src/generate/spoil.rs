@@ -13,9 +13,9 @@ pub enum Lent {
     NumbersOnly,
 }
 
-/// Leaves half of the moves as they are, and spoils the others once or twice.
+/// Leaves a third of the moves as they are, and spoils the others once or twice.
 pub fn vary(random: &mut Random, drawn: &mut Drawn, lent: Lent) {
-    match random.below(20) {
+    match random.below(22) {
         0..=7 => {}
         8 => {
             drawn.source = around(random, drawn.source);
@@ -28,6 +28,7 @@ pub fn vary(random: &mut Random, drawn: &mut Drawn, lent: Lent) {
         }
         12..=16 => spoil_twice(random, drawn, lent),
         17..=18 => set_any_field(random, drawn, lent),
+        19..=20 => spoil_crosswise(random, drawn, lent),
         _ => {
             set_any_field(random, drawn, lent);
             set_any_field(random, drawn, lent);
@@ -54,6 +55,16 @@ fn spoil_twice(random: &mut Random, drawn: &mut Drawn, lent: Lent) {
     // A fault of the record may hide how the rest is to be spoiled, so it is put in second.
     spoil(random, drawn, one.max(other), last, lent);
     spoil(random, drawn, one.min(other), first, lent);
+}
+
+/// A number at one dimension and the next number at a lower one, for "each number over all dimensions before the next".
+fn spoil_crosswise(random: &mut Random, drawn: &mut Drawn, lent: Lent) {
+    let number = random.pick(&[6, 7, 8, 9, 11]);
+    let rank = drawn.dimensions();
+    let high = rank - 1 - random.index(rank.max(2) - 1);
+    let low = random.index(high.max(1));
+    spoil(random, drawn, number + 1, low, lent);
+    spoil(random, drawn, number, high, lent);
 }
 
 /// Puts in the fault that this number is given for, at this dimension, as far as this move can have it.
@@ -146,6 +157,12 @@ fn spoil_extent(random: &mut Random, drawn: &mut Drawn, d: usize, lent: Lent) {
     drawn.config.offset[d] = 0;
     drawn.config.size[d] = random.pick(&[0, size]) as u32;
     drawn.tensor.shape[d] = size as u32;
+    // Mostly turned, so that the source and the destination dimension differ.
+    let rank = drawn.dimensions();
+    if random.chance(70) {
+        drawn.config.perm = [0, 1, 2, 3];
+        drawn.config.perm[..rank].reverse();
+    }
     let strides_fit = random.chance(70);
     if strides_fit {
         drawn.tensor.stride = [0; 4];
