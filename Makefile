@@ -1,6 +1,6 @@
 # make show: the main job on an example. make test: the gate.
 # make compare N=.. SEED=..: random calls against the second program. make seeded: faults that the comparison must find.
-.PHONY: show test compare seeded programs kit cargo python
+.PHONY: show test compare seeded programs kit cargo
 
 N ?= 20000
 SEED ?= 1
@@ -16,7 +16,7 @@ test:
 compare: cargo programs
 	@scripts/compare $(N) $(SEED)
 
-seeded: cargo python programs
+seeded: cargo programs
 	@second/seeded scripts/run
 
 programs: kit
@@ -30,6 +30,3 @@ kit:
 
 cargo:
 	@command -v cargo >/dev/null 2>&1 || { echo "Rust is missing: there is no command 'cargo' on the PATH."; exit 1; }
-
-python:
-	@command -v python3 >/dev/null 2>&1 || { echo "Python is missing: there is no command 'python3' on the PATH."; exit 1; }

@@ -1,4 +1,4 @@
-//! The calls of CALLS.md: number, name, arguments and answer of each. A new call is one more line here.
+//! The calls of CALLS.md: number, name, what it can give, arguments and answer of each. A new call is one more line here.
 
 use crate::helpers::{self, Count, SubConfig, SubTensor};
 use crate::job::{self, Advanced, Job, Judged, Part};
@@ -6,18 +6,59 @@ use crate::moves::{self, Answer, Config, Room};
 use crate::ready_made::{self, Made, Padding};
 use crate::record::{self, Reading};
 use crate::tensor::{self, Fault, Source, Tensor};
-use crate::transfers::{self, Changed, Fresh, Poll, Prepared, Stepped, Table};
-use crate::wire::{whole, wire_struct, Counted, Memory, Place, Rest, Wire};
+use crate::transfers::{self, Changed, Fresh, Poll, Prepared, Stepped, Table, DONE, FREE, PREPARED, RUNNING};
+use crate::wire::{whole, wire_struct, Counted, Memory, Place, Rest, Wire, MEMORY_LIMIT};
 
 /// The whole answer to these arguments, or nothing if they are not as long as the call's.
 type Work = dyn Fn(&[u8]) -> Option<Vec<u8>>;
 
+/// What a call can give. A long comparison has to meet all of it, and a call must not give anything else.
+#[derive(Clone, Copy)]
+pub enum Gives {
+    /// Nothing is refused and there is nothing to tell apart: the call has only to be made.
+    OneKind,
+    /// The first byte of the answer: the number of refusal, or the whole answer of a call that has none.
+    First(&'static [u8]),
+    /// The first two bytes of the answer, with a name for each pair.
+    FirstTwo(&'static [(&'static str, [u8; 2])]),
+    /// The answer has no field for the number of refusal: it is the one that this call gives to the same arguments.
+    SameAs(u8),
+}
+
 pub struct Call {
     pub number: u8,
     pub name: &'static str,
+    pub gives: Gives,
     pub answer: Box<Work>,
+    /// The fields of the arguments.
+    pub takes: Vec<Place>,
     /// The fields of the answer.
     pub places: Vec<Place>,
+}
+
+impl Call {
+    /// How many bytes the arguments have without what is left of the line.
+    pub fn fixed_length(&self) -> usize {
+        self.takes.iter().map(|&(_, length)| length).filter(|&length| length != usize::MAX).sum()
+    }
+
+    /// Whether no arguments have a wrong length.
+    pub fn takes_any_length(&self) -> bool {
+        (self.answer)(&[]).is_some() && (self.answer)(&[0; MEMORY_LIMIT + 1]).is_some()
+    }
+
+    /// At which bytes of the arguments the states of slots stand.
+    pub fn state_places(&self) -> Vec<usize> {
+        let mut states = Vec::new();
+        let mut place = 0;
+        for (name, length) in self.takes.iter().take_while(|&&(_, length)| length != usize::MAX) {
+            if name.ends_with(".state") {
+                states.push(place);
+            }
+            place += length;
+        }
+        states
+    }
 }
 
 pub struct Calls(pub Vec<Call>);
@@ -33,11 +74,52 @@ wire_struct! { Written { fault: Fault, room: Memory } }
 
 type Four = [u32; 4];
 
-/// This call answers the number that it is handed, so its answers tell nothing of refusals.
-pub const ANSWER_REFUSED: u8 = 0x0a;
+/// `sub_part` takes the same arguments and is refused in the same cases.
+const MOVER_SUB_TENSOR: u8 = 0x25;
+
+/// "Order.": the numbers of refusal that a call gives, behind 0.
+const SOURCE: Gives = Gives::First(&[0, 1, 2, 3, 4]);
+/// "A room question ... never gives 5 or 13."
+const ROOM: Gives = Gives::First(&[0, 1, 2, 3, 4, 6, 7, 8, 9, 10, 11, 12]);
+/// "Move: 1 to 13."
+const MOVE: Gives = Gives::First(&[0, 1, 2, 3, 4, 5, 6, 7, 8, 9, 10, 11, 12, 13]);
+/// "Sub-tensor: 1 to 5, 7, 8, 14, 15."
+const SUB_TENSOR: Gives = Gives::First(&[0, 1, 2, 3, 4, 5, 7, 8, 14, 15]);
+/// "Count: 1, 3, 16, 29." 29 can't be provoked: four shapes of at most 65,535 have a product below 2^64.
+const COUNT: Gives = Gives::First(&[0, 1, 3, 16]);
+/// "1 with all fields 0 answers a wrong one"
+const MADE: Gives = Gives::First(&[0, 1]);
+/// CALLS: "20, 1 to 13, 21".
+const JOB: Gives = Gives::First(&[0, 20, 1, 2, 3, 4, 5, 6, 7, 8, 9, 10, 11, 12, 13, 21]);
+/// "Record read: 25 to 27, 1, 28."
+const READ: Gives = Gives::First(&[0, 25, 26, 27, 1, 28]);
+/// "Record write: 25 (room not 131 bytes), 1, 28."
+const WRITE: Gives = Gives::First(&[0, 25, 1, 28]);
+/// 17: "above the limit for a fresh one".
+const FRESH: Gives = Gives::First(&[0, 17]);
+/// "Prepare: 17 to 20, 1 to 13, 21, 22."
+const PREPARE: Gives = Gives::First(&[0, 17, 18, 19, 20, 1, 2, 3, 4, 5, 6, 7, 8, 9, 10, 11, 12, 13, 21, 22]);
+/// "Start, step, release: 17, 18, 23, 24."
+const TURN: Gives = Gives::First(&[0, 17, 18, 23, 24]);
+/// "Poll: 18; a handle above 3 gives 23." "A poll says free, prepared with what is left, running with what is left, or
+/// done."
+const POLL: Gives = Gives::FirstTwo(&[
+    ("free", [0, FREE]),
+    ("prepared", [0, PREPARED]),
+    ("running", [0, RUNNING]),
+    ("done", [0, DONE]),
+    ("18", [18, 0]),
+    ("23", [23, 0]),
+]);
+/// Two things that are no refusals: no and yes.
+const NO_YES: Gives = Gives::First(&[0, 1]);
+/// "1, 2, 4, or 0 for others"
+const SIZES: Gives = Gives::First(&[0, 1, 2, 4]);
 
 /// A call that takes `A` and answers `R`.
-fn call<A: Wire + 'static, R: Wire + 'static>(number: u8, name: &'static str, work: fn(A) -> R) -> Call {
+fn call<A: Wire + 'static, R: Wire + 'static>(number: u8, name: &'static str, gives: Gives, work: fn(A) -> R) -> Call {
+    let mut takes = Vec::new();
+    A::places("", &mut takes);
     let mut places = vec![("number of the call".to_string(), 1)];
     R::places("", &mut places);
     let answer = move |arguments: &[u8]| {
@@ -45,7 +127,7 @@ fn call<A: Wire + 'static, R: Wire + 'static>(number: u8, name: &'static str, wo
         work(whole(arguments)?).write(&mut out);
         Some(out)
     };
-    Call { number, name, answer: Box::new(answer), places }
+    Call { number, name, gives, answer: Box::new(answer), takes, places }
 }
 
 impl Calls {
@@ -63,87 +145,101 @@ impl Calls {
 
 fn plane_calls() -> Vec<Call> {
     vec![
-        call(0x00, "version", |_: ()| -> u16 { 1 }),
-        call(0x01, "source_of", |tensor: Tensor| -> Source { tensor::source_of(&tensor) }),
-        call(0x02, "room", |(tensor, config): (Tensor, Config)| -> Room { moves::room(&tensor, &config) }),
-        call(0x03, "judge", |(tensor, config, source, destination): (Tensor, Config, u64, u64)| -> Answer {
+        call(0x00, "version", Gives::OneKind, |_: ()| -> u16 { 1 }),
+        call(0x01, "source_of", SOURCE, |tensor: Tensor| -> Source { tensor::source_of(&tensor) }),
+        call(0x02, "room", ROOM, |(tensor, config): (Tensor, Config)| -> Room { moves::room(&tensor, &config) }),
+        call(0x03, "judge", MOVE, |(tensor, config, source, destination): (Tensor, Config, u64, u64)| -> Answer {
             moves::judge(&tensor, &config, source, destination)
         }),
-        call(0x04, "element_size", helpers::element_size),
-        call(0x05, "element_count", |(tensor, start): (Tensor, u32)| -> Count {
+        call(0x04, "element_size", SIZES, helpers::element_size),
+        call(0x05, "element_count", COUNT, |(tensor, start): (Tensor, u32)| -> Count {
             helpers::element_count(&tensor, start)
         }),
-        call(0x06, "sub_tensor", |(tensor, config, source): (Tensor, SubConfig, u64)| -> SubTensor {
+        call(0x06, "sub_tensor", SUB_TENSOR, |(tensor, config, source): (Tensor, SubConfig, u64)| -> SubTensor {
             helpers::sub_tensor(&tensor, &config, source)
         }),
-        call(0x07, "rank_is_bad", |rank: u8| -> u8 { tensor::check_rank(rank).is_err() as u8 }),
-        call(0x08, "Tensor::zero", |_: ()| Tensor::default()),
-        call(0x09, "Config::zero", |_: ()| Config::default()),
-        call(ANSWER_REFUSED, "Answer::refused", Answer::refused),
+        call(0x07, "rank_is_bad", NO_YES, |rank: u8| -> u8 { tensor::check_rank(rank).is_err() as u8 }),
+        call(0x08, "Tensor::zero", Gives::OneKind, |_: ()| Tensor::default()),
+        call(0x09, "Config::zero", Gives::OneKind, |_: ()| Config::default()),
+        call(0x0a, "Answer::refused", Gives::OneKind, Answer::refused),
     ]
 }
 
 fn ready_made_calls() -> Vec<Call> {
     vec![
-        call(0x10, "copy", ready_made::copy),
-        call(0x11, "slice", |(rank, offset, size, dst_stride): (u8, Four, Four, Four)| -> Made {
+        call(0x10, "copy", MADE, ready_made::copy),
+        call(0x11, "slice", MADE, |(rank, offset, size, dst_stride): (u8, Four, Four, Four)| -> Made {
             ready_made::slice(rank, offset, size, dst_stride)
         }),
-        call(0x12, "concatenate", |(rank, dst_offset, dst_stride): (u8, Four, Four)| -> Made {
+        call(0x12, "concatenate", MADE, |(rank, dst_offset, dst_stride): (u8, Four, Four)| -> Made {
             ready_made::concatenate(rank, dst_offset, dst_stride)
         }),
-        call(0x13, "subsample", |(rank, step, dst_stride): (u8, Four, Four)| -> Made {
+        call(0x13, "subsample", MADE, |(rank, step, dst_stride): (u8, Four, Four)| -> Made {
             ready_made::subsample(rank, step, dst_stride)
         }),
-        call(0x14, "permute", |(rank, perm): (u8, [u8; 4])| -> Made { ready_made::permute(rank, perm) }),
-        call(0x15, "pad_chw", |(padding, dst_stride): (Padding, Four)| -> Config {
+        call(0x14, "permute", MADE, |(rank, perm): (u8, [u8; 4])| -> Made { ready_made::permute(rank, perm) }),
+        call(0x15, "pad_chw", Gives::OneKind, |(padding, dst_stride): (Padding, Four)| -> Config {
             ready_made::pad_chw(padding, dst_stride)
         }),
-        call(0x16, "pad_hwc", |(padding, dst_stride): (Padding, Four)| -> Config {
+        call(0x16, "pad_hwc", Gives::OneKind, |(padding, dst_stride): (Padding, Four)| -> Config {
             ready_made::pad_hwc(padding, dst_stride)
         }),
-        call(0x17, "all", |(rank, config): (u8, Config)| -> Made { ready_made::all(rank, &config) }),
+        call(0x17, "all", MADE, |(rank, config): (u8, Config)| -> Made { ready_made::all(rank, &config) }),
     ]
 }
 
 fn setting_calls() -> Vec<Call> {
     vec![
-        call(0x18, "with_offset", |(config, entries): (Config, Four)| config.with_offset(entries)),
-        call(0x19, "with_size", |(config, entries): (Config, Four)| config.with_size(entries)),
-        call(0x1a, "with_step", |(config, entries): (Config, Four)| config.with_step(entries)),
-        call(0x1b, "with_dst_offset", |(config, entries): (Config, Four)| config.with_dst_offset(entries)),
-        call(0x1c, "with_dst_stride", |(config, entries): (Config, Four)| config.with_dst_stride(entries)),
-        call(0x1d, "with_perm", |(config, entries): (Config, [u8; 4])| config.with_perm(entries)),
-        call(0x1e, "with_pre", |(config, entries): (Config, [u8; 4])| config.with_pre(entries)),
-        call(0x1f, "with_post", |(config, entries): (Config, [u8; 4])| config.with_post(entries)),
+        call(0x18, "with_offset", Gives::OneKind, |(config, entries): (Config, Four)| config.with_offset(entries)),
+        call(0x19, "with_size", Gives::OneKind, |(config, entries): (Config, Four)| config.with_size(entries)),
+        call(0x1a, "with_step", Gives::OneKind, |(config, entries): (Config, Four)| config.with_step(entries)),
+        call(0x1b, "with_dst_offset", Gives::OneKind, |(config, entries): (Config, Four)| {
+            config.with_dst_offset(entries)
+        }),
+        call(0x1c, "with_dst_stride", Gives::OneKind, |(config, entries): (Config, Four)| {
+            config.with_dst_stride(entries)
+        }),
+        call(0x1d, "with_perm", Gives::OneKind, |(config, entries): (Config, [u8; 4])| config.with_perm(entries)),
+        call(0x1e, "with_pre", Gives::OneKind, |(config, entries): (Config, [u8; 4])| config.with_pre(entries)),
+        call(0x1f, "with_post", Gives::OneKind, |(config, entries): (Config, [u8; 4])| config.with_post(entries)),
     ]
 }
 
 fn mover_calls() -> Vec<Call> {
     vec![
-        call(0x20, "move_plane", |(tensor, config, source, room): (Tensor, Config, Counted, Memory)| -> Moved {
+        call(0x20, "move_plane", MOVE, |(tensor, config, source, room): (Tensor, Config, Counted, Memory)| -> Moved {
             let mut destination = room;
             let answer = moves::move_plane(&tensor, &config, &source.0, &mut destination.0);
             Moved { answer, destination }
         }),
-        call(0x21, "judge_job", |(length, job): (u64, Job)| -> Judged { job::judge_job(length, &job) }),
-        call(0x22, "advance", |(job, from, budget, memory): (Job, u64, u64, Memory)| -> Advanced {
+        call(0x21, "judge_job", JOB, |(length, job): (u64, Job)| -> Judged { job::judge_job(length, &job) }),
+        call(0x22, "advance", JOB, |(job, from, budget, memory): (Job, u64, u64, Memory)| -> Advanced {
             job::advance(&job, from, budget, memory.0)
         }),
-        call(0x23, "meets", |(a, b): (Part, Part)| -> u8 { job::meets(&a, &b) as u8 }),
-        call(0x24, "sub_part", |(tensor, config, source): (Tensor, SubConfig, Rest)| -> Rest {
-            Rest(helpers::sub_part(&tensor, &config, &source.0).to_vec())
-        }),
-        call(0x25, "mover::sub_tensor", |(tensor, config, source): (Tensor, SubConfig, Rest)| -> SubTensor {
-            helpers::sub_tensor(&tensor, &config, source.0.len() as u64)
-        }),
+        call(0x23, "meets", NO_YES, |(a, b): (Part, Part)| -> u8 { job::meets(&a, &b) as u8 }),
+        call(
+            0x24,
+            "sub_part",
+            Gives::SameAs(MOVER_SUB_TENSOR),
+            |(tensor, config, source): (Tensor, SubConfig, Rest)| -> Rest {
+                Rest(helpers::sub_part(&tensor, &config, &source.0).to_vec())
+            },
+        ),
+        call(
+            MOVER_SUB_TENSOR,
+            "mover::sub_tensor",
+            SUB_TENSOR,
+            |(tensor, config, source): (Tensor, SubConfig, Rest)| -> SubTensor {
+                helpers::sub_tensor(&tensor, &config, source.0.len() as u64)
+            },
+        ),
     ]
 }
 
 fn record_calls() -> Vec<Call> {
     vec![
-        call(0x30, "record::read", |bytes: Rest| -> Reading { record::read(&bytes.0) }),
-        call(0x31, "record::write", |(tensor, config, room): (Tensor, Config, Memory)| -> Written {
+        call(0x30, "record::read", READ, |bytes: Rest| -> Reading { record::read(&bytes.0) }),
+        call(0x31, "record::write", WRITE, |(tensor, config, room): (Tensor, Config, Memory)| -> Written {
             let mut room = room;
             let fault = record::write(&tensor, &config, &mut room.0);
             Written { fault, room }
@@ -153,19 +249,19 @@ fn record_calls() -> Vec<Call> {
 
 fn table_calls() -> Vec<Call> {
     vec![
-        call(0x40, "fresh", |length: u64| -> Fresh { transfers::fresh(length) }),
-        call(0x41, "prepare", |(table, job, memory): (Table, Job, Rest)| -> Prepared {
+        call(0x40, "fresh", FRESH, |length: u64| -> Fresh { transfers::fresh(length) }),
+        call(0x41, "prepare", PREPARE, |(table, job, memory): (Table, Job, Rest)| -> Prepared {
             transfers::prepare(&table, &job, memory.0.len())
         }),
-        call(0x42, "start", |(table, handle, memory): (Table, u32, Rest)| -> Changed {
+        call(0x42, "start", TURN, |(table, handle, memory): (Table, u32, Rest)| -> Changed {
             transfers::start(&table, handle, memory.0.len())
         }),
-        call(0x43, "step", |(table, handle, budget, memory): (Table, u32, u64, Memory)| -> Stepped {
+        call(0x43, "step", TURN, |(table, handle, budget, memory): (Table, u32, u64, Memory)| -> Stepped {
             transfers::step(&table, handle, budget, memory.0)
         }),
-        call(0x44, "release", |(table, handle, memory): (Table, u32, Rest)| -> Changed {
+        call(0x44, "release", TURN, |(table, handle, memory): (Table, u32, Rest)| -> Changed {
             transfers::release(&table, handle, memory.0.len())
         }),
-        call(0x45, "poll", |(table, handle): (Table, u32)| -> Poll { transfers::poll(&table, handle) }),
+        call(0x45, "poll", POLL, |(table, handle): (Table, u32)| -> Poll { transfers::poll(&table, handle) }),
     ]
 }

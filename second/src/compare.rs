@@ -43,11 +43,11 @@ fn compare_calls(report: &mut Report, count: usize, seed: u64, command: &[&str])
     Ok(())
 }
 
-/// One process for each. What it tells by its exit is its own affair: the paper doesn't say.
+/// One process for each.
 fn compare_shows(report: &mut Report, count: usize, seed: u64, command: &[&str]) -> Result<(), String> {
     for input in generate::show_inputs(count, seed) {
-        let (output, _) = run(command, "rmvshow", &input)?;
-        report.show(&hex(&input), &show(&input), &output);
+        let (output, ended) = run(command, "rmvshow", &input)?;
+        report.show(&hex(&input), &show(&input), &output, ended);
     }
     Ok(())
 }

@@ -25,20 +25,28 @@ pub fn hex(bytes: &[u8]) -> Vec<u8> {
 /// The bytes of a line. A character that is no digit, or one digit too many: "whichever was met first in the line (an
 /// odd number is met at its end)".
 pub fn unhex(line: &[u8]) -> Result<Vec<u8>, u8> {
-    let mut digits = Vec::with_capacity(line.len());
-    for &character in line {
-        let Some(digit) = (character as char).to_digit(16) else {
-            return Err(NO_DIGITS);
+    let mut bytes = Vec::with_capacity(line.len() / 2);
+    let mut high = 0;
+    for (place, &character) in line.iter().enumerate() {
+        let digit = match character {
+            b'0'..=b'9' => character - b'0',
+            b'a'..=b'f' => character - b'a' + 10,
+            b'A'..=b'F' => character - b'A' + 10,
+            _ => return Err(NO_DIGITS),
         };
-        digits.push(digit as u8);
-        if digits.len() > DIGITS_LIMIT {
+        if place == DIGITS_LIMIT {
             return Err(TOO_LONG);
         }
+        if place % 2 == 0 {
+            high = digit;
+        } else {
+            bytes.push(16 * high + digit);
+        }
     }
-    if digits.len() % 2 == 1 {
+    if line.len() % 2 == 1 {
         return Err(NO_DIGITS);
     }
-    Ok(digits.chunks(2).map(|pair| pair[0] * 16 + pair[1]).collect())
+    Ok(bytes)
 }
 
 /// The bytes that answer one line that ended in a newline.

@@ -5,6 +5,7 @@
 
 mod calls;
 mod compare;
+mod coverage;
 mod generate;
 mod helpers;
 mod job;

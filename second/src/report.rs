@@ -1,42 +1,30 @@
 //! Counts what was compared and tells where it differs.
 
-use crate::calls::{Call, Calls, ANSWER_REFUSED};
+use crate::calls::Calls;
+use crate::coverage::Coverage;
 use crate::lines::hex;
 use crate::wire::Place;
-use std::process::ExitCode;
+use std::process::{ExitCode, ExitStatus};
 
 /// At most so many differences are printed.
 const PRINTED: usize = 10;
 /// Lines are cut to so many characters.
 const SHOWN: usize = 300;
-/// From so many comparisons on, every number has to have been seen.
-const ENOUGH: usize = 20_000;
-/// The last number that can be provoked: no count of four shapes exceeds 64 bits (29).
-const LAST_NUMBER: usize = 28;
+/// From so many comparisons on, everything has to have been met.
+pub const ENOUGH: usize = 20_000;
 
 pub struct Report {
     pub calls: Calls,
-    /// How often each number of refusal was expected.
-    numbers: [usize; LAST_NUMBER + 1],
-    /// How often each call was made, and each reason given by `ff`.
-    made: [usize; 256],
-    reasons: [usize; 6],
-    shows: usize,
+    coverage: Coverage,
+    compared: usize,
     differ: usize,
     failed: bool,
 }
 
 impl Report {
     pub fn new(calls: Calls) -> Report {
-        Report {
-            calls,
-            numbers: [0; LAST_NUMBER + 1],
-            made: [0; 256],
-            reasons: [0; 6],
-            shows: 0,
-            differ: 0,
-            failed: false,
-        }
+        let coverage = Coverage::new(&calls);
+        Report { calls, coverage, compared: 0, differ: 0, failed: false }
     }
 
     /// Something that keeps the comparison from being made.
@@ -47,19 +35,15 @@ impl Report {
 
     /// Compares the answer to one line.
     pub fn call(&mut self, line: &[u8], expected: &[u8], got: &[u8]) {
-        self.made[expected[0] as usize] += 1;
-        let call = self.calls.find(expected[0]);
-        match call {
-            Some(call) if has_status(call) => self.numbers[expected[1] as usize] += 1,
-            Some(_) => {}
-            None => self.reasons[expected[1] as usize] += 1,
-        }
+        self.compared += 1;
+        self.coverage.call(&self.calls, line, expected);
         let expected_line = hex(expected);
         if expected_line == got {
             return;
         }
         self.differ += 1;
         if self.differ <= PRINTED {
+            let call = self.calls.find(expected[0]);
             let name = call.map_or("no call", |call| call.name);
             println!("{name} ({:02x}) differs", expected[0]);
             print_difference(line, &expected_line, got);
@@ -70,55 +54,39 @@ impl Report {
         }
     }
 
-    /// Compares the output of one run of `rmvshow`.
-    pub fn show(&mut self, input: &[u8], expected: &str, got: &[u8]) {
-        self.shows += 1;
-        if expected.as_bytes() == got {
+    /// Compares the output of one run of `rmvshow`, which has to end well whatever it prints.
+    pub fn show(&mut self, input: &[u8], expected: &str, got: &[u8], ended: ExitStatus) {
+        self.compared += 1;
+        self.coverage.show(expected);
+        if expected.as_bytes() == got && ended.success() {
             return;
         }
         self.differ += 1;
         if self.differ <= PRINTED {
-            println!("rmvshow differs at byte {}", first_difference(expected.as_bytes(), got));
+            let byte = first_difference(expected.as_bytes(), got);
+            println!("rmvshow differs: it ended with {ended}, and what it printed is as expected up to byte {byte}");
             print_difference(input, expected.as_bytes(), got);
         }
     }
 
-    /// Prints the tables and the last line.
+    /// Prints what was met, what was not, and the last line.
     pub fn finish(mut self, count: usize) -> ExitCode {
-        println!("numbers expected, and how often:");
-        print_table(7, self.numbers.iter().enumerate().map(|(number, often)| format!("{number:2}: {often}")));
-        println!("calls made, and how often:");
-        let made = |call: &Call| format!("{:02x} {}: {}", call.number, call.name, self.made[call.number as usize]);
-        let reason = |reason: usize| format!("ff{reason:02x}: {}", self.reasons[reason]);
-        let shows = [format!("rmvshow: {}", self.shows)];
-        print_table(4, self.calls.0.iter().map(made).chain((1..6).map(reason)).chain(shows));
+        println!("what each call was expected to give, and how often:");
+        self.coverage.print();
+        for case in self.coverage.unlisted() {
+            self.trouble(&format!("expected, but in no list: {case}"));
+        }
         if count >= ENOUGH {
-            for (number, _) in self.numbers.iter().enumerate().filter(|(_, &often)| often == 0) {
-                println!("number {number} was never seen");
-                self.failed = true;
+            for case in self.coverage.missing() {
+                self.trouble(&format!("never expected: {case}"));
             }
         }
-        let compared = self.made.iter().sum::<usize>() + self.shows;
-        println!("{compared} compared, {} differ", self.differ);
-        if self.failed || self.differ > 0 || compared != count {
+        println!("{} compared, {} differ", self.compared, self.differ);
+        if self.failed || self.differ > 0 || self.compared != count {
             return ExitCode::FAILURE;
         }
         ExitCode::SUCCESS
     }
-}
-
-/// So many entries on a line.
-fn print_table(columns: usize, entries: impl Iterator<Item = String>) {
-    let width = 112 / columns;
-    let entries: Vec<String> = entries.map(|entry| format!("{entry:<width$}")).collect();
-    for line in entries.chunks(columns) {
-        println!("  {}", line.concat().trim_end());
-    }
-}
-
-/// Whether the answer starts with a number of refusal.
-fn has_status(call: &Call) -> bool {
-    call.number != ANSWER_REFUSED && call.places.get(1).is_some_and(|(name, _)| name.ends_with("status"))
 }
 
 fn first_difference(a: &[u8], b: &[u8]) -> usize {

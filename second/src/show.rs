@@ -1,7 +1,7 @@
 //! What the program `rmvshow` prints.
 
-use crate::moves::{move_plane, Answer};
-use crate::record;
+use crate::moves::{judge, move_plane, Answer};
+use crate::record::{self, Reading};
 use crate::tensor::Fault;
 use std::fmt::Write;
 
@@ -10,11 +10,28 @@ pub const SOURCE_LIMIT: usize = 16_384;
 /// "moves into 32,768 zeroed bytes"
 pub const ROOM: usize = 32_768;
 
+/// The numbers that it can tell: those of a record read, then those of a move. 10 can't be provoked: it needs a shape
+/// above 65,025, but no more than 16,384 bytes of the source are read, so that 5 comes before it.
+pub const NUMBERS: &[u8] = &[0, 25, 26, 27, 1, 28, 2, 3, 4, 5, 6, 7, 8, 9, 11, 12, 13];
+
+/// The record, and what is read of the source.
+fn take(input: &[u8]) -> (Reading, &[u8]) {
+    let (bytes, source) = input.split_at(input.len().min(record::LENGTH));
+    (record::read(bytes), &source[..source.len().min(SOURCE_LIMIT)])
+}
+
+/// The number that is told for these bytes of standard input.
+pub fn number(input: &[u8]) -> u8 {
+    let (reading, source) = take(input);
+    if reading.status != 0 {
+        return reading.status;
+    }
+    judge(&reading.tensor, &reading.config, source.len() as u64, ROOM as u64).status
+}
+
 /// The output for these bytes of standard input.
 pub fn show(input: &[u8]) -> String {
-    let (bytes, source) = input.split_at(input.len().min(record::LENGTH));
-    let source = &source[..source.len().min(SOURCE_LIMIT)];
-    let reading = record::read(bytes);
+    let (reading, source) = take(input);
     if reading.status != 0 {
         return first_line(Fault { status: reading.status, dimension: reading.dimension });
     }

@@ -14,10 +14,10 @@ use crate::wire::{bytes_of, whole, Memory, Rest, Wire};
 pub fn break_table(random: &mut Random, table: &mut Table) {
     let one = draw_slot(random, table);
     let other = draw_slot(random, table);
-    match random.below(18) {
+    match random.below(20) {
         0 => table.length = random.pick(&[LIMIT + 1, u64::MAX, 1 << 32, 1 << 63]),
         1 => table.length = table.length.wrapping_add(random.pick(&[1, u64::MAX])),
-        2 => table.slot[one].state = random.between(4, 255) as u8,
+        2 | 18..=19 => table.slot[one].state = random.between(4, 255) as u8,
         3 => table.slot[one].state = random.below(4) as u8,
         4..=6 => break_moved(random, table, one),
         7 => set_byte(random, table, one),
@@ -140,7 +140,7 @@ pub fn wide_polls(work: &mut Work) {
         if work.random.chance(70) {
             break_table(&mut work.random, &mut table);
         }
-        let handle = if work.random.chance(90) { work.random.below(4) as u32 } else { any_u32(&mut work.random) };
+        let handle = if work.random.chance(75) { work.random.below(4) as u32 } else { any_u32(&mut work.random) };
         work.call(0x45, &(table, handle));
     }
     call_all(work, &table, &Job::default(), 0, &[]);

@@ -1,6 +1,7 @@
 //! Lines that are no calls, between good ones, and the longest lines there may be.
 
 use super::Work;
+use crate::calls::Calls;
 use crate::lines::{hex, DIGITS_LIMIT};
 use crate::moves::Config;
 use crate::record;
@@ -45,6 +46,20 @@ pub fn unfinished(work: &mut Work) -> Vec<u8> {
         1 => b"z".to_vec(),
         2 => b"0".to_vec(),
         _ => b"ff".to_vec(),
+    }
+}
+
+/// For each call a line that is a byte too short, or too long, if it can be.
+pub fn wrong_lengths(work: &mut Work) {
+    for call in Calls::all().0 {
+        let length = call.fixed_length();
+        let takes_rest = call.takes.iter().any(|&(_, length)| length == usize::MAX);
+        if length > 0 {
+            work.line(call.number, length - 1);
+        }
+        if !takes_rest {
+            work.line(call.number, length + 1);
+        }
     }
 }
 

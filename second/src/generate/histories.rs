@@ -235,11 +235,8 @@ pub fn beyond_steps(work: &mut Work) {
     let memory = Rest(work.random.bytes(length as usize));
     let mut table = fresh(length).table;
     let mut job = Job::default();
-    for padding in [Some([255; 4]), None, None] {
-        let mut drawn = draw_at_extent_limit(work);
-        // Gives 10.
-        drawn.config.pre = padding.unwrap_or(drawn.config.pre);
-        drawn.config.post = padding.unwrap_or(drawn.config.post);
+    for _ in 0..3 {
+        let drawn = draw_at_extent_limit(work);
         (job, _) = lay_out(&mut work.random, &drawn);
         work.call(0x41, &(table, job, memory.clone()));
         table = prepare(&table, &job, memory.0.len()).table;

@@ -1,6 +1,6 @@
 //! Jobs: moves from one part of a memory to another, by themselves.
 
-use super::moving::draw_at_extent_limit;
+use super::moving::{draw_above_extent_limit, draw_at_extent_limit};
 use super::numbers::{draw_numbers, start_beside};
 use super::planes::{good, Drawn, Scale};
 use super::spoil::{vary, Lent};
@@ -8,7 +8,8 @@ use super::values::any_u64;
 use super::Work;
 use crate::job::{judge_job as judge, Job, Part};
 use crate::random::Random;
-use crate::wire::{Memory, MEMORY_LIMIT};
+use crate::transfers::fresh;
+use crate::wire::{Memory, Rest, MEMORY_LIMIT};
 
 /// A job for this move, its two parts side by side, and the length of the memory around them.
 pub fn lay_out(random: &mut Random, drawn: &Drawn) -> (Job, u64) {
@@ -27,11 +28,11 @@ pub fn lay_out(random: &mut Random, drawn: &Drawn) -> (Job, u64) {
 pub fn misplace(random: &mut Random, job: &mut Job, length: u64) {
     let (part, other) =
         if random.chance(50) { (&mut job.source, job.destination) } else { (&mut job.destination, job.source) };
-    match random.below(16) {
+    match random.below(18) {
         0 => part.start = length.saturating_sub(part.length).saturating_add(1),
         1 => part.length = length.saturating_sub(part.start).saturating_add(1),
         2 => *part = Part { start: length, length: 0 },
-        3 => *part = Part { start: length.saturating_add(1), length: 0 },
+        3 | 16..=17 => *part = Part { start: length.saturating_add(1), length: 0 },
         4 => part.start = any_u64(random),
         5 => part.length = any_u64(random),
         // start + length wraps to a small number
@@ -53,8 +54,8 @@ pub fn judge_job(work: &mut Work) {
     work.call(0x21, &(length, job));
 }
 
-pub fn advance(work: &mut Work) {
-    let random = &mut work.random;
+/// A job of a few elements, spoiled or not, and the length of its memory.
+fn draw_small(random: &mut Random) -> (Job, u64) {
     let mut drawn = good(random, Scale::Small);
     vary(random, &mut drawn, Lent::Bytes);
     let (mut job, length) = lay_out(random, &drawn);
@@ -64,16 +65,46 @@ pub fn advance(work: &mut Work) {
         2 => length = length.saturating_sub(1),
         _ => {}
     }
+    (job, length)
+}
+
+pub fn advance(work: &mut Work) {
+    let (job, length) = draw_small(&mut work.random);
     advance_job(work, job, length);
+}
+
+/// The first job of a table.
+pub fn prepare(work: &mut Work) {
+    let (job, length) = draw_small(&mut work.random);
+    prepare_job(work, job, length);
 }
 
 /// The longest source that a memory can hold beside a destination, which is too short: 10 or 13.
 pub fn advance_at_extent_limit(work: &mut Work) {
     let drawn = draw_at_extent_limit(work);
+    let (job, length) = fill_memory(&drawn);
+    advance_job(work, job, length);
+}
+
+/// Gives 10, which only a long source can.
+pub fn above_extent_limit(work: &mut Work) {
+    let drawn = draw_above_extent_limit(work);
+    let (job, length) = fill_memory(&drawn);
+    advance_job(work, job, length);
+    prepare_job(work, job, length);
+}
+
+/// The source first, and what is left of the longest memory as destination.
+fn fill_memory(drawn: &Drawn) -> (Job, u64) {
     let length = MEMORY_LIMIT as u64;
     let source = Part { start: 0, length: drawn.source };
     let destination = Part { start: drawn.source, length: length.saturating_sub(drawn.source) };
-    advance_job(work, Job { source, destination, tensor: drawn.tensor, config: drawn.config }, length);
+    (Job { source, destination, tensor: drawn.tensor, config: drawn.config }, length)
+}
+
+fn prepare_job(work: &mut Work, job: Job, length: u64) {
+    let memory = work.random.bytes(length as usize);
+    work.call(0x41, &(fresh(length).table, job, Rest(memory)));
 }
 
 fn advance_job(work: &mut Work, job: Job, length: u64) {

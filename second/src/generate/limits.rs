@@ -54,7 +54,7 @@ fn source_at_limit(random: &mut Random, drawn: &mut Drawn, d: usize) {
 fn cut_at_limit(random: &mut Random, drawn: &mut Drawn, d: usize) {
     let shape = drawn.tensor.shape[d] as u64;
     let config = &mut drawn.config;
-    match random.below(5) {
+    match random.below(7) {
         0 => config.offset[d] = beside(random, shape) as u32,
         1 => {
             config.offset[d] = random.below(shape) as u32;

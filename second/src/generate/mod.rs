@@ -36,27 +36,35 @@ impl Work {
         }
         self.lines.push(line);
     }
+
+    /// Adds a call with so many bytes of arguments, whatever they are.
+    pub fn line(&mut self, number: u8, length: usize) {
+        let mut bytes = vec![number];
+        bytes.extend(self.random.bytes(length));
+        self.lines.push(hex(&bytes));
+    }
 }
 
 /// A kind of call or of several calls, and how often it is drawn.
 type Kind = (u64, fn(&mut Work));
 
-const KINDS: [Kind; 24] = [
+const KINDS: &[Kind] = &[
     (1, numbers::version),
-    (9, numbers::source_of),
-    (22, numbers::room),
+    (12, numbers::source_of),
+    (28, numbers::room),
     (56, numbers::judge),
-    (2, numbers::element_size),
+    (4, numbers::element_size),
     (2, numbers::rank_is_bad),
     (2, numbers::zero),
     (2, numbers::answer_refused),
-    (12, numbers::element_count),
+    (16, numbers::element_count),
     (22, numbers::sub_tensor),
-    (14, numbers::ready_made),
+    (18, numbers::ready_made),
     (10, numbers::settings),
     (8, numbers::meets),
-    (28, jobs::judge_job),
-    (28, jobs::advance),
+    (36, jobs::judge_job),
+    (32, jobs::advance),
+    (16, jobs::prepare),
     (64, moving::move_plane),
     (4, moving::move_sub_tensor),
     (22, records::read),
@@ -72,16 +80,15 @@ const KINDS: [Kind; 24] = [
 pub fn calls(count: usize, seed: u64) -> Vec<u8> {
     let mut work = Work { random: Random::new(seed), lines: Vec::new() };
     let all: u64 = KINDS.iter().map(|kind| kind.0).sum();
-    let mut longest = false;
+    let mut once_drawn = false;
     while work.lines.len() + 1 < count {
-        if !longest && work.lines.len() > count / 2 {
-            longest = true;
-            frames::longest(&mut work);
-            histories::beyond_steps(&mut work);
+        if !once_drawn && work.lines.len() > count / 2 {
+            once_drawn = true;
+            once(&mut work);
         }
         seldom(&mut work);
         let mut number = work.random.below(all);
-        for (often, draw) in KINDS {
+        for &(often, draw) in KINDS {
             if number < often {
                 draw(&mut work);
                 break;
@@ -99,6 +106,15 @@ pub fn calls(count: usize, seed: u64) -> Vec<u8> {
         input.extend(frames::unfinished(&mut work));
     }
     input
+}
+
+/// What is drawn once in a run: lines of wrong lengths, and the longest lines.
+fn once(work: &mut Work) {
+    frames::wrong_lengths(work);
+    frames::longest(work);
+    moving::above_extent_limit(work);
+    jobs::above_extent_limit(work);
+    histories::beyond_steps(work);
 }
 
 /// Long lines.

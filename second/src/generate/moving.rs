@@ -6,6 +6,7 @@ use super::spoil::{vary, Lent};
 use super::Work;
 use crate::helpers::{sub_part, sub_tensor};
 use crate::moves::Config;
+use crate::random::Random;
 use crate::ready_made::copy;
 use crate::tensor::Tensor;
 use crate::wire::{Counted, Memory, Rest, MEMORY_LIMIT};
@@ -38,15 +39,30 @@ pub fn at_extent_limit(work: &mut Work) {
     move_drawn(work, &drawn);
 }
 
+/// Gives 10.
+pub fn above_extent_limit(work: &mut Work) {
+    let drawn = draw_above_extent_limit(work);
+    move_drawn(work, &drawn);
+}
+
 pub fn draw_at_extent_limit(work: &mut Work) -> Drawn {
-    let random = &mut work.random;
+    let more = work.random.pick(&[0, 0, 1]);
+    draw_extent(&mut work.random, more)
+}
+
+pub fn draw_above_extent_limit(work: &mut Work) -> Drawn {
+    draw_extent(&mut work.random, 1)
+}
+
+/// An extent at the limit, or so many elements above it.
+fn draw_extent(random: &mut Random, more: u32) -> Drawn {
     let rank = random.between(1, 3) as u8;
     let d = random.index(rank as usize);
     let mut tensor = Tensor { rank, element_size: 1, ..Tensor::default() };
     tensor.shape[..rank as usize].fill(1);
     let (pre, post) = random.pick(&[(255, 0), (0, 255), (255, 255), (100, 100), (1, 1)]);
     let count = 65_535 - pre as u32 - post as u32;
-    let size = random.pick(&[count, count, count + 1]);
+    let size = count + more;
     tensor.shape[d] = size + random.below(2) as u32;
     let mut config = Config { size: [0; 4], ..copy(rank).config };
     config.size[d] = size;

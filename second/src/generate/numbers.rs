@@ -3,9 +3,8 @@
 use super::limits::{at_limit, extreme, vast};
 use super::planes::{any_config, good, Drawn, Scale};
 use super::spoil::{vary, Lent};
-use super::values::{any_rank, any_tensor, any_u32, any_u32s, any_u64, any_u8, any_u8s, around};
+use super::values::{any_rank, any_tensor, any_u32, any_u32s, any_u64, any_u8, any_u8s, around, WRONG_RANKS};
 use super::Work;
-use crate::calls::ANSWER_REFUSED;
 use crate::helpers::SubConfig;
 use crate::job::Part;
 use crate::random::Random;
@@ -52,7 +51,8 @@ pub fn judge(work: &mut Work) {
 }
 
 pub fn element_size(work: &mut Work) {
-    let size = any_u8(&mut work.random);
+    let random = &mut work.random;
+    let size = if random.chance(50) { random.pick(&[1, 2, 4]) } else { any_u8(random) };
     work.call(0x04, &size);
 }
 
@@ -70,7 +70,7 @@ pub fn zero(work: &mut Work) {
 pub fn answer_refused(work: &mut Work) {
     let random = &mut work.random;
     let fault = Fault { status: random.between(0, 40) as u8, dimension: any_u8(random) };
-    work.call(ANSWER_REFUSED, &fault);
+    work.call(0x0a, &fault);
 }
 
 pub fn element_count(work: &mut Work) {
@@ -101,9 +101,10 @@ pub fn sub_tensor(work: &mut Work) {
     let source = if random.chance(5) { any_u64(random) } else { around(random, source_of_tensor(&tensor).span) };
     work.call(0x06, &(tensor, config, source));
     if source < 2_000 {
-        let number = work.random.pick(&[0x24, 0x25]);
         let bytes = work.random.bytes(source as usize);
-        work.call(number, &(tensor, config, Rest(bytes)));
+        for number in [0x24, 0x25] {
+            work.call(number, &(tensor, config, Rest(bytes.clone())));
+        }
     }
 }
 
@@ -147,7 +148,7 @@ fn spoil_sub_config(random: &mut Random, tensor: &Tensor, config: &mut SubConfig
 /// All ready-made configurations; the pads without a rank.
 pub fn ready_made(work: &mut Work) {
     let random = &mut work.random;
-    let rank = any_rank(random);
+    let rank = if random.chance(70) { any_rank(random) } else { random.pick(&WRONG_RANKS) };
     let (a, b, c) = (any_u32s(random), any_u32s(random), any_u32s(random));
     let bytes = any_u8s(random);
     let config = any_config(random);

@@ -6,7 +6,7 @@ use super::values::{any_tensor, any_u32, any_u8};
 use super::Work;
 use crate::moves::Config;
 use crate::random::Random;
-use crate::record::{pack, LENGTH};
+use crate::record::{at, pack, LENGTH};
 use crate::tensor::Tensor;
 use crate::wire::{Memory, Rest};
 
@@ -81,8 +81,8 @@ pub fn damage(random: &mut Random, bytes: &mut Vec<u8>) {
         match random.below(10) {
             0..=1 => set(bytes, random.index(3), any_u8(random)),
             2..=3 => set_version(random, bytes),
-            4..=5 => set(bytes, 5, any_u8(random)),
-            6 => set(bytes, 6, any_u8(random)),
+            4..=5 => set(bytes, at::RANK, any_u8(random)),
+            6 => set(bytes, at::ELEMENT_SIZE, any_u8(random)),
             7 => bytes.resize(random.pick(&[0, 1, 3, 5, 130, 130, 132, 132, 262]), 0),
             _ => set(bytes, random.index(LENGTH), any_u8(random)),
         }
@@ -97,8 +97,8 @@ fn set(bytes: &mut [u8], place: usize, value: u8) {
 
 fn set_version(random: &mut Random, bytes: &mut [u8]) {
     let [low, high] = random.pick(&[0u16, 2, 256, 257, 255, 65_535]).to_le_bytes();
-    set(bytes, 3, low);
-    set(bytes, 4, high);
+    set(bytes, at::VERSION, low);
+    set(bytes, at::VERSION + 1, high);
 }
 
 pub fn read(work: &mut Work) {

@@ -6,14 +6,30 @@ use super::spoil::{vary, Lent};
 use crate::random::Random;
 use crate::ready_made::copy;
 use crate::record::pack;
-use crate::show::{ROOM, SOURCE_LIMIT};
+use crate::show::{number, NUMBERS, ROOM, SOURCE_LIMIT};
 use crate::tensor::Tensor;
 
 /// The inputs to show, one process each.
 pub fn show_inputs(count: usize, seed: u64) -> Vec<Vec<u8>> {
     // Other numbers than those that draw the calls.
     let mut random = Random::new(seed ^ 0x5348_4f57);
-    (0..count).map(|_| draw(&mut random)).collect()
+    (0..count).map(|place| draw_at(&mut random, place)).collect()
+}
+
+/// At every second place an input that gives the number whose turn it is.
+fn draw_at(random: &mut Random, place: usize) -> Vec<u8> {
+    let mut input = draw(random);
+    if place % 2 == 0 {
+        let wanted = NUMBERS[place / 2 % NUMBERS.len()];
+        // So many draws find any of them.
+        for _ in 0..5_000 {
+            if number(&input) == wanted {
+                break;
+            }
+            input = draw(random);
+        }
+    }
+    input
 }
 
 fn draw(random: &mut Random) -> Vec<u8> {

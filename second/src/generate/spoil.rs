@@ -1,7 +1,7 @@
 //! Puts faults into a move that would be accepted: every number of refusal, alone and in pairs, at any dimension.
 
 use super::planes::Drawn;
-use super::values::{any_u32, any_u64, any_u8, around};
+use super::values::{any_u32, any_u64, any_u8, around, WRONG_RANKS};
 use crate::moves::room;
 use crate::random::Random;
 use crate::tensor::{check_tensor, inner_product, wide, EXTENT_LIMIT, LIMIT};
@@ -13,9 +13,9 @@ pub enum Lent {
     NumbersOnly,
 }
 
-/// Leaves half of the moves as they are, and spoils the others once or twice.
+/// Leaves a third of the moves as they are, and spoils the others once or twice.
 pub fn vary(random: &mut Random, drawn: &mut Drawn, lent: Lent) {
-    match random.below(20) {
+    match random.below(22) {
         0..=7 => {}
         8 => {
             drawn.source = around(random, drawn.source);
@@ -28,6 +28,7 @@ pub fn vary(random: &mut Random, drawn: &mut Drawn, lent: Lent) {
         }
         12..=16 => spoil_twice(random, drawn, lent),
         17..=18 => set_any_field(random, drawn, lent),
+        19..=20 => spoil_crosswise(random, drawn, lent),
         _ => {
             set_any_field(random, drawn, lent);
             set_any_field(random, drawn, lent);
@@ -43,7 +44,7 @@ fn any_number(random: &mut Random) -> u64 {
 /// Two faults, for the order of the numbers and of the dimensions: any two, the same twice, or neighbours.
 fn spoil_twice(random: &mut Random, drawn: &mut Drawn, lent: Lent) {
     let one = any_number(random);
-    let other = match random.below(6) {
+    let other = match random.below(8) {
         0..=2 => any_number(random),
         3 => one,
         _ => one % 13 + 1,
@@ -56,12 +57,22 @@ fn spoil_twice(random: &mut Random, drawn: &mut Drawn, lent: Lent) {
     spoil(random, drawn, one.min(other), first, lent);
 }
 
+/// A number at one dimension and the next number at a lower one, for "each number over all dimensions before the next".
+fn spoil_crosswise(random: &mut Random, drawn: &mut Drawn, lent: Lent) {
+    let number = random.pick(&[6, 7, 8, 9, 11]);
+    let rank = drawn.dimensions();
+    let high = rank - 1 - random.index(rank.max(2) - 1);
+    let low = random.index(high.max(1));
+    spoil(random, drawn, number + 1, low, lent);
+    spoil(random, drawn, number, high, lent);
+}
+
 /// Puts in the fault that this number is given for, at this dimension, as far as this move can have it.
 fn spoil(random: &mut Random, drawn: &mut Drawn, number: u64, d: usize, lent: Lent) {
     let shape = drawn.tensor.shape[d];
     let config = &mut drawn.config;
     match number {
-        1 => drawn.tensor.rank = random.pick(&[0, 5, 6, 7, 8, 9, 255]),
+        1 => drawn.tensor.rank = random.pick(&WRONG_RANKS),
         2 => drawn.tensor.element_size = random.pick(&[0, 3, 5, 6, 7, 8, 16, 255]),
         3 => drawn.tensor.shape[d] = random.pick(&[0, 65_536, 65_537, 1 << 31, u32::MAX]),
         4 => spoil_source_stride(random, drawn, d),
@@ -146,6 +157,12 @@ fn spoil_extent(random: &mut Random, drawn: &mut Drawn, d: usize, lent: Lent) {
     drawn.config.offset[d] = 0;
     drawn.config.size[d] = random.pick(&[0, size]) as u32;
     drawn.tensor.shape[d] = size as u32;
+    // Mostly turned, so that the source and the destination dimension differ.
+    let rank = drawn.dimensions();
+    if random.chance(70) {
+        drawn.config.perm = [0, 1, 2, 3];
+        drawn.config.perm[..rank].reverse();
+    }
     let strides_fit = random.chance(70);
     if strides_fit {
         drawn.tensor.stride = [0; 4];

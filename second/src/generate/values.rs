@@ -55,11 +55,14 @@ pub fn any_u8(random: &mut Random) -> u8 {
     }
 }
 
+/// Ranks that are refused.
+pub const WRONG_RANKS: [u8; 7] = [0, 5, 6, 7, 8, 9, 255];
+
 /// Mostly a rank, else any byte.
 pub fn any_rank(random: &mut Random) -> u8 {
     match random.below(10) {
         0..=7 => random.between(1, 4) as u8,
-        8 => random.pick(&[0, 5, 6, 7, 8, 9, 255]),
+        8 => random.pick(&WRONG_RANKS),
         _ => any_u8(random),
     }
 }

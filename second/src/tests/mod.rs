@@ -1,5 +1,6 @@
 //! The examples of the paper and how it is read, with the values typed in from the paper.
 
+mod coverage;
 mod errors;
 mod examples;
 mod framing;

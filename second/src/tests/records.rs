@@ -48,6 +48,43 @@ fn a_record_reads_and_writes_the_same_bytes() {
     }
 }
 
+/// A record in which every byte behind the version, but for the rank, is its own place in the record.
+#[rustfmt::skip]
+const PLACES: [u8; 131] = [
+    b'R', b'M', b'V', 1, 0, 4, 6,
+    7, 8, 9, 10, 11, 12, 13, 14, 15, 16, 17, 18, 19, 20, 21, 22,
+    23, 24, 25, 26, 27, 28, 29, 30, 31, 32, 33, 34, 35, 36, 37, 38,
+    39, 40, 41, 42, 43, 44, 45, 46, 47, 48, 49, 50, 51, 52, 53, 54,
+    55, 56, 57, 58, 59, 60, 61, 62, 63, 64, 65, 66, 67, 68, 69, 70,
+    71, 72, 73, 74, 75, 76, 77, 78, 79, 80, 81, 82, 83, 84, 85, 86,
+    87, 88, 89, 90, 91, 92, 93, 94, 95, 96, 97, 98, 99, 100, 101, 102,
+    103, 104, 105, 106, 107, 108, 109, 110, 111, 112, 113, 114, 115, 116, 117, 118,
+    119, 120, 121, 122,
+    123, 124, 125, 126,
+    127, 128, 129, 130,
+];
+
+#[test]
+fn every_entry_of_a_record_has_its_own_place() {
+    let Reading { status, dimension, tensor, config } = read(&PLACES);
+    assert_eq!((status, dimension), (0, 0));
+    assert_eq!((tensor.rank, tensor.element_size), (4, 6));
+    // Four 32-bit numbers a group, the lowest byte first.
+    assert_eq!(tensor.shape, [0x0a090807, 0x0e0d0c0b, 0x1211100f, 0x16151413]);
+    assert_eq!(tensor.stride, [0x1a191817, 0x1e1d1c1b, 0x2221201f, 0x26252423]);
+    assert_eq!(config.offset, [0x2a292827, 0x2e2d2c2b, 0x3231302f, 0x36353433]);
+    assert_eq!(config.size, [0x3a393837, 0x3e3d3c3b, 0x4241403f, 0x46454443]);
+    assert_eq!(config.step, [0x4a494847, 0x4e4d4c4b, 0x5251504f, 0x56555453]);
+    assert_eq!(config.dst_offset, [0x5a595857, 0x5e5d5c5b, 0x6261605f, 0x66656463]);
+    assert_eq!(config.dst_stride, [0x6a696867, 0x6e6d6c6b, 0x7271706f, 0x76757473]);
+    assert_eq!(config.perm, [119, 120, 121, 122]);
+    assert_eq!(config.pre, [123, 124, 125, 126]);
+    assert_eq!(config.post, [127, 128, 129, 130]);
+    let mut room = [0; 131];
+    assert_eq!(write(&tensor, &config, &mut room), Fault::default());
+    assert_eq!(room, PLACES);
+}
+
 #[test]
 fn damaged_records_are_refused_in_order() {
     assert_eq!(status(&record_a()[..130]), (25, 0));
