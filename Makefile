@@ -6,8 +6,9 @@ N ?= 20000
 SEED ?= 1
 
 show: kit
+	@echo "proving rmvshow and what it stands on; on a fresh clone that takes some minutes"
 	@rt check rmvshow >/dev/null || { rt check rmvshow; exit 1; }
-	@echo "\$$ rmvshow < samples/turn.rmv"
+	@echo "\$$ scripts/run rmvshow < samples/turn.rmv"
 	@scripts/run rmvshow < samples/turn.rmv
 
 test:
@@ -20,6 +21,7 @@ seeded: cargo programs
 	@second/seeded scripts/run
 
 programs: kit
+	@echo "proving rmvshow, rmvcalls and what they stand on"
 	@rt check rmvshow rmvcalls >/dev/null || { rt check rmvshow rmvcalls; exit 1; }
 
 kit:
