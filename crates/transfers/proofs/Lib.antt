@@ -14,7 +14,6 @@ pub mod Meeting
 pub mod Sounds
 pub mod Answers
 pub mod Steps
-pub mod Numbered
 pub mod Lawful
 pub mod View
 pub mod Midway
