@@ -8,7 +8,7 @@ use mathlib.Core.List.{List}
 use lib.Dec.{eqb}
 use borrow.Author.Tests.{eqb-true}
 use Rattle.serial.specs.Machine.{Mover, prepared, running, done, Slot, released, Entry, stageAfter, Reached, fresh, prepare, start, step, release}
-use Rattle.serial.specs.Claims.{Lawful, PassedClaim, SerialClaim, MidwayClaim, SettledClaim}
+use Rattle.serial.specs.Claims.{Lawful, PassedClaim, SerialClaim, MidwayClaim, SettledClaim, OfLawful}
 use Rattle.serial.proofs.Tied.{Stands}
 use Rattle.serial.proofs.Holds.{Holds, at-first, accept, behind-slot, restage, advance, free-slot, passed-of, serial-of, midway-of, settled-of}
 
@@ -34,15 +34,16 @@ module _ (M : Mover) (L : Lawful M) (m₀ : List ℕ) where
   holds (release {ss = ss} {m = m} {log = log} r h j n q) =
       free-slot M L m₀ ss m log (holds r) h done j n q released refl (behind-slot M L m₀ ss m log (holds r) h done j n q .stands)
 
-  module _ (ss : List (Slot (M .Job))) (m : List ℕ) (log : List (Entry (M .Job))) where
-    pub passed : PassedClaim M m₀ ss m log
-    passed r = passed-of M L m₀ ss m log (holds r)
+-- ---- the theorems
 
-    pub serial : SerialClaim M m₀ ss m log
-    serial r = serial-of M L m₀ ss m log (holds r)
+pub passed : OfLawful PassedClaim
+passed M L m₀ ss m log r = passed-of M L m₀ ss m log (holds M L m₀ r)
 
-    pub midway : MidwayClaim M m₀ ss m log
-    midway r = midway-of M L m₀ ss m log (holds r)
+pub serial : OfLawful SerialClaim
+serial M L m₀ ss m log r = serial-of M L m₀ ss m log (holds M L m₀ r)
 
-    pub settled : SettledClaim M m₀ ss m log
-    settled r = settled-of M L m₀ ss m log (holds r)
+pub midway : OfLawful MidwayClaim
+midway M L m₀ ss m log r = midway-of M L m₀ ss m log (holds M L m₀ r)
+
+pub settled : OfLawful SettledClaim
+settled M L m₀ ss m log r = settled-of M L m₀ ss m log (holds M L m₀ r)

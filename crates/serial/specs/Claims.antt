@@ -77,3 +77,8 @@ module _ (M : Mover) where
     -- every accepted transfer has finished if every slot is free or done
     abbrev pub SettledClaim : Type 0
     SettledClaim = Reached M m₀ ss m log → ((h : ℕ) → Settled (getD ss h free)) → Every Finished log
+
+-- claimed of every mover that keeps the laws
+abbrev pub OfLawful : ((M : Mover) → List ℕ → List (Slot (M .Job)) → List ℕ → List (Entry (M .Job)) → Type 0) → Type 1
+OfLawful Claim =
+    (M : Mover) → Lawful M → (m₀ : List ℕ) (ss : List (Slot (M .Job))) (m : List ℕ) (log : List (Entry (M .Job))) → Claim M m₀ ss m log

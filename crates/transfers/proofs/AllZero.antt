@@ -16,9 +16,9 @@ use Rattle.mover.specs.declared.Job.{Job}
 use Rattle.transfers.specs.declared.Slot.{Slot}
 use Rattle.plane.specs.Settings.{zeroConfig}
 use Rattle.plane.specs.Planes.{zeroTensor}
-use Rattle.transfers.specs.Slots.{zeroPart, zeroJob, freeSlot, isZeroArray, isZeroPart, isZeroTensor, isZeroConfig, isZeroJob, slotSound}
-use Rattle.transfers.specs.Claims.{FourEntries}
-use Rattle.transfers.proofs.Sounds.{zero-sound}
+use Rattle.transfers.specs.Slots.{zeroPart, zeroJob, freeSlot, isZeroArray, isZeroPart, isZeroTensor, isZeroConfig, isZeroJob, slotAt, slotSound}
+use Rattle.transfers.specs.Sound.{FourEntries, FreeIsZero}
+use Rattle.transfers.proofs.Sounds.{zero-sound, sound-tells}
 
 no-entry : (xs : List ℕ) → length xs ≡ 4 → isZeroArray xs ≡ true → xs ≡ zeros
 no-entry [] h e = absurd (omega arith)
@@ -99,9 +99,12 @@ module _ (j : Job) (f : FourEntries j) where
       let config = no-config (both-second (parts && isZeroTensor (j .tensor)) (isZeroConfig (j .config)) e) in
       λ i. record { source = source i; destination = destination i; tensor = tensor i; config = config i }
 
-pub free-is-zero : (n : ℕ) (s : Slot) → FourEntries (s .job) → slotSound n s ≡ true → s .state ≡ 0 → s ≡ freeSlot
-free-is-zero n s f p z =
+no-slot : (n : ℕ) (s : Slot) → FourEntries (s .job) → slotSound n s ≡ true → s .state ≡ 0 → s ≡ freeSlot
+no-slot n s f p z =
     let e = zero-sound n s z ∙ p in
     let job = no-job (s .job) f (both-first _ (eqb (s .moved) 0) e) in
     let moved = eqb-true (s .moved) 0 (both-second (isZeroJob (s .job)) _ e) in
     λ i. record { state = z i; job = job i; moved = moved i }
+
+pub free-is-zero : FreeIsZero
+free-is-zero t f p h l z = no-slot (t .length) (slotAt t h) (f h l) (sound-tells t p .each h l) z

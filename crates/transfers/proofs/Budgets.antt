@@ -23,7 +23,7 @@ use Rattle.transfers.specs.declared.Poll.the-variants as says
 use Rattle.transfers.specs.Slots.{slotAt, freeSlot, withSlot, lowestFree, tableSound}
 use Rattle.transfers.specs.Calls.{callFault, prepareFault, newSlot, prepareOf, changed, running, startOf, releaseOf, stepCount, later, stepOf, stepMemory, left, pollSlot, pollOf}
 use Rattle.transfers.specs.Demand3.{Call, prepare, start, step, release, poll, World, after, run}
-use Rattle.transfers.specs.Claims.{spends, spend, Unreleased}
+use Rattle.transfers.specs.Claims.{spends, spend, Unreleased, BudgetsFinish}
 use Rattle.transfers.proofs.Fours.{slot-same, slot-other, lowest-is}
 use Rattle.transfers.proofs.Sounds.{sound-tells, busy}
 use Rattle.transfers.proofs.Answers.{open-0, called, preparing, call-0}
@@ -194,9 +194,7 @@ tells t h n =
         less : h ≤ 3 → h < 4
         less x = omega arith
 
--- a poll says running with n left; the budgets of the steps that follow add up to n or more: then a poll says done
-pub budgets-finish : (h n : ℕ) (w : World) (cs : List Call) → length (w .memory) ≡ w .table .length
-    → pollOf (w .table) h ≡ says.Running n → Unreleased h cs w → n ≤ spend h cs → pollOf (run cs w .table) h ≡ says.Done
+pub budgets-finish : BudgetsFinish
 budgets-finish h n w cs l r u b =
     let k = tells (w .table) h n r in
     let g = going h (k .range) cs w u (record { sound = k .sound; long = l; most = inr (k .state, rw (k .rest) b) }) in

@@ -28,7 +28,7 @@ use Rattle.transfers.specs.Calls.{freshOf, prepareFault, callFault, newS
 use Rattle.transfers.specs.Demand3.{theMover, Log, notePrepare, noteStep, noteRelease, Course, made, prepared, started, stepped, freed, Call, prepare, start, step, release, poll, World, begin, after, run, ForCourses, ForRuns}
 use Rattle.transfers.proofs.Fours.{lowest-is}
 use Rattle.transfers.proofs.Answers.{called, preparing}
-use Rattle.transfers.proofs.Lawful.{lawful, applied-advanced, each-meant, clear-of}
+use Rattle.transfers.proofs.Lawful.{lawful, applied-advanced, whole-moves, clear-of}
 use Rattle.transfers.proofs.View.{view, view-with, view-free, view-taken, shown-job, later-view, quiet-view}
 use Rattle.transfers.proofs.Midway.{in-place-each}
 
@@ -157,7 +157,7 @@ demand-3 m₀ t m log s =
     record {
       serial = serial.serial theMover lawful m₀ (view t) m log r;
       passed = p .1;
-      moves = each-meant m₀ log (p .1);
+      moves = whole-moves .each m₀ log (p .1);
       long = p .0;
       finished = λ q. serial.settled theMover lawful m₀ (view t) m log r (quiet-view t q);
       midway = w;

@@ -25,6 +25,7 @@ use Rattle.transfers.specs.declared.Stepped.{Stepped}
 use Rattle.transfers.specs.Slots.{freshTable, slotAt, withSlot, isFree, lowestFree, clashes, tableSound, limit}
 use Rattle.transfers.specs.Calls.{freshOf, openFault, prepareFault, callFault, prepareOf, changed, startOf, releaseOf, stepOf, stepMemory, left, pollSlot, pollOf, pollStatus}
 use Rattle.transfers.specs.Orders.{freshRules, openRules, prepareRules, callRules, pollRules}
+use Rattle.transfers.specs.Claims.{RefusedCalls}
 use Rattle.transfers.specs.declared.Poll.{Poll}
 use Rattle.transfers.specs.declared.Poll.the-variants as poll
 
@@ -168,6 +169,9 @@ module _ (t : Table) (h budget : ℕ) where
       let d : callFault t (length m) h 2 .status ≡ 0 → ⊥ = λ z. b (step-number (length m) ∙ z) in
       let e = if-fault (callFault t (length m) h 2) _ _ d in
       (e ∙ ap (λ (r : Stepped). record { status = r .status; count = 0; table = t }) (sym e), if-fault (callFault t (length m) h 2) _ _ d)
+
+pub refused-calls : RefusedCalls
+refused-calls = record { fresh = fresh-refused; prepare = prepare-refused; start = start-refused; step = step-refused; release = release-refused }
 
 module _ (t : Table) (h : ℕ) where
   slot-number : (a b c : Bool) (k : ℕ) → pollStatus (cond a poll.Free (cond b (poll.Prepared k) (cond c (poll.Running k) poll.Done))) ≡ 0

@@ -22,7 +22,7 @@ use Rattle.transfers.specs.declared.Changed.{Changed}
 use Rattle.transfers.specs.declared.Stepped.{Stepped}
 use Rattle.transfers.specs.Slots.{freeSlot, freshTable, slotAt, withSlot, breaks, clashes, isZeroTensor, isZeroConfig, isZeroJob, movedRight, slotSound, tableSound, limit}
 use Rattle.transfers.specs.Calls.{freshOf, prepareFault, callFault, newSlot, prepareOf, changed, running, startOf, releaseOf, stepCount, later, stepOf}
-use Rattle.transfers.specs.Claims.{SoundTable, SoundFor}
+use Rattle.transfers.specs.Sound.{SoundTable, SoundFor, TablesStaySound}
 use Rattle.transfers.proofs.Fours.{slot-same, slot-other, with-length, lowest-is}
 use Rattle.transfers.proofs.Meeting.{breaks-either, empty-breaks}
 use Rattle.transfers.proofs.Sounds.{Busy, busy, busy-sound, sound-tells, tells-sound, right-1, right-2, right-3, right-most}
@@ -55,7 +55,6 @@ free-table n h =
           (free-apart (slotAt (freshTable n) k .job));
     })
 
--- also where the length is refused: then it is a table for no byte
 pub fresh-keeps : (n : ℕ) → tableSound (freshOf n .table) ≡ true
 unfolding freshOf
 fresh-keeps n = go (leb n limit) refl where
@@ -74,7 +73,7 @@ running-sound n s u e =
       right = sym (right-2 2 (s .moved) (totalOf (s .job)) refl) ∙ lt-ltb (s .moved) (totalOf (s .job)) (omega arith);
     })
 
-later-state : (v : Bool) → cond {A = ℕ} v 3 2 ≡ 0 → ⊥
+pub later-state : (v : Bool) → cond {A = ℕ} v 3 2 ≡ 0 → ⊥
 later-state true e = omega arith
 later-state false e = omega arith
 
@@ -182,3 +181,14 @@ module _ (t : Table) (p : tableSound t ≡ true) where
       put-sound t h (later (slotAt t h) (stepCount (slotAt t h) budget)) w (k .range)
       (later-sound (t .length) (slotAt t h) budget (its-busy n h 2 k))
       (λ i l d. w .apart h i (k .range) l (λ e. d (sym e))))
+
+-- ---- the theorem
+
+pub tables-stay-sound : TablesStaySound
+tables-stay-sound = record {
+  fresh = fresh-keeps;
+  prepare = λ n j t p. prepare-keeps t p n j;
+  start = λ n h t p. start-keeps t p n h;
+  step = λ n h budget t p. step-keeps t p n h budget;
+  release = λ n h t p. release-keeps t p n h;
+}

@@ -18,7 +18,7 @@ use Rattle.serial.specs.Machine.{applied, wholeMove, Clear}
 use Rattle.serial.specs.Claims.{Lawful, Every, oneByOne}
 use Rattle.serial.proofs.Applied.{applied-whole}
 use Rattle.transfers.specs.Slots.{breaks}
-use Rattle.transfers.specs.Demand3.{partOf, theMover, Log, WholeMeant, EachMeant}
+use Rattle.transfers.specs.Demand3.{partOf, theMover, Log, Passes, WholeMeant, EachMeant, WholeMoves}
 
 own-apart : (n : ℕ) (j : Job) → jobFault n j .status ≡ 0 → Apart (partOf (j .source)) (partOf (j .destination))
 own-apart n j z i a b = ⊎-elim {C = ⊥} (λ u. omega arith) (λ v. omega arith) (job-apart n j z)
@@ -46,7 +46,7 @@ module _ (m : List ℕ) (j : Job) (z : jobFault (length m) j .status ≡ 0) wher
   whole-advanced : wholeMove theMover j m ≡ advancedBy j 0 (totalOf j) m
   whole-advanced = sym (applied-whole theMover lawful (length m) j z m refl) ∙ applied-advanced j 0 (totalOf j) m
 
-  pub whole-meant : WholeMeant j m
+  whole-meant : WholeMeant j m
   whole-meant = record {
     passed = z;
     destination =
@@ -58,15 +58,18 @@ module _ (m : List ℕ) (j : Job) (z : jobFault (length m) j .status ≡ 0) wher
 
 -- and so is each of those done one after another, for every memory between is as long as the first
 module _ (m₀ : List ℕ) where
-  pub one-by-one-long : (log : Log) → length (oneByOne theMover m₀ log) ≡ length m₀
+  one-by-one-long : (log : Log) → length (oneByOne theMover m₀ log) ≡ length m₀
   unfolding oneByOne wholeMove replaced
   one-by-one-long [] = refl
   one-by-one-long (e ∷ older) = simp length-sets (one-by-one-long older)
 
-  pub each-meant : (log : Log) → Every (λ e. jobFault (length m₀) (e .job) .status ≡ 0) log → EachMeant m₀ log
+  each-meant : (log : Log) → Every (λ e. Passes (length m₀) (e .job)) log → EachMeant m₀ log
   each-meant [] p = tt
   each-meant (e ∷ older) p =
       (whole-meant (oneByOne theMover m₀ older) (e .job) (rw (one-by-one-long older) (p .0)), each-meant older (p .1))
+
+pub whole-moves : WholeMoves
+whole-moves = record { one = whole-meant; each = each-meant; long = one-by-one-long }
 
 -- ---- the rule between two slots
 

@@ -1,11 +1,13 @@
 -- Theorems to read first: Demand3 (serial and midway), Keeps (sound tables stay sound), Runs (neither 17 nor 18 is given), Budgets (what
--- finishes a transfer), Decided (no two outcomes), Exact (refusals), AllZero (a free slot is all zero), Polls (what a poll tells).
+-- finishes a transfer), Decided (no two outcomes), Exact (refusals), Unseen (entries past the rank are not looked at), AllZero (a free
+-- slot is all zero), Polls (what a poll tells).
 pub mod Demand3
 pub mod Keeps
 pub mod Runs
 pub mod Budgets
 pub mod Decided
 pub mod Exact
+pub mod Unseen
 pub mod AllZero
 pub mod Polls
 -- Laws over plain values, which the functions' proofs cite.
@@ -14,7 +16,6 @@ pub mod Meeting
 pub mod Sounds
 pub mod Answers
 pub mod Steps
-pub mod Numbered
 pub mod Lawful
 pub mod View
 pub mod Midway

@@ -3,19 +3,19 @@
 use Prim.Native.Nat.{ℕ, _<_}
 use native.Mathlib.Decide.{ℕ-discrete}
 use native.Mathlib.Omega.{arith}
-use mathlib.Core.Path.{_≡_, refl, sym, _∙_}
+use mathlib.Core.Path.{_≡_, refl, sym, ap, _∙_}
 use mathlib.Core.Bool.{true, true≢false}
 use Rattle.transfers.specs.declared.Table.{Table}
 use Rattle.transfers.specs.declared.Poll.{Poll}
 use Rattle.transfers.specs.Slots.{slotAt, tableSound}
-use Rattle.transfers.specs.Calls.{pollStatus, pollState, pollLeft}
-use Rattle.transfers.specs.Claims.{Says, Polled}
+use Rattle.transfers.specs.Calls.{pollNumbers}
+use Rattle.transfers.specs.Claims.{Polled, EveryPoll}
 use Rattle.transfers.proofs.Sounds.{busy, right-none, sound-tells}
 use Rattle.transfers.proofs.Steps.{poll-18, poll-23, poll-free, poll-prepared, poll-running, poll-done}
 
--- what an answer says, a poll says that gives it
-said : {p q : Poll} → p ≡ q → Says q (pollStatus p) (pollState p) (pollLeft p)
-said e = rw (sym e) (refl, refl, refl)
+-- the numbers of an answer are those of a poll that gives it
+said : {p q : Poll} → p ≡ q → pollNumbers q ≡ pollNumbers p
+said e = ap pollNumbers (sym e)
 
 module _ (t : Table) (h : ℕ) where
   -- a slot that is not free is prepared, running or done
@@ -34,8 +34,8 @@ module _ (t : Table) (h : ℕ) where
     ]
   ]
 
-  pub polls : Polled t h
-  polls = record {
+  told : Polled t h
+  told = record {
     unsound = λ e. said (poll-18 t h e);
     no-slot = λ z l. said (poll-23 t h z l);
     free = λ z l e. said (poll-free t h z (omega arith) refl e);
@@ -44,3 +44,6 @@ module _ (t : Table) (h : ℕ) where
     done = λ z l e. said (poll-done t h z (omega arith) refl (λ x. omega arith) (λ x. omega arith) (λ x. omega arith));
     known = states;
   }
+
+pub polls : EveryPoll
+polls = told

@@ -16,7 +16,7 @@ use Rattle.transfers.specs.Slots.{tableSound, limit}
 use Rattle.transfers.specs.Calls.{freshOf, pollOf, pollStatus}
 use Rattle.transfers.specs.Demand3.{Log, Course, made, prepared, started, stepped, freed, Call, prepare, start, step, release, poll, World, begin, after, run}
 use Rattle.transfers.specs.Orders.{openRules, pollRules}
-use Rattle.transfers.specs.Claims.{SoundFor, Handed, by-fresh, by-prepare, by-start, by-step, by-release, Neither17Nor18, NeverClosed}
+use Rattle.transfers.specs.Sound.{SoundFor, Handed, by-fresh, by-prepare, by-start, by-step, by-release, Neither17Nor18, NeverClosed, AlwaysOpen}
 use Rattle.transfers.proofs.Keeps.{free-table, fresh-keeps, prepare-keeps, start-keeps, step-keeps, release-keeps}
 use Rattle.transfers.proofs.Exact.{prepare-exact, start-exact, step-exact, release-exact, poll-exact}
 use Rattle.transfers.proofs.Demand3.{listed, demand-3}
@@ -24,7 +24,7 @@ use Rattle.transfers.proofs.Demand3.{listed, demand-3}
 onward : {m n : ℕ} {u : Table} → m ≡ n → SoundFor m u → SoundFor n u
 onward {u = u} e k = subst (λ (m : ℕ). SoundFor m u) e k
 
-pub handed-sound : {n : ℕ} {t : Table} → Handed n t → SoundFor n t
+handed-sound : {n : ℕ} {t : Table} → Handed n t → SoundFor n t
 handed-sound {n} (by-fresh h) = record { sound = free-table n h; long = refl }
 handed-sound (by-prepare {t} r m j) = let k = handed-sound r in onward (k .long) (prepare-keeps t (k .sound) m j)
 handed-sound (by-start {t} r m h) = let k = handed-sound r in onward (k .long) (start-keeps t (k .sound) m h)
@@ -92,26 +92,32 @@ begin-sound : (n : ℕ) (m : List ℕ) → n ≤ limit → SoundFor n (begin n m
 unfolding begin freshOf
 begin-sound n m h = rw (le-leb n limit h) (record { sound = free-table n h; long = refl })
 
--- ---- the theorems: over a memory of the length that the first table was made for, neither 17 nor 18 is given
+-- ---- the courses of demand 3
 
-pub handed-open : {n : ℕ} {t : Table} → Handed n t → NeverClosed t n
-handed-open {n} {t} r = sound-open t n (handed-sound r)
-
--- the same in the runs of demand 3, for callers whose calls are no list
-pub course-sound : {m₀ : List ℕ} {t : Table} {m : List ℕ} {log : Log} → Course m₀ t m log → tableSound t ≡ true
+course-sound : {m₀ : List ℕ} {t : Table} {m : List ℕ} {log : Log} → Course m₀ t m log → tableSound t ≡ true
 course-sound (made n e) = rw e (fresh-keeps n)
 course-sound (prepared {t = t} {m = m} s j e) = rw e (prepare-keeps t (course-sound s) (length m) j .sound)
 course-sound (started {t = t} {m = m} s h e) = rw e (start-keeps t (course-sound s) (length m) h .sound)
 course-sound (stepped {t = t} {m = m} s h b e f) = rw e (step-keeps t (course-sound s) (length m) h b .sound)
 course-sound (freed {t = t} {m = m} s h e) = rw e (release-keeps t (course-sound s) (length m) h .sound)
 
-pub course-open : {m₀ : List ℕ} {t : Table} {m : List ℕ} {log : Log} → Course m₀ t m log → t .length ≡ length m₀ → NeverClosed t (length m)
+course-open : {m₀ : List ℕ} {t : Table} {m : List ℕ} {log : Log} → Course m₀ t m log → t .length ≡ length m₀ → NeverClosed t (length m)
 course-open {m₀} {t} {m} {log} s own =
     sound-open t (length m) (record { sound = course-sound s; long = own ∙ sym (demand-3 m₀ t m log s .long) })
 
--- and for every list of calls
-pub listed-open : (m₀ : List ℕ) (cs : List Call) → length m₀ ≤ limit
+listed-open : (m₀ : List ℕ) (cs : List Call) → length m₀ ≤ limit
     → NeverClosed (run cs (begin (length m₀) m₀) .table) (length (run cs (begin (length m₀) m₀) .memory))
 listed-open m₀ cs h =
     let b = begin-sound (length m₀) m₀ h in
     course-open (listed (length m₀) m₀ cs) (run-sound cs (begin (length m₀) m₀) (b .sound) .long ∙ b .long)
+
+-- ---- the theorem
+
+pub always-open : AlwaysOpen
+always-open = record {
+  handed-sound = λ n t r. handed-sound r;
+  handed-open = λ n t r. sound-open t n (handed-sound r);
+  course-sound = λ m₀ t m log s. course-sound s;
+  course-open = λ m₀ t m log s own. course-open s own;
+  listed-open = listed-open;
+}

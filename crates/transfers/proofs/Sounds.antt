@@ -14,7 +14,7 @@ use Rattle.mover.specs.declared.Verdict.{Verdict}
 use Rattle.mover.specs.Within.{jobFault, totalOf, verdictOf}
 use Rattle.transfers.specs.declared.Slot.{Slot}
 use Rattle.transfers.specs.declared.Table.{Table}
-use Rattle.transfers.specs.Claims.{SoundTable}
+use Rattle.transfers.specs.Sound.{SoundTable, SoundMeans}
 use Rattle.transfers.specs.Slots.{slotAt, breaks, clashes, isZeroPart, isZeroTensor, isZeroConfig, isZeroJob, movedRight, slotSound, soundAt, tableSound, limit}
 use Rattle.transfers.proofs.Meeting.{breaks-either, empty-breaks}
 
@@ -164,6 +164,9 @@ module _ (t : Table) where
   pub slots-end : (i : ℕ) → t .length ≤ limit → every i (soundAt t) ≡ true → i ≤ 4 → 4 ≤ i → true ≡ tableSound t
   unfolding tableSound
   slots-end i l e h k = sym (both _ _ (le-leb (t .length) limit l) (every-end (soundAt t) 4 i e h k))
+
+pub sound-means : SoundMeans
+sound-means t = (sound-tells t, tells-sound t)
 
 -- ---- a free slot
 

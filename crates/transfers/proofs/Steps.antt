@@ -11,9 +11,10 @@ use Rattle.mover.specs.declared.Advanced.{Advanced}
 use Rattle.mover.specs.Within.{jobFault, totalOf, advancedBy, advanceOf, advanceMemory}
 use Rattle.transfers.specs.declared.Slot.{Slot}
 use Rattle.transfers.specs.declared.Table.{Table}
+use Rattle.transfers.specs.declared.Poll.{Poll}
 use Rattle.transfers.specs.declared.Poll.the-variants as poll
 use Rattle.transfers.specs.Slots.{slotAt, withSlot, tableSound}
-use Rattle.transfers.specs.Calls.{callFault, stepCount, later, stepOf, stepMemory, left, pollSlot, pollOf}
+use Rattle.transfers.specs.Calls.{callFault, stepCount, later, stepOf, stepMemory, left, pollSlot, pollOf, pollNumbers}
 use Rattle.transfers.proofs.Sounds.{Busy, busy, right-2, right-most, sound-tells}
 use Rattle.transfers.proofs.Answers.{called}
 
@@ -100,6 +101,10 @@ module _ (s : Slot) where
   slot-done a b d = simp (ne-eqb (s .state) 0 a, ne-eqb (s .state) 1 b, ne-eqb (s .state) 2 d)
 
 module _ (t : Table) (h : ℕ) where
+  -- both clauses of a poll's contract, from the first
+  pub numbered : {r : Poll} → r ≡ pollOf t h → (r ≡ pollOf t h) × (pollNumbers r ≡ pollNumbers (pollOf t h))
+  numbered e = (e, ap pollNumbers e)
+
   pub poll-18 : tableSound t ≡ false → poll.Refused 18 ≡ pollOf t h
   unfolding pollOf
   poll-18 e = simp e
@@ -110,7 +115,7 @@ module _ (t : Table) (h : ℕ) where
     poll-23 b = simp (e, lt-ltb 3 h b)
 
     module _ (b : h ≤ 3) {s : Slot} (es : s ≡ slotAt t h) where
-      its-poll : pollSlot s ≡ pollOf t h
+      pub its-poll : pollSlot s ≡ pollOf t h
       unfolding pollOf
       its-poll = ap pollSlot es ∙ simp (e, le-ltb 3 h b)
 

@@ -148,16 +148,3 @@ pollLeft (poll.Refused n) = 0
 -- the three, in that order
 abbrev pub pollNumbers : Poll → List ℕ
 pollNumbers p = pollStatus p ∷ pollState p ∷ pollLeft p ∷ []
-
--- and what a poll of the table tells in them
-unfoldable pub slotNumbers : Slot → List ℕ
-slotNumbers s =
-    cond (eqb (s .state) 0) (0 ∷ 0 ∷ 0 ∷ [])
-    (cond (eqb (s .state) 1) (0 ∷ 1 ∷ left s ∷ [])
-    (cond (eqb (s .state) 2) (0 ∷ 2 ∷ left s ∷ []) (0 ∷ 3 ∷ 0 ∷ [])))
-
-unfoldable pub tableNumbers : Table → ℕ → List ℕ
-tableNumbers t h =
-    cond (tableSound t)
-    (cond (ltb 3 h) (23 ∷ 0 ∷ 0 ∷ []) (slotNumbers (slotAt t h)))
-    (18 ∷ 0 ∷ 0 ∷ [])

@@ -109,12 +109,27 @@ run (c ∷ cs) w = run cs (after c w)
 
 -- ---- the sentences
 
+-- the bytes of a job's source part, and of its destination part
+abbrev pub sourceIn : Job → List ℕ → List ℕ
+sourceIn j m = bytesOf (j .source) m
+
+abbrev pub destinationIn : Job → List ℕ → List ℕ
+destinationIn j m = bytesOf (j .destination) m
+
+-- the byte k lies outside the part
+abbrev pub Outside : Part → ℕ → Type 0
+Outside p k = (k < p .start) ⊎ (p .start + p .length ≤ k)
+
+-- the job passes 20, 1 to 13 and 21 over a memory of n bytes
+abbrev pub Passes : ℕ → Job → Type 0
+Passes n j = jobFault n j .status ≡ 0
+
 -- a whole move of the job over the memory m is an accepted move of demand 2 between the job's two parts
 pub record WholeMeant (j : Job) (m : List ℕ) : Type 0 where
-  pub passed : jobFault (length m) j .status ≡ 0
+  pub passed : Passes (length m) j
   -- its destination part is what demand 2 says; no byte outside that part changes, nor the memory's length
-  pub destination : Meant (j .tensor) (j .config) (bytesOf (j .source) m) (bytesOf (j .destination) m) (bytesOf (j .destination) (wholeMove theMover j m))
-  pub outside : (k : ℕ) → (k < j .destination .start) ⊎ (j .destination .start + j .destination .length ≤ k) → getD (wholeMove theMover j m) k 0 ≡ getD m k 0
+  pub destination : Meant (j .tensor) (j .config) (sourceIn j m) (destinationIn j m) (destinationIn j (wholeMove theMover j m))
+  pub outside : (k : ℕ) → Outside (j .destination) k → getD (wholeMove theMover j m) k 0 ≡ getD m k 0
   pub long : length (wholeMove theMover j m) ≡ length m
 
 -- each of the whole moves of a log, over the memory that those accepted before it leave
@@ -122,20 +137,27 @@ abbrev pub EachMeant : List ℕ → Log → Type 0
 EachMeant m₀ [] = Unit {0}
 EachMeant m₀ (e ∷ older) = WholeMeant (e .job) (oneByOne theMover m₀ older) × EachMeant m₀ older
 
+-- that is so of a job that passes, and of a log of them; every memory between is as long as the first
+pub record WholeMoves : Type 0 where
+  pub one : (m : List ℕ) (j : Job) → Passes (length m) j → WholeMeant j m
+  pub each : (m₀ : List ℕ) (log : Log) → Every (λ e. Passes (length m₀) (e .job)) log → EachMeant m₀ log
+  pub long : (m₀ : List ℕ) (log : Log) → length (oneByOne theMover m₀ log) ≡ length m₀
+
 -- what the memory m has of a transfer that is not yet released
 pub record InPlace (m : List ℕ) (e : Entry Job) : Type 0 where
   -- in its destination part its first elements, as many as its steps together reported, are in place as demand 2 says, byte by byte;
   -- the part's other bytes are as at acceptance
-  pub destination : FirstsMeant (e .job .tensor) (e .job .config) (bytesOf (e .job .source) (e .before)) (bytesOf (e .job .destination) (e .before)) (e .reported) (bytesOf (e .job .destination) m)
+  pub destination : let j = e .job in
+      FirstsMeant (j .tensor) (j .config) (sourceIn j (e .before)) (destinationIn j (e .before)) (e .reported) (destinationIn j m)
   -- its source part is as at acceptance
-  pub source : bytesOf (e .job .source) m ≡ bytesOf (e .job .source) (e .before)
+  pub source : sourceIn (e .job) m ≡ sourceIn (e .job) (e .before)
 
 -- what is claimed of a table t, a memory m and a log that calls led to from the memory m₀
 pub record Demand3 (m₀ : List ℕ) (t : Table) (m : List ℕ) (log : Log) : Type 0 where
   -- if every accepted transfer has finished, the memory is what whole moves give when done one after another in the order of acceptance
   pub serial : Every (Finished theMover) log → m ≡ oneByOne theMover m₀ log
   -- and each of those whole moves is an accepted move of demand 2
-  pub passed : Every (λ e. jobFault (length m₀) (e .job) .status ≡ 0) log
+  pub passed : Every (λ e. Passes (length m₀) (e .job)) log
   pub moves : EachMeant m₀ log
   -- the memory keeps its length
   pub long : length m ≡ length m₀
@@ -153,5 +175,5 @@ ForCourses = (m₀ : List ℕ) (t : Table) (m : List ℕ) (log : Log) → Course
 -- for every list of calls
 abbrev pub ForRuns : Type 0
 ForRuns =
-    (n : ℕ) (m₀ : List ℕ) (cs : List Call)
-    → Demand3 m₀ (run cs (begin n m₀) .table) (run cs (begin n m₀) .memory) (run cs (begin n m₀) .log)
+    (n : ℕ) (m₀ : List ℕ) (cs : List Call) →
+    let w = run cs (begin n m₀) in Demand3 m₀ (w .table) (w .memory) (w .log)

@@ -1,6 +1,10 @@
--- What a reader must believe; Orders is what the theorems on refusals claim.
+-- What a reader must believe: Slots and Calls are what the contracts cite. The others are what the theorems claim: Demand3 (serial and
+-- midway), Sound (tables stay sound), Claims (refused calls, polls, budgets), Orders (each refusal in its case and order), Unseen
+-- (entries past the rank).
 pub mod Slots
 pub mod Calls
 pub mod Orders
 pub mod Demand3
+pub mod Sound
 pub mod Claims
+pub mod Unseen

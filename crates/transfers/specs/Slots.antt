@@ -73,7 +73,8 @@ isZeroTensor t = eqb (t .rank) 0 && eqb (t .«element_size») 0 && isZeroArray (
 
 unfoldable pub isZeroConfig : Config → Bool
 isZeroConfig c =
-    isZeroArray (c .offset) && isZeroArray (c .size) && isZeroArray (c .step) && isZeroArray (c .«dst_offset») && isZeroArray (c .«dst_stride») &&
+    isZeroArray (c .offset) && isZeroArray (c .size) && isZeroArray (c .step) &&
+    isZeroArray (c .«dst_offset») && isZeroArray (c .«dst_stride») &&
     isZeroArray (c .perm) && isZeroArray (c .pre) && isZeroArray (c .post)
 
 -- a job that is all zero

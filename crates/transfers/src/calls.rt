@@ -23,7 +23,7 @@ ghost use mathlib.Core.Path.{_≡_};
 ghost use Prim.Native.Nat.{_+_, _≤_};
 ghost use lib.ListN.{length};
 ghost use Rattle.transfers.specs.Calls.{freshOf, openFault, callFault, prepareOf, startOf, releaseOf};
-ghost use Rattle.transfers.specs.Calls.{later, left, stepOf, stepMemory, pollOf, pollNumbers, tableNumbers};
+ghost use Rattle.transfers.specs.Calls.{later, left, stepOf, stepMemory, pollOf, pollNumbers};
 ghost use Rattle.mover.specs.Within.{jobFault, totalOf};
 
 // 17, 18: the number of refusal of a table over a memory of n bytes.
@@ -209,7 +209,7 @@ impl Table {
     // Tells what a slot is.
     pub fn poll(self, handle: u32) -> Poll
         ensures answered { λ r. ⌜ r ≡ pollOf self handle ⌝ }
-        ensures numbered { λ r. ⌜ pollNumbers r ≡ tableNumbers self handle ⌝ }
+        ensures numbered { λ r. ⌜ pollNumbers r ≡ pollNumbers (pollOf self handle) ⌝ }
     {
         if !is_sound(self) {
             return Poll::Refused(18);

@@ -3,8 +3,7 @@ use borrow.Author.Needs.{needs}
 use native.Mathlib.Omega.{arith}
 use mathlib.Core.Path.{sym, _∙_}
 use borrow.Author.Tests.{not-true, not-false}
-use Rattle.transfers.proofs.Numbered.{numbered}
-use Rattle.transfers.proofs.Steps.{poll-18, poll-23, poll-free, poll-fits, poll-prepared, poll-running, poll-done}
+use Rattle.transfers.proofs.Steps.{numbered, poll-18, poll-23, poll-free, poll-fits, poll-prepared, poll-running, poll-done}
 use Rattle.transfers.proofs.Table.poll.Statement.{statement}
 use Rattle.transfers.proofs.Table.poll.Tie as tie
 
