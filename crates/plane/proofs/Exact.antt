@@ -25,7 +25,7 @@ use Rattle.plane.specs.Orders.{sourceRules, configRules, dstRules, moveR
 use Rattle.faults.proofs.Faults.{status, or-path, or-none, or-found, or-assoc, spared, when-zero, if-fault, if-none}
 use Rattle.plane.proofs.Rules.{answer-refused, answer-given, answer-status}
 use Rattle.plane.proofs.SubAnswers.{sub-status}
-use Rattle.faults.proofs.Chains.{Positive, chain, exact, never-given, or-last, whole-is, join, one-chain}
+use Rattle.faults.proofs.Chains.{Positive, chain, exact, exact-fault, never-given, or-last, whole-is, join, one-chain}
 
 -- ---- the calls are held to their lists
 
@@ -103,6 +103,20 @@ count-dim : (f : Fault) (x : ℕ) → (f .status ≡ 0 → ⊥) → countAnswer 
 unfolding countAnswer
 count-dim f x z = ap (λ (c : Count). c .dim) (if-fault f (noCount f) (record { status = 0; dim = 0; count = x }) z)
 
+count-plain : (f : Fault) (x : ℕ) → f .status ≡ 0 → countAnswer f x .dim ≡ 0
+unfolding countAnswer
+count-plain f x z = ap (λ (c : Count). c .dim) (if-none f (noCount f) (record { status = 0; dim = 0; count = x }) z)
+
+sub-plain : (f : Fault) (t : Tensor) (x : ℕ) → f .status ≡ 0 → subAnswer f t x .dim ≡ 0
+unfolding subAnswer
+sub-plain f t x z = ap (λ (s : SubTensor). s .dim) (if-none f (noSub f) (record { status = 0; dim = 0; tensor = t; byte = x }) z)
+
+answer-plain : (f : Fault) (t : Tensor) (c : Config) → f .status ≡ 0 → answerOf f t c .dim ≡ 0
+answer-plain f t c z = ap (λ (a : Answer). a .dim) (answer-given f t c z)
+
+answer-dim : (f : Fault) (t : Tensor) (c : Config) → (f .status ≡ 0 → ⊥) → answerOf f t c .dim ≡ f .dim
+answer-dim f t c h = ap (λ (a : Answer). a .dim) (answer-refused f t c h)
+
 sub-dim : (f : Fault) (t : Tensor) (x : ℕ) → (f .status ≡ 0 → ⊥) → subAnswer f t x .dim ≡ f .dim
 unfolding subAnswer
 sub-dim f t x z = ap (λ (s : SubTensor). s .dim) (if-fault f (noSub f) (record { status = 0; dim = 0; tensor = t; byte = x }) z)
@@ -112,7 +126,7 @@ sub-dim f t x z = ap (λ (s : SubTensor). s .dim) (if-fault f (noSub f) (record 
 module _ (t : Tensor) where
   pub source-exact : Exact (sourceRules t) (sourceOf t .fault .status) (sourceOf t .fault .dim)
   unfolding sourceOf
-  source-exact = exact (sourceRules t) (positive-source t) (sourceFault t) (source-chain t) refl (λ h. refl)
+  source-exact = exact-fault (sourceRules t) (positive-source t) (sourceFault t) (source-chain t)
 
   pub source-zeros : (sourceOf t .fault .status ≡ 0 → ⊥) → sourceOf t ≡ record { fault = sourceOf t .fault; stride = zeros; span = 0 }
   unfolding sourceOf
@@ -126,7 +140,7 @@ module _ (t : Tensor) (c : Config) where
   unfolding judgeOf
   judge-exact srcLen dstLen =
       exact (moveRules t c srcLen dstLen) (positive-move t c srcLen dstLen) (moveFault t c srcLen dstLen) (move-chain t c srcLen dstLen)
-      (answer-status _ t c) (λ h. ap (λ (a : Answer). a .dim) (answer-refused (moveFault t c srcLen dstLen) t c h))
+      (answer-status _ t c) (answer-plain _ t c) (answer-dim _ t c)
 
   pub judge-zeros : (srcLen dstLen : ℕ) → (judgeOf t c srcLen dstLen .status ≡ 0 → ⊥) → judgeOf t c srcLen dstLen ≡ refused (fault (judgeOf t c srcLen dstLen .status) (judgeOf t c srcLen dstLen .dim))
   unfolding judgeOf
@@ -136,7 +150,7 @@ module _ (t : Tensor) (c : Config) where
   unfolding roomOf
   room-exact =
       exact (roomRules t c) (positive-room t c) (roomFault t c) (room-chain t c)
-      (answer-status _ t c) (λ h. ap (λ (a : Answer). a .dim) (answer-refused (roomFault t c) t c h))
+      (answer-status _ t c) (answer-plain _ t c) (answer-dim _ t c)
 
   pub room-zeros : (roomOf t c .answer .status ≡ 0 → ⊥) → roomOf t c ≡ record { answer = refused (fault (roomOf t c .answer .status) (roomOf t c .answer .dim)); span = 0 }
   unfolding roomOf
@@ -169,7 +183,7 @@ module _ (t : Tensor) (c : Config) where
 module _ (t : Tensor) (start : ℕ) where
   pub count-exact : Exact (countRules t start) (countOf t start .status) (countOf t start .dim)
   unfolding countOf
-  count-exact = exact (countRules t start) (positive-count t start) (countFault t start) (count-chain t start) (count-status _ _) (count-dim _ _)
+  count-exact = exact (countRules t start) (positive-count t start) (countFault t start) (count-chain t start) (count-status _ _) (count-plain _ _) (count-dim _ _)
 
   pub count-zeros : (countOf t start .status ≡ 0 → ⊥) → countOf t start ≡ noCount (fault (countOf t start .status) (countOf t start .dim))
   unfolding countOf countAnswer
@@ -181,7 +195,7 @@ module _ (t : Tensor) (start : ℕ) where
 module _ (t : Tensor) (s : SubConfig) (srcLen : ℕ) where
   pub sub-exact : Exact (subRules t s srcLen) (subTensorOf t s srcLen .status) (subTensorOf t s srcLen .dim)
   unfolding subTensorOf
-  sub-exact = exact (subRules t s srcLen) (positive-sub t s srcLen) (subFault t s srcLen) (sub-chain t s srcLen) (sub-status _ _ _) (sub-dim _ _ _)
+  sub-exact = exact (subRules t s srcLen) (positive-sub t s srcLen) (subFault t s srcLen) (sub-chain t s srcLen) (sub-status _ _ _) (sub-plain _ _ _) (sub-dim _ _ _)
 
   pub sub-zeros : (subTensorOf t s srcLen .status ≡ 0 → ⊥) → subTensorOf t s srcLen ≡ noSub (fault (subTensorOf t s srcLen .status) (subTensorOf t s srcLen .dim))
   unfolding subTensorOf subAnswer
