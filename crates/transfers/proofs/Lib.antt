@@ -8,6 +8,8 @@ pub mod Decided
 pub mod Exact
 pub mod AllZero
 pub mod Polls
+-- a step moves at most its budget
+pub mod Work
 -- Laws over plain values, which the functions' proofs cite.
 pub mod Fours
 pub mod Meeting

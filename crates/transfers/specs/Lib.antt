@@ -4,3 +4,4 @@ pub mod Calls
 pub mod Orders
 pub mod Demand3
 pub mod Claims
+pub mod Work
