@@ -119,10 +119,13 @@ given-positive [] num d p g = absurd g
 given-positive (r ∷ rs) num d p (inl g) = rw (g .0) (p .0)
 given-positive (r ∷ rs) num d p (inr g) = given-positive rs num d (p .1) (g .1)
 
--- an answer that takes its number from a fault, and its dimension too where there is one
-module _ (rs : List Rule) (p : Positive rs) (f : Fault) (is : f ≡ chain rs) {number dim : ℕ} (n : number ≡ f .status) (m : (f .status ≡ 0 → ⊥) → dim ≡ f .dim) where
+-- an answer that takes its number from a fault: dimension 0 where there is none, and the fault's where there is one
+module _
+    (rs : List Rule) (p : Positive rs) (f : Fault) (is : f ≡ chain rs) {number dim : ℕ}
+    (n : number ≡ f .status) (z : f .status ≡ 0 → dim ≡ 0) (m : (f .status ≡ 0 → ⊥) → dim ≡ f .dim) where
   pub exact : Exact rs number dim
   exact = record {
+    plain = λ y. z (sym n ∙ y);
     accepts = (
       λ z. ⊎-elim (λ a. a) (λ g. absurd (is-fault (g .0) (g .1) (given-positive rs _ _ p (g .2)) (told g) (sym n ∙ z))) (kept-or-given rs),
       λ a. n ∙ status (is ∙ chain-kept rs a),
@@ -146,6 +149,17 @@ module _ (rs : List Rule) (p : Positive rs) (f : Fault) (is : f ≡ chain rs) {n
           let h = is-fault (g .0) (g .1) (given-positive rs _ _ p (g .2)) e in
           let y : g .1 ≡ d = sym (ap (λ (x : Fault). x .dim) e) ∙ sym (m h) ∙ w .1 in
           subst (λ (k : ℕ). Given rs num k) y (subst (λ (k : ℕ). Given rs k (g .1)) x (g .2))
+
+-- the fault itself: where no rule is broken it is `none`
+pub exact-fault : (rs : List Rule) → Positive rs → (f : Fault) → f ≡ chain rs → Exact rs (f .status) (f .dim)
+exact-fault rs p f is = exact rs p f is refl plain (λ h. refl)
+  where
+    plain : f .status ≡ 0 → f .dim ≡ 0
+    plain z =
+        ⊎-elim
+        (λ k. ap (λ (x : Fault). x .dim) (is ∙ chain-kept rs k))
+        (λ g. absurd (is-fault (g .0) (g .1) (given-positive rs _ _ p (g .2)) (is ∙ chain-given rs (g .0) (g .1) p (g .2)) z))
+        (kept-or-given rs)
 
 -- ---- lists put together
 

@@ -61,4 +61,6 @@ Given (r ∷ rs) num d = ((num ≡ r .number) × BrokenAt r d) ⊎ (Kept r × Gi
 -- an answer's number and dimension are exact: number 0 exactly if every rule is kept, a number at a dimension exactly if it is given
 pub record Exact (rs : List Rule) (number dim : ℕ) : Type 0 where
   pub accepts : (number ≡ 0) ↔ AllKept rs
+  -- an accepted answer names dimension 0
+  pub plain : number ≡ 0 → dim ≡ 0
   pub gives : (num d : ℕ) → 0 < num → ((number ≡ num) × (dim ≡ d)) ↔ Given rs num d

@@ -2,7 +2,7 @@
 -- leaves it as it was.
 -- Assumes nothing.
 use Prim.Native.Nat.{ℕ, zero, suc, _+_, _-_, _*_, _≤_, _<_}
-use native.Mathlib.Nat.{zero-add, add-mul, one-mul, mod-lt, not-suc-le-zero, le-of-suc-le-suc, eq-or-lt-of-le}
+use native.Mathlib.Nat.{zero-add, add-mul, one-mul, not-suc-le-zero, le-of-suc-le-suc, eq-or-lt-of-le}
 use native.Mathlib.Decide.{decLt}
 use native.Mathlib.Omega.{arith}
 use mathlib.Core.Path.{_≡_, refl, sym, subst, _∙_}
@@ -20,12 +20,12 @@ use Rattle.plane.proofs.Arrays.{every-all, every-each, every-fails}
 use Rattle.plane.specs.Good.{GoodConfig, GoodMove}
 use Rattle.mover.specs.Element.{dimOf, kOf, isKept, areKept, sourcePlace, place, element}
 use Rattle.mover.specs.Moved.{total, coordOf, moved, moveMemory}
-use Rattle.mover.specs.Demand2.{IsCoordinate, KeptAt, Meant, byteOf, FirstsMeant}
+use Rattle.mover.specs.Demand2.{IsCoordinate, KeptAt, byteAt, endAt, sourceByte, Spares, InPlaceAt, Meant, FirstsMeant, Accepted, AcceptedMeant, AcceptedOnly, AcceptedFirsts, AcceptedFirstsOnly, RefusedKept}
 use Rattle.mover.proofs.Laws.{judged, judged-good, moved-length, moved-whole, moved-refused}
 use Rattle.mover.proofs.Keeping.{range-test, test-range, place-same, source-same}
 use Rattle.mover.proofs.Fitting.{home-fits, place-fits}
-use Rattle.mover.proofs.Spacing.{numberAt, numberAt-lt, numberAt-coord, extent-some, bytes-rise, bytes-apart}
-use Rattle.mover.proofs.Stored.{moved-elsewhere, moved-element}
+use Rattle.mover.proofs.Spacing.{numberAt, numberAt-lt, numberAt-coord, coord-below, bytes-rise, bytes-apart}
+use Rattle.mover.proofs.Stored.{byteOf, moved-elsewhere, moved-element}
 
 -- ---- the test of what is kept says what is claimed, and the bytes of an element
 
@@ -51,14 +51,14 @@ module _ (t : Tensor) (c : Config) (x : ℕ → ℕ) where
       let w = every-fails (λ i. isKept t c i (x i)) (t .rank) e in
       (w .0, w .1, λ k. true≢false (sym (range-test (at (c .pre) (dimOf c (w .0))) (x (w .0)) (count t c (dimOf c (w .0))) k) ∙ w .2))
 
-  source-within : GoodConfig t c → ((i : ℕ) → i < t .rank → KeptAt t c x i) → sourcePlace t c x * t .«element_size» + t .«element_size» ≤ span t
+  source-within : GoodConfig t c → ((i : ℕ) → i < t .rank → KeptAt t c x i) → sourceByte t c x + t .«element_size» ≤ span t
   unfolding sourcePlace
   source-within g h =
       let w = home-fits g (λ i. kOf c i (x i)) (λ i l. omega (arith, h i l .1)) in
       omega (arith, rw (add-mul, one-mul) at w)
 
   module _ (src : List ℕ) where
-    element-kept : areKept t c x ≡ true → element t c src x ≡ take (t .«element_size») (drop (sourcePlace t c x * t .«element_size») src)
+    element-kept : areKept t c x ≡ true → element t c src x ≡ take (t .«element_size») (drop (sourceByte t c x) src)
     unfolding element
     element-kept e = rw e
 
@@ -73,19 +73,29 @@ module _ (t : Tensor) (c : Config) (x : ℕ → ℕ) where
         by-test : (b : Bool) → areKept t c x ≡ b → length (element t c src x) ≡ t .«element_size»
         by-test true e =
             let w = source-within g (each-kept e) in
-            rw (element-kept e) (length-take-le (t .«element_size») (drop (sourcePlace t c x * t .«element_size») src) (rw length-drop (omega arith)))
+            rw (element-kept e) (length-take-le (t .«element_size») (drop (sourceByte t c x) src) (rw length-drop (omega arith)))
         by-test false e = rw (element-pad e) (length-replicate (t .«element_size») 0)
 
-    kept-byte : (b : ℕ) → b < t .«element_size» → areKept t c x ≡ true → getD (element t c src x) b 0 ≡ getD src (sourcePlace t c x * t .«element_size» + b) 0
+    kept-byte : (b : ℕ) → b < t .«element_size» → areKept t c x ≡ true → getD (element t c src x) b 0 ≡ getD src (sourceByte t c x + b) 0
     kept-byte b h e = rw (element-kept e, getD-take, getD-drop)
 
     pad-byte : (b : ℕ) → b < t .«element_size» → areKept t c x ≡ false → getD (element t c src x) b 0 ≡ 0
     pad-byte b h e = rw (element-pad e, getD-replicate)
 
+-- coordinates that are the same below the rank have one element
+same-in-place : (t : Tensor) (c : Config) (src e : List ℕ) (y x : ℕ → ℕ) → ((i : ℕ) → i < t .rank → y i ≡ x i) → InPlaceAt t c src e y → InPlaceAt t c src e x
+same-in-place t c src e y x same m =
+    let p = place-same t c y x same in
+    record {
+      inside = rw p at (m .inside);
+      source = λ k b h. rw (p, source-same t c y x same) at (m .source (λ i l. rw (same i l) (k i l)) b h);
+      zeros = λ i l a b h. rw p at (m .zeros i l (λ k. a (rw (same i l) at k)) b h);
+    }
+
 -- ---- the first n elements of an accepted move
 
 module _ (t : Tensor) (c : Config) (src dst : List ℕ) (g : GoodMove t c (length src) (length dst)) where
-  fits : (x : ℕ → ℕ) → IsCoordinate t c x → place t c x * t .«element_size» + t .«element_size» ≤ length dst
+  fits : (x : ℕ → ℕ) → IsCoordinate t c x → endAt t c x ≤ length dst
   fits x w =
       let f = place-fits (g .config) x w in
       let r = g .room in
@@ -93,8 +103,7 @@ module _ (t : Tensor) (c : Config) (src dst : List ℕ) (g : GoodMove t c (lengt
 
   -- the coordinates of an element's number
   coord-inside : (q : ℕ) → IsCoordinate t c (coordOf t c q)
-  unfolding coordOf
-  coord-inside q i h = mod-lt _ (extent-some (g .source) (g .config) (g .destination) i h)
+  coord-inside = coord-below (g .source) (g .config) (g .destination)
 
   module _ (n : ℕ) (most : n ≤ total t c) where
     element-at : (q b : ℕ) → q < n → b < t .«element_size» → getD (moved t c src 0 n dst) (byteOf t c q + b) 0 ≡ getD (element t c src (coordOf t c q)) b 0
@@ -108,13 +117,16 @@ module _ (t : Tensor) (c : Config) (src dst : List ℕ) (g : GoodMove t c (lengt
         let l = moved-length t c src 0 n dst in
         record {
           long = l;
-          inside = λ q k. rw l (fits (coordOf t c q) (coord-inside q));
+          placed = λ q k.
+              let x = coordOf t c q in record {
+                inside = rw l (fits x (coord-inside q));
+                source = λ a b h.
+                    let s = source-within t c x (g .config) a in
+                    let m = g .long in
+                    (omega arith, element-at q b k h ∙ kept-byte t c x src b h (all-kept t c x a));
+                zeros = λ i l a b h. element-at q b k h ∙ pad-byte t c x src b h (not-kept t c x i l a);
+              };
           apart = λ q r k m. bytes-rise (g .source) (g .config) (g .destination) q r k (omega arith);
-          source = λ q k a b h.
-              let s = source-within t c (coordOf t c q) (g .config) a in
-              let m = g .long in
-              (omega arith, element-at q b k h ∙ kept-byte t c (coordOf t c q) src b h (all-kept t c (coordOf t c q) a));
-          zeros = λ q k i l a b h. element-at q b k h ∙ pad-byte t c (coordOf t c q) src b h (not-kept t c (coordOf t c q) i l a);
           rest = λ k h. moved-elsewhere t c src 0 n dst k (λ q l. rw zero-add (h q l));
         }
 
@@ -124,18 +136,8 @@ module _ (t : Tensor) (c : Config) (src dst : List ℕ) (g : GoodMove t c (lengt
   firsts-whole e m =
       record {
         long = m .long;
-        inside = λ x w. rw (m .long) (fits x w);
+        placed = λ x w. same-in-place t c src e (coordOf t c (numberAt t c x)) x (numberAt-coord t c x w) (m .placed (numberAt t c x) (numberAt-lt t c x w));
         apart = λ x y. bytes-apart (g .source) (g .config) (g .destination) x y;
-        source = λ x w k b h.
-            let q = numberAt t c x in
-            let same = numberAt-coord t c x w in
-            rw (place-same t c (coordOf t c q) x same, source-same t c (coordOf t c q) x same) at
-            (m .source q (numberAt-lt t c x w) (λ i l. rw (same i l) (k i l)) b h);
-        zeros = λ x w i l a b h.
-            let q = numberAt t c x in
-            let same = numberAt-coord t c x w in
-            rw (place-same t c (coordOf t c q) x same) at
-            (m .zeros q (numberAt-lt t c x w) i l (λ k. a (rw (same i l) at k)) b h);
         rest = λ k h. m .rest k (λ q l. h (coordOf t c q) (coord-inside q));
       }
 
@@ -143,10 +145,8 @@ module _ (t : Tensor) (c : Config) (src dst : List ℕ) (g : GoodMove t c (lengt
   whole-firsts e m =
       record {
         long = m .long;
-        inside = λ q l. m .inside (coordOf t c q) (coord-inside q);
+        placed = λ q l. m .placed (coordOf t c q) (coord-inside q);
         apart = bytes-rise (g .source) (g .config) (g .destination);
-        source = λ q l. m .source (coordOf t c q) (coord-inside q);
-        zeros = λ q l. m .zeros (coordOf t c q) (coord-inside q);
         rest = λ k h.
             m .rest k
             (λ x w. rw (place-same t c (coordOf t c (numberAt t c x)) x (numberAt-coord t c x w)) at (h (numberAt t c x) (numberAt-lt t c x w)));
@@ -159,11 +159,8 @@ module _ (t : Tensor) (c : Config) (k : ℕ) where
   Owns : ℕ → Type 0
   Owns q = (byteOf t c q ≤ k) × (k < byteOf t c q + t .«element_size»)
 
-  Spares : ℕ → Type 0
-  Spares q = (k < byteOf t c q) ⊎ (byteOf t c q + t .«element_size» ≤ k)
-
-  owns : (q : ℕ) → Owns q ⊎ Spares q
-  unfolding Owns Spares
+  owns : (q : ℕ) → Owns q ⊎ Spares t c (coordOf t c q) k
+  unfolding Owns
   owns q = elim (decLt k (byteOf t c q)) [
     | yes l ↦ inr (inl l)
     | no l ↦ elim (decLt k (byteOf t c q + t .«element_size»)) [
@@ -172,7 +169,7 @@ module _ (t : Tensor) (c : Config) (k : ℕ) where
     ]
   ]
 
-  owner : (n : ℕ) → ((q : ℕ) × (q < n) × Owns q) ⊎ ((q : ℕ) → q < n → Spares q)
+  owner : (n : ℕ) → ((q : ℕ) × (q < n) × Owns q) ⊎ ((q : ℕ) → q < n → Spares t c (coordOf t c q) k)
   owner zero = inr (λ q h. absurd (not-suc-le-zero h))
   owner (suc n) =
       ⊎-elim
@@ -180,7 +177,7 @@ module _ (t : Tensor) (c : Config) (k : ℕ) where
       (λ s.
       ⊎-elim
       (λ (o : (q : ℕ) × (q < n) × Owns q). inl (o .0, omega (arith, o .1), o .2))
-      (λ f. inr (λ q h. ⊎-elim (λ e. subst Spares (sym e) s) (f q) (eq-or-lt-of-le (le-of-suc-le-suc h))))
+      (λ f. inr (λ q h. ⊎-elim (λ e. subst (λ (r : ℕ). Spares t c (coordOf t c r) k) (sym e) s) (f q) (eq-or-lt-of-le (le-of-suc-le-suc h))))
       (owner n))
       (owns n)
 
@@ -190,11 +187,11 @@ module _ (t : Tensor) (c : Config) (src dst : List ℕ) (n : ℕ) (e f : List �
   same-owned q b l h = by-test (areKept t c (coordOf t c q)) refl
     where
       by-test : (d : Bool) → areKept t c (coordOf t c q) ≡ d → getD e (byteOf t c q + b) 0 ≡ getD f (byteOf t c q + b) 0
-      by-test true k = let a = each-kept t c (coordOf t c q) k in m .source q l a b h .1 ∙ sym (o .source q l a b h .1)
-      by-test false k = let a = one-not-kept t c (coordOf t c q) k in m .zeros q l (a .0) (a .1) (a .2) b h ∙ sym (o .zeros q l (a .0) (a .1) (a .2) b h)
+      by-test true k = let a = each-kept t c (coordOf t c q) k in m .placed q l .source a b h .1 ∙ sym (o .placed q l .source a b h .1)
+      by-test false k = let a = one-not-kept t c (coordOf t c q) k in m .placed q l .zeros (a .0) (a .1) (a .2) b h ∙ sym (o .placed q l .zeros (a .0) (a .1) (a .2) b h)
 
   same-byte : (k : ℕ) → getD e k 0 ≡ getD f k 0
-  unfolding Owns Spares
+  unfolding Owns
   same-byte k =
       ⊎-elim
       (λ (w : (q : ℕ) × (q < n) × Owns t c k q).
@@ -209,28 +206,30 @@ module _ (t : Tensor) (c : Config) (src dst : List ℕ) (n : ℕ) (e f : List �
 
 -- ---- the theorems
 
-module _ (t : Tensor) (c : Config) (src dst : List ℕ) where
-  -- a refused move leaves the destination as it was
-  pub demand-2-refused : (judgeOf t c (length src) (length dst) .status ≡ 0 → ⊥) → moveMemory t c src dst ≡ dst
-  demand-2-refused h = moved-refused t c src dst h
+-- a refused move leaves the destination as it was
+pub demand-2-refused : RefusedKept
+demand-2-refused t c src dst h = moved-refused t c src dst h
 
-  module _ (z : judgeOf t c (length src) (length dst) .status ≡ 0) where
-    good : GoodMove t c (length src) (length dst)
-    good = judged-good t c (length src) (length dst) z
+module _ (t : Tensor) (c : Config) (src dst : List ℕ) (z : Accepted t c src dst) where
+  good : GoodMove t c (length src) (length dst)
+  good = judged-good t c (length src) (length dst) z
 
-    all : moveMemory t c src dst ≡ moved t c src 0 (total t c) dst
-    all = moved-whole t c src dst (sym (judged t c (length src) (length dst)) ∙ z)
+  all : moveMemory t c src dst ≡ moved t c src 0 (total t c) dst
+  all = moved-whole t c src dst (sym (judged t c (length src) (length dst)) ∙ z)
 
-    -- what the first n elements of an accepted one leave; and no other destination is so
-    pub firsts-meant : (n : ℕ) → n ≤ total t c → FirstsMeant t c src dst n (moved t c src 0 n dst)
-    firsts-meant n h = accepted-firsts t c src dst good n h
+-- what the first n elements of an accepted one leave; and no other destination is so
+pub firsts-meant : AcceptedFirsts
+firsts-meant t c src dst z n h = accepted-firsts t c src dst (good t c src dst z) n h
 
-    pub firsts-only : (n : ℕ) (e : List ℕ) → n ≤ total t c → FirstsMeant t c src dst n e → e ≡ moved t c src 0 n dst
-    firsts-only n e h m = same-firsts t c src dst n e (moved t c src 0 n dst) m (firsts-meant n h)
+pub firsts-only : AcceptedFirstsOnly
+firsts-only t c src dst z n e h m = same-firsts t c src dst n e (moved t c src 0 n dst) m (firsts-meant t c src dst z n h)
 
-    -- what all of them leave; and no other destination is so
-    pub demand-2 : Meant t c src dst (moveMemory t c src dst)
-    demand-2 = rw all (firsts-whole t c src dst good (moved t c src 0 (total t c) dst) (firsts-meant (total t c) (omega arith)))
+-- what all of them leave; and no other destination is so
+pub demand-2 : AcceptedMeant
+demand-2 t c src dst z =
+    rw (all t c src dst z)
+    (firsts-whole t c src dst (good t c src dst z) (moved t c src 0 (total t c) dst) (firsts-meant t c src dst z (total t c) (omega arith)))
 
-    pub demand-2-only : (e : List ℕ) → Meant t c src dst e → e ≡ moveMemory t c src dst
-    demand-2-only e m = firsts-only (total t c) e (omega arith) (whole-firsts t c src dst good e m) ∙ sym all
+pub demand-2-only : AcceptedOnly
+demand-2-only t c src dst z e m =
+    firsts-only t c src dst z (total t c) e (omega arith) (whole-firsts t c src dst (good t c src dst z) e m) ∙ sym (all t c src dst z)

@@ -1,14 +1,14 @@
 -- Each refusal of a move inside one memory in its exact case and order: 20, then those of a move, then 21. Assumes nothing.
 use Prim.Native.Nat.{ℕ}
 use native.Mathlib.Omega.{arith}
-use mathlib.Core.Path.{_≡_, refl}
+use mathlib.Core.Path.{_≡_}
 use mathlib.Core.Bool.{_||_}
 use mathlib.Core.List.{List, [], _∷_, _++_}
 use lib.ListN.{length}
 use Rattle.faults.specs.Exactness.{whole, Exact}
 use Rattle.plane.specs.Orders.{moveRules}
 use Rattle.faults.proofs.Faults.{if-fault}
-use Rattle.faults.proofs.Chains.{Positive, chain, exact, join, one-chain}
+use Rattle.faults.proofs.Chains.{Positive, chain, exact-fault, join, one-chain}
 use Rattle.plane.proofs.Exact.{move-chain}
 use Rattle.mover.specs.declared.Job.{Job}
 use Rattle.mover.specs.Within.{leaves, meets, jobFault, totalOf, verdictOf, further, advancedBy, advanceOf, advanceMemory}
@@ -29,7 +29,7 @@ job-chain n j =
 module _ (n : ℕ) (j : Job) where
   pub job-exact : Exact (jobRules n j) (verdictOf n j .status) (verdictOf n j .dim)
   unfolding verdictOf
-  job-exact = exact (jobRules n j) (positive-job n j) (jobFault n j) (job-chain n j) refl (λ h. refl)
+  job-exact = exact-fault (jobRules n j) (positive-job n j) (jobFault n j) (job-chain n j)
 
   pub job-zeros : (verdictOf n j .status ≡ 0 → ⊥) → verdictOf n j .total ≡ 0
   unfolding verdictOf
@@ -38,7 +38,7 @@ module _ (n : ℕ) (j : Job) where
 module _ (j : Job) (from budget : ℕ) (m : List ℕ) where
   pub advance-exact : Exact (jobRules (length m) j) (advanceOf j from budget m .status) (advanceOf j from budget m .dim)
   unfolding advanceOf
-  advance-exact = exact (jobRules (length m) j) (positive-job (length m) j) (jobFault (length m) j) (job-chain (length m) j) refl (λ h. refl)
+  advance-exact = exact-fault (jobRules (length m) j) (positive-job (length m) j) (jobFault (length m) j) (job-chain (length m) j)
 
   pub advance-zeros : (advanceOf j from budget m .status ≡ 0 → ⊥) → advanceOf j from budget m .count ≡ 0
   unfolding advanceOf

@@ -1,6 +1,8 @@
 -- Theorems to read first: Demand2 (what an accepted move leaves), Decided (no two outcomes), Exact (refusals), Unseen (entries past
--- the rank are not looked at), Meeting (parts that share a byte, or leave the memory), Laws (what the layer above may use).
+-- the rank are not looked at), Meeting (parts that share a byte, or leave the memory), Work (how much is moved), Laws (what the layer
+-- above may use).
 pub mod Demand2
+pub mod Work
 pub mod Decided
 pub mod Exact
 pub mod Unseen

@@ -1,6 +1,6 @@
 -- The elements of an accepted move stand apart, in the order of their numbers, because its strides fall inward. Assumes nothing.
 use Prim.Native.Nat.{ℕ, suc, _+_, _*_, _≤_, _<_}
-use native.Mathlib.Nat.{add-mul, suc-mul, mul-le-mul-right}
+use native.Mathlib.Nat.{add-mul, suc-mul, mul-le-mul-right, mod-lt}
 use native.Mathlib.Decide.{decLt}
 use native.Mathlib.Omega.{arith}
 use mathlib.Core.Path.{_≡_, sym, ap, _∙_}
@@ -36,6 +36,11 @@ module _ (t : Tensor) (c : Config) (x : ℕ → ℕ) (w : (i : ℕ) → i < t .r
 module _ {t : Tensor} {c : Config} (g : GoodSource t) (k : GoodConfig t c) (p : GoodDst t c) where
   pub extent-some : (i : ℕ) → i < t .rank → 0 < extentAt t c i
   extent-some i h = dst-extent k i (g .rank .1) h .0
+
+  -- the coordinates of an element's number are below the extents
+  pub coord-below : (q i : ℕ) → i < t .rank → coordOf t c q i < extentAt t c i
+  unfolding coordOf
+  coord-below q i h = mod-lt _ (extent-some i h)
 
   stride-at : (i : ℕ) → i < t .rank → at (dstStrides t c) i ≡ resolved (t .rank) (at (dstExtents t c)) (at (c .«dst_stride»)) i
   stride-at i h = firsts-at 0 (t .rank) (resolved (t .rank) (at (dstExtents t c)) (at (c .«dst_stride»))) i (g .rank .1) h

@@ -12,9 +12,13 @@ use Rattle.plane.specs.declared.Tensor.{Tensor}
 use Rattle.plane.specs.declared.Config.{Config}
 use Rattle.mover.specs.Element.{areKept, sourcePlace, element}
 use Rattle.mover.specs.Moved.{total, coordOf, stored, moved}
-use Rattle.mover.specs.Demand2.{byteOf}
+use Rattle.mover.specs.Demand2.{byteAt}
 use Rattle.mover.proofs.Runs.{getD-sets-out, length-take-most}
 use Rattle.mover.proofs.Laws.{moved-length}
+
+-- the byte at which element number q starts
+abbrev pub byteOf : Tensor → Config → ℕ → ℕ
+byteOf t c q = byteAt t c (coordOf t c q)
 
 -- the i-th of the bytes stored at a place
 sets-inside : (vs l : List ℕ) (at i : ℕ) → i < length vs → at + length vs ≤ length l → getD (sets l at vs) (at + i) 0 ≡ getD vs i 0

@@ -166,4 +166,4 @@ module _ (j j′ : Job) (s : SameJob j j′) where
 
 pub part-unseen : (t t′ : Tensor) (s s′ : SubConfig) → SameTensor t t′ → SameSub (t .rank) s s′ → (src : List ℕ) → subPart t s src ≡ subPart t′ s′ src
 part-unseen t t′ s s′ a b src =
-    part-by t s src ∙ ap (λ (r : SubTensor). partBy r src) (sub-unseen t t′ a s s′ b (length src)) ∙ sym (part-by t′ s′ src)
+    part-by t s src ∙ ap (λ (r : SubTensor). partBy r src) (sub-unseen (length src) t t′ a s s′ b) ∙ sym (part-by t′ s′ src)

@@ -5,5 +5,6 @@ pub mod Within
 pub mod SubPart
 pub mod Orders
 pub mod Demand2
+pub mod Work
 pub mod Claims
 pub mod Private

@@ -8,14 +8,12 @@ use mathlib.Core.Bool.{Bool, true, false, _||_}
 use mathlib.Core.Logic.{⊎-elim}
 use borrow.Author.Tests.{eqb-true}
 use lib.Dec.{eqb}
-use Rattle.plane.specs.declared.Tensor.{Tensor}
-use Rattle.plane.specs.declared.Config.{Config}
 use Rattle.plane.specs.Arrays.{at, sum, product, or0}
 use Rattle.plane.specs.Planes.{elementSize, shapeAt, strideAt, inner, resolved, srcStrides, span}
 use Rattle.plane.specs.Moves.{dstExtents, dstStrides, need}
 use Rattle.faults.proofs.Bools.{either-cases}
 use Rattle.plane.proofs.Arrays.{firsts-at}
-use Rattle.plane.specs.Good.{GoodStrides, GoodSource, GoodConfig, GoodDst}
+use Rattle.plane.specs.Claims.{InnerFits, SpanFits, NeedFits, ExtentsFit, ProductFits}
 use Rattle.plane.proofs.Rules.{dst-extent}
 
 pub sum-most : (n : ℕ) (f : ℕ → ℕ) (m : ℕ) → ((d : ℕ) → d < n → f d ≤ m) → sum n f ≤ n * m
@@ -32,7 +30,7 @@ product-most zero f h = omega arith
 product-most (suc n) f h = rw (pow-suc 65535 n) (mul-le-mul (product-most n f (λ d q. h d (omega arith))) (h n (omega arith)))
 
 -- four factors of at most 65,535
-pub product-fits : (n : ℕ) (f : ℕ → ℕ) → n ≤ 4 → ((d : ℕ) → d < n → f d ≤ 65535) → product n f < 2 ^ 64
+pub product-fits : ProductFits
 product-fits n f l h = let w = product-most n f h in let v = powers n l in omega arith
   where
     powers : (n : ℕ) → n ≤ 4 → 65535 ^ n < 2 ^ 64
@@ -64,7 +62,7 @@ box-fits n f z l s h =
     omega arith
 
 -- the inner products of good strides
-pub inner-fits : (n : ℕ) (shape stride : ℕ → ℕ) → GoodStrides n shape stride → ((d : ℕ) → d < n → shape d ≤ 65535) → (k : ℕ) → k ≤ n → inner n shape stride k < 2 ^ 64
+pub inner-fits : InnerFits
 unfolding inner resolved
 inner-fits n shape stride g h zero l = omega arith
 inner-fits n shape stride g h (suc k) l =
@@ -73,7 +71,7 @@ inner-fits n shape stride g h (suc k) l =
     let r = subst (λ (j : ℕ). or0 (stride (n - suc k)) (inner n shape stride j) ≤ 2147483647) e (g .most (n - suc k) q) in
     omega (arith, mul-le-mul r (h (n - suc k) q))
 
-pub span-fits : (t : Tensor) → GoodSource t → span t < 2 ^ 64
+pub span-fits : SpanFits
 unfolding span
 span-fits t g =
     box-fits (t .rank) _ (t .«element_size») (g .rank .1) (element-small (t .«element_size») (g .element) .1)
@@ -83,7 +81,7 @@ span-fits t g =
     let m : at (srcStrides t) d ≤ 2147483647 = rw e (g .strides .most d h) in
     mul-le-mul s m)
 
-pub need-fits : (t : Tensor) (c : Config) → GoodSource t → GoodConfig t c → GoodDst t c → need t c < 2 ^ 64
+pub need-fits : NeedFits
 unfolding need
 need-fits t c g k p =
     box-fits (t .rank) _ (t .«element_size») (g .rank .1) (element-small (t .«element_size») (g .element) .1)
@@ -94,5 +92,5 @@ need-fits t c g k p =
     mul-le-mul s m)
 
 -- how many elements a destination has
-pub extents-fit : (t : Tensor) (c : Config) → GoodSource t → GoodConfig t c → product (t .rank) (at (dstExtents t c)) < 2 ^ 64
+pub extents-fit : ExtentsFit
 extents-fit t c g k = product-fits (t .rank) (at (dstExtents t c)) (g .rank .1) (λ i h. dst-extent k i (g .rank .1) h .1)

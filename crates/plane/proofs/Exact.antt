@@ -1,6 +1,6 @@
--- Each refusal in its exact case and order: every answer is exact (`specs/Exactness.antt`) for the rules of its call
--- (`specs/Orders.antt`), and a refused answer is zeros besides. Assumes nothing.
-use Prim.Native.Nat.{ℕ, _≤_}
+-- Each refusal in its exact case and order: every answer is exact (`Exact`) for the rules of its call (`specs/Orders.antt`), and a
+-- refused answer is zeros besides. Assumes nothing.
+use Prim.Native.Nat.{ℕ}
 use native.Mathlib.Decide.{ℕ-discrete}
 use native.Mathlib.Omega.{arith}
 use mathlib.Core.Path.{_≡_, refl, sym, ap, _∙_}
@@ -20,12 +20,13 @@ use Rattle.faults.specs.Faults.{fault, when, _orElse_}
 use Rattle.plane.specs.Planes.{shapeAt, strideAt, badStrideAt, srcStrides, span, sourceFault, sourceOf}
 use Rattle.plane.specs.Moves.{extent, dstStrides, need, badExtent, badDstOffset, configFault, dstFault, moveFault, roomFault, refused, answerOf, judgeOf, roomOf}
 use Rattle.plane.specs.Helpers.{elements, countFault, noCount, countAnswer, countOf, rankFault, subFault, subOf, subByte, noSub, subAnswer, subTensorOf}
-use Rattle.faults.specs.Exactness.{whole, fromFirst, fromLast, Exact}
+use Rattle.faults.specs.Exactness.{whole, fromFirst, fromLast}
 use Rattle.plane.specs.Orders.{sourceRules, configRules, dstRules, moveRules, roomRules, countRules, subRules}
+use Rattle.plane.specs.Claims.{SourceExact, SourceZeros, JudgeExact, JudgeZeros, RoomExact, RoomZeros, RoomNever, RoomIsJudge, CountExact, CountZeros, SubExact, SubZeros}
 use Rattle.faults.proofs.Faults.{status, or-path, or-none, or-found, or-assoc, spared, when-zero, if-fault, if-none}
 use Rattle.plane.proofs.Rules.{answer-refused, answer-given, answer-status}
 use Rattle.plane.proofs.SubAnswers.{sub-status}
-use Rattle.faults.proofs.Chains.{Positive, chain, exact, never-given, or-last, whole-is, join, one-chain}
+use Rattle.faults.proofs.Chains.{Positive, chain, exact, exact-fault, never-given, or-last, whole-is, join, one-chain}
 
 -- ---- the calls are held to their lists
 
@@ -103,89 +104,100 @@ count-dim : (f : Fault) (x : ℕ) → (f .status ≡ 0 → ⊥) → countAnswer 
 unfolding countAnswer
 count-dim f x z = ap (λ (c : Count). c .dim) (if-fault f (noCount f) (record { status = 0; dim = 0; count = x }) z)
 
+count-plain : (f : Fault) (x : ℕ) → f .status ≡ 0 → countAnswer f x .dim ≡ 0
+unfolding countAnswer
+count-plain f x z = ap (λ (c : Count). c .dim) (if-none f (noCount f) (record { status = 0; dim = 0; count = x }) z)
+
+sub-plain : (f : Fault) (t : Tensor) (x : ℕ) → f .status ≡ 0 → subAnswer f t x .dim ≡ 0
+unfolding subAnswer
+sub-plain f t x z = ap (λ (s : SubTensor). s .dim) (if-none f (noSub f) (record { status = 0; dim = 0; tensor = t; byte = x }) z)
+
+answer-plain : (f : Fault) (t : Tensor) (c : Config) → f .status ≡ 0 → answerOf f t c .dim ≡ 0
+answer-plain f t c z = ap (λ (a : Answer). a .dim) (answer-given f t c z)
+
+answer-dim : (f : Fault) (t : Tensor) (c : Config) → (f .status ≡ 0 → ⊥) → answerOf f t c .dim ≡ f .dim
+answer-dim f t c h = ap (λ (a : Answer). a .dim) (answer-refused f t c h)
+
 sub-dim : (f : Fault) (t : Tensor) (x : ℕ) → (f .status ≡ 0 → ⊥) → subAnswer f t x .dim ≡ f .dim
 unfolding subAnswer
 sub-dim f t x z = ap (λ (s : SubTensor). s .dim) (if-fault f (noSub f) (record { status = 0; dim = 0; tensor = t; byte = x }) z)
 
 -- ---- the theorems: what each call that refuses answers is exact, and besides number and dimension it is zeros
 
-module _ (t : Tensor) where
-  pub source-exact : Exact (sourceRules t) (sourceOf t .fault .status) (sourceOf t .fault .dim)
-  unfolding sourceOf
-  source-exact = exact (sourceRules t) (positive-source t) (sourceFault t) (source-chain t) refl (λ h. refl)
+pub source-exact : SourceExact
+unfolding sourceOf
+source-exact t = exact-fault (sourceRules t) (positive-source t) (sourceFault t) (source-chain t)
 
-  pub source-zeros : (sourceOf t .fault .status ≡ 0 → ⊥) → sourceOf t ≡ record { fault = sourceOf t .fault; stride = zeros; span = 0 }
-  unfolding sourceOf
-  source-zeros h =
-      let l = if-fault (sourceFault t) zeros (srcStrides t) h in
-      let s = if-fault (sourceFault t) 0 (span t) h in
-      λ i. record { fault = sourceFault t; stride = l i; span = s i }
+pub source-zeros : SourceZeros
+unfolding sourceOf
+source-zeros t h =
+    let l = if-fault (sourceFault t) zeros (srcStrides t) h in
+    let s = if-fault (sourceFault t) 0 (span t) h in
+    λ i. record { fault = sourceFault t; stride = l i; span = s i }
 
-module _ (t : Tensor) (c : Config) where
-  pub judge-exact : (srcLen dstLen : ℕ) → Exact (moveRules t c srcLen dstLen) (judgeOf t c srcLen dstLen .status) (judgeOf t c srcLen dstLen .dim)
-  unfolding judgeOf
-  judge-exact srcLen dstLen =
-      exact (moveRules t c srcLen dstLen) (positive-move t c srcLen dstLen) (moveFault t c srcLen dstLen) (move-chain t c srcLen dstLen)
-      (answer-status _ t c) (λ h. ap (λ (a : Answer). a .dim) (answer-refused (moveFault t c srcLen dstLen) t c h))
+pub judge-exact : JudgeExact
+unfolding judgeOf
+judge-exact t c srcLen dstLen =
+    exact (moveRules t c srcLen dstLen) (positive-move t c srcLen dstLen) (moveFault t c srcLen dstLen) (move-chain t c srcLen dstLen)
+    (answer-status _ t c) (answer-plain _ t c) (answer-dim _ t c)
 
-  pub judge-zeros : (srcLen dstLen : ℕ) → (judgeOf t c srcLen dstLen .status ≡ 0 → ⊥) → judgeOf t c srcLen dstLen ≡ refused (fault (judgeOf t c srcLen dstLen .status) (judgeOf t c srcLen dstLen .dim))
-  unfolding judgeOf
-  judge-zeros srcLen dstLen h = zeros-besides t c (moveFault t c srcLen dstLen) h
+pub judge-zeros : JudgeZeros
+unfolding judgeOf
+judge-zeros t c srcLen dstLen h = zeros-besides t c (moveFault t c srcLen dstLen) h
 
-  pub room-exact : Exact (roomRules t c) (roomOf t c .answer .status) (roomOf t c .answer .dim)
-  unfolding roomOf
-  room-exact =
-      exact (roomRules t c) (positive-room t c) (roomFault t c) (room-chain t c)
-      (answer-status _ t c) (λ h. ap (λ (a : Answer). a .dim) (answer-refused (roomFault t c) t c h))
+pub room-exact : RoomExact
+unfolding roomOf
+room-exact t c =
+    exact (roomRules t c) (positive-room t c) (roomFault t c) (room-chain t c) (answer-status _ t c) (answer-plain _ t c) (answer-dim _ t c)
 
-  pub room-zeros : (roomOf t c .answer .status ≡ 0 → ⊥) → roomOf t c ≡ record { answer = refused (fault (roomOf t c .answer .status) (roomOf t c .answer .dim)); span = 0 }
-  unfolding roomOf
-  room-zeros h =
-      let a = zeros-besides t c (roomFault t c) h in
-      let s = if-fault (roomFault t c) 0 (span t) (λ z. h (answer-status _ t c ∙ z)) in
-      λ i. record { answer = a i; span = s i }
+pub room-zeros : RoomZeros
+unfolding roomOf
+room-zeros t c h =
+    let a = zeros-besides t c (roomFault t c) h in
+    let s = if-fault (roomFault t c) 0 (span t) (λ z. h (answer-status _ t c ∙ z)) in
+    λ i. record { answer = a i; span = s i }
 
-  -- a room question never gives 5 or 13
-  pub room-never-5 : roomOf t c .answer .status ≡ 5 → ⊥
-  room-never-5 e = never-given (roomRules t c) 5 _ refl (room-exact .gives 5 _ (omega arith) .0 (e, refl))
+-- a room question never gives 5 or 13
+pub room-never-5 : RoomNever 5
+room-never-5 t c e = never-given (roomRules t c) 5 _ refl (room-exact t c .gives 5 _ (omega arith) .0 (e, refl))
 
-  pub room-never-13 : roomOf t c .answer .status ≡ 13 → ⊥
-  room-never-13 e = never-given (roomRules t c) 13 _ refl (room-exact .gives 13 _ (omega arith) .0 (e, refl))
+pub room-never-13 : RoomNever 13
+room-never-13 t c e = never-given (roomRules t c) 13 _ refl (room-exact t c .gives 13 _ (omega arith) .0 (e, refl))
 
-  -- and else gives what a move gives that is lent enough
-  pub room-is-judge : (srcLen dstLen : ℕ) → span t ≤ srcLen → need t c ≤ dstLen → judgeOf t c srcLen dstLen ≡ roomOf t c .answer
-  unfolding judgeOf roomOf moveFault roomFault
-  room-is-judge srcLen dstLen p q =
-      let last = when 13 0 (ltb dstLen (need t c)) in
-      let none-5 = spared 5 0 (ltb srcLen (span t)) (configFault t c orElse dstFault t c orElse last) (le-ltb srcLen (span t) p) in
-      let none-13 = when-zero 13 0 (ltb dstLen (need t c)) (le-ltb dstLen (need t c) q) in
-      let e : moveFault t c srcLen dstLen ≡ (roomFault t c orElse last) =
-      or-path refl none-5 ∙ or-path refl (sym (or-assoc _ _ _)) ∙ sym (or-assoc _ _ _) in
-      elim (ℕ-discrete (roomFault t c .status) 0) [
-        | yes z ↦ answer-given (moveFault t c srcLen dstLen) t c (status e ∙ status (or-none (roomFault t c) last z) ∙ none-13) ∙ sym (answer-given (roomFault t c) t c z)
-        | no z ↦ ap (λ (f : Fault). answerOf f t c) (e ∙ or-found (roomFault t c) last z)
-      ]
+-- and else gives what a move gives that is lent enough
+pub room-is-judge : RoomIsJudge
+unfolding judgeOf roomOf moveFault roomFault
+room-is-judge t c srcLen dstLen p q =
+    let last = when 13 0 (ltb dstLen (need t c)) in
+    let none-5 = spared 5 0 (ltb srcLen (span t)) (configFault t c orElse dstFault t c orElse last) (le-ltb srcLen (span t) p) in
+    let none-13 = when-zero 13 0 (ltb dstLen (need t c)) (le-ltb dstLen (need t c) q) in
+    let e : moveFault t c srcLen dstLen ≡ (roomFault t c orElse last) =
+    or-path refl none-5 ∙ or-path refl (sym (or-assoc _ _ _)) ∙ sym (or-assoc _ _ _) in
+    elim (ℕ-discrete (roomFault t c .status) 0) [
+      | yes z ↦ answer-given (moveFault t c srcLen dstLen) t c (status e ∙ status (or-none (roomFault t c) last z) ∙ none-13) ∙ sym (answer-given (roomFault t c) t c z)
+      | no z ↦ ap (λ (f : Fault). answerOf f t c) (e ∙ or-found (roomFault t c) last z)
+    ]
 
-module _ (t : Tensor) (start : ℕ) where
-  pub count-exact : Exact (countRules t start) (countOf t start .status) (countOf t start .dim)
-  unfolding countOf
-  count-exact = exact (countRules t start) (positive-count t start) (countFault t start) (count-chain t start) (count-status _ _) (count-dim _ _)
+pub count-exact : CountExact
+unfolding countOf
+count-exact t start =
+    exact (countRules t start) (positive-count t start) (countFault t start) (count-chain t start) (count-status _ _) (count-plain _ _) (count-dim _ _)
 
-  pub count-zeros : (countOf t start .status ≡ 0 → ⊥) → countOf t start ≡ noCount (fault (countOf t start .status) (countOf t start .dim))
-  unfolding countOf countAnswer
-  count-zeros h =
-      let f = countFault t start in
-      let e = if-fault f (noCount f) (record { status = 0; dim = 0; count = elements t start }) (λ z. h (count-status f (elements t start) ∙ z)) in
-      e ∙ ap (λ (x : Count). noCount (fault (x .status) (x .dim))) (sym e)
+pub count-zeros : CountZeros
+unfolding countOf countAnswer
+count-zeros t start h =
+    let f = countFault t start in
+    let e = if-fault f (noCount f) (record { status = 0; dim = 0; count = elements t start }) (λ z. h (count-status f (elements t start) ∙ z)) in
+    e ∙ ap (λ (x : Count). noCount (fault (x .status) (x .dim))) (sym e)
 
-module _ (t : Tensor) (s : SubConfig) (srcLen : ℕ) where
-  pub sub-exact : Exact (subRules t s srcLen) (subTensorOf t s srcLen .status) (subTensorOf t s srcLen .dim)
-  unfolding subTensorOf
-  sub-exact = exact (subRules t s srcLen) (positive-sub t s srcLen) (subFault t s srcLen) (sub-chain t s srcLen) (sub-status _ _ _) (sub-dim _ _ _)
+pub sub-exact : SubExact
+unfolding subTensorOf
+sub-exact t s srcLen =
+    exact (subRules t s srcLen) (positive-sub t s srcLen) (subFault t s srcLen) (sub-chain t s srcLen) (sub-status _ _ _) (sub-plain _ _ _) (sub-dim _ _ _)
 
-  pub sub-zeros : (subTensorOf t s srcLen .status ≡ 0 → ⊥) → subTensorOf t s srcLen ≡ noSub (fault (subTensorOf t s srcLen .status) (subTensorOf t s srcLen .dim))
-  unfolding subTensorOf subAnswer
-  sub-zeros h =
-      let f = subFault t s srcLen in
-      let e = if-fault f (noSub f) (record { status = 0; dim = 0; tensor = subOf t s; byte = subByte t s }) (λ z. h (sub-status f (subOf t s) (subByte t s) ∙ z)) in
-      e ∙ ap (λ (x : SubTensor). noSub (fault (x .status) (x .dim))) (sym e)
+pub sub-zeros : SubZeros
+unfolding subTensorOf subAnswer
+sub-zeros t s srcLen h =
+    let f = subFault t s srcLen in
+    let e = if-fault f (noSub f) (record { status = 0; dim = 0; tensor = subOf t s; byte = subByte t s }) (λ z. h (sub-status f (subOf t s) (subByte t s) ∙ z)) in
+    e ∙ ap (λ (x : SubTensor). noSub (fault (x .status) (x .dim))) (sym e)

@@ -8,6 +8,7 @@ use borrow.Author.Tests.{ne-eqb}
 use Rattle.plane.specs.Planes.{inner, resolved}
 use Rattle.plane.proofs.Resolving.{inner-out}
 use Rattle.plane.specs.Good.{GoodStrides}
+use Rattle.plane.specs.Claims.{StridesFall}
 
 module _ (n : ℕ) (shape stride : ℕ → ℕ) where
   inner-last : inner n shape stride 0 ≡ 1
@@ -32,15 +33,14 @@ module _ (n : ℕ) (shape stride : ℕ → ℕ) where
     falls-one : (d : ℕ) → suc d < n → resolved n shape stride (suc d) * shape (suc d) ≤ resolved n shape stride d
     falls-one d h = rw (inner-out n shape stride (suc d) h) at (g .least d (omega arith))
 
-    -- a stride is at least all that lies in a dimension further in
-    pub strides-fall : (d e : ℕ) → d < e → e < n → resolved n shape stride e * shape e ≤ resolved n shape stride d
-    strides-fall d zero l h = absurd (not-suc-le-zero l)
-    strides-fall d (suc e) l h =
+    falls : (d e : ℕ) → d < e → e < n → resolved n shape stride e * shape e ≤ resolved n shape stride d
+    falls d zero l h = absurd (not-suc-le-zero l)
+    falls d (suc e) l h =
         ⊎-elim
         (λ q. subst (λ (k : ℕ). resolved n shape stride (suc e) * shape (suc e) ≤ resolved n shape stride k) (sym q) (falls-one e h))
         (λ q.
         le-trans (falls-one e h)
-        (le-trans (le-mul-of-pos-right (resolved n shape stride e) (some e (omega arith))) (strides-fall d e q (omega arith))))
+        (le-trans (le-mul-of-pos-right (resolved n shape stride e) (some e (omega arith))) (falls d e q (omega arith))))
         (eq-or-lt-of-le (le-of-suc-le-suc l))
 
   -- a stride that is written is the resolved one
@@ -62,3 +62,7 @@ module _ (n : ℕ) (shape stride : ℕ → ℕ) where
 
       further : (d : ℕ) → d < n → suc d < n → inner n shape stride (n - suc d) ≤ stride d
       further d h q = rw (inner-out n shape stride (suc d) q, written-stays (suc d) (w (suc d) q .0)) (f d q)
+
+-- a stride is at least all that lies in a dimension further in
+pub strides-fall : StridesFall
+strides-fall n shape stride some g = falls n shape stride some g

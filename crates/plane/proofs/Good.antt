@@ -11,7 +11,8 @@ use Rattle.plane.specs.Arrays.{at, some}
 use Rattle.faults.specs.Faults.{lowest, outward}
 use Rattle.plane.specs.Planes.{badRank, badElement, badShape, shapeAt, strideAt, inner, resolved, badStrideAt, span, sourceFault}
 use Rattle.plane.specs.Moves.{extent, dstStrides, need, badPermAt, badOffset, badSize, badStep, badExtent, badDstOffset, configFault, dstFault, moveFault}
-use Rattle.plane.specs.Good.{GoodStrides, GoodSource, GoodConfig, GoodDst, GoodMove}
+use Rattle.plane.specs.Good.{GoodStrides, GoodSource, GoodConfig, GoodDst}
+use Rattle.plane.specs.Claims.{MoveGood, MoveClear}
 use Rattle.faults.proofs.Bools.{either-clear, neither, in-range}
 use Rattle.plane.proofs.Arrays.{some-clear, some-none}
 use Rattle.faults.proofs.Faults.{or-clear, or-zero, when-clear, when-zero, lowest-clear, lowest-zero, outward-clear, outward-zero}
@@ -122,28 +123,27 @@ module _ (t : Tensor) (c : Config) where
       or-zero _ _ (strides-clear 11 _ _ _ (omega arith) (g .strides))
       (lowest-zero 12 _ _ (λ i h. neither _ _ (lt-leb _ _ (g .offset i h .0)) (le-ltb _ _ (g .offset i h .1))))
 
-  -- ---- 1 to 13
+-- ---- 1 to 13
 
-  module _ (srcLen dstLen : ℕ) where
-    pub move-good : moveFault t c srcLen dstLen .status ≡ 0 → GoodMove t c srcLen dstLen
-    unfolding moveFault
-    move-good z =
-        let z1 = or-clear _ _ z in
-        let z5 = or-clear _ _ (z1 .1) in
-        let z6 = or-clear _ _ (z5 .1) in
-        let z11 = or-clear _ _ (z6 .1) in
-        record {
-          source = source-good t (z1 .0);
-          long = ltb-false srcLen (span t) (when-clear 5 0 (ltb srcLen (span t)) (omega arith) (z5 .0));
-          config = config-good (z6 .0);
-          destination = dst-good (z11 .0);
-          room = ltb-false dstLen (need t c) (when-clear 13 0 (ltb dstLen (need t c)) (omega arith) (z11 .1));
-        }
+pub move-good : MoveGood
+unfolding moveFault
+move-good t c srcLen dstLen z =
+    let z1 = or-clear _ _ z in
+    let z5 = or-clear _ _ (z1 .1) in
+    let z6 = or-clear _ _ (z5 .1) in
+    let z11 = or-clear _ _ (z6 .1) in
+    record {
+      source = source-good t (z1 .0);
+      long = ltb-false srcLen (span t) (when-clear 5 0 (ltb srcLen (span t)) (omega arith) (z5 .0));
+      config = config-good t c (z6 .0);
+      destination = dst-good t c (z11 .0);
+      room = ltb-false dstLen (need t c) (when-clear 13 0 (ltb dstLen (need t c)) (omega arith) (z11 .1));
+    }
 
-    pub move-clear : GoodMove t c srcLen dstLen → moveFault t c srcLen dstLen .status ≡ 0
-    unfolding moveFault
-    move-clear g =
-        or-zero _ _ (source-clear t (g .source))
-        (or-zero _ _ (when-zero 5 0 _ (le-ltb _ _ (g .long)))
-        (or-zero _ _ (config-clear (g .config))
-        (or-zero _ _ (dst-clear (g .destination)) (when-zero 13 0 _ (le-ltb _ _ (g .room))))))
+pub move-clear : MoveClear
+unfolding moveFault
+move-clear t c srcLen dstLen g =
+    or-zero _ _ (source-clear t (g .source))
+    (or-zero _ _ (when-zero 5 0 _ (le-ltb _ _ (g .long)))
+    (or-zero _ _ (config-clear t c (g .config))
+    (or-zero _ _ (dst-clear t c (g .destination)) (when-zero 13 0 _ (le-ltb _ _ (g .room))))))

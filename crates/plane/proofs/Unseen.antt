@@ -17,7 +17,7 @@ use Rattle.faults.specs.Faults.{when, _orElse_, lowest, ifFault}
 use Rattle.plane.specs.Planes.{badShape, badStride, shapeAt, strideAt, inner, resolved, badStrideAt, strides, srcStrides, span, sourceFault, sourceOf}
 use Rattle.plane.specs.Moves.{upward, count, extent, dstExtents, dstStrides, need, badPermAt, badOffset, badStep, badExtent, badDstOffset, configFault, dstFault, moveFault, roomFault, accepted, answerOf, judgeOf, roomOf}
 use Rattle.plane.specs.Helpers.{elements, countFault, countAnswer, countOf, isUnit, staying, subDim, rankFault, subFault, subOf, subByte, noSub, subAnswer, subTensorOf}
-use Rattle.plane.specs.Unseen.{SameTensor, SameConfig, SameSub}
+use Rattle.plane.specs.Unseen.{SameTensor, SameConfig, SameSub, UnseenTensor, UnseenConfig, UnseenSub}
 use Rattle.plane.proofs.Arrays.{firsts-same, sum-same, product-same, howMany-same, some-same}
 use Rattle.faults.proofs.Faults.{status, or-path, or-found, or-clear, lowest-same, outward-same, if-fault, if-none}
 use Rattle.plane.specs.Good.{GoodConfig}
@@ -262,15 +262,6 @@ module _ (t t′ : Tensor) (a : SameTensor t t′) where
   agrees : SameTensor t like
   agrees = record { rank = refl; element = refl; shape = a .shape; stride = a .stride }
 
-  pub source-unseen : sourceOf t ≡ sourceOf t′
-  source-unseen = its-same _ _ _ _ _ _ agrees ∙ across (λ (x : Tensor). sourceOf x)
-
-  pub room-unseen : (c c′ : Config) → SameConfig (t .rank) c c′ → roomOf t c ≡ roomOf t′ c′
-  room-unseen c c′ b = room-same _ _ _ _ _ _ agrees c c′ b ∙ across (λ (x : Tensor). roomOf x c′)
-
-  pub judge-unseen : (c c′ : Config) → SameConfig (t .rank) c c′ → (srcLen dstLen : ℕ) → judgeOf t c srcLen dstLen ≡ judgeOf t′ c′ srcLen dstLen
-  judge-unseen c c′ b sl dl = judge-same _ _ _ _ _ _ agrees c c′ b sl dl ∙ across (λ (x : Tensor). judgeOf x c′ sl dl)
-
   -- for the layers above: the fault of a move, and what an accepted move looks at
   pub fault-unseen : (c c′ : Config) → SameConfig (t .rank) c c′ → (srcLen dstLen : ℕ) → moveFault t c srcLen dstLen ≡ moveFault t′ c′ srcLen dstLen
   fault-unseen c c′ b sl dl = move-same _ _ _ _ _ _ agrees c c′ b sl dl ∙ across (λ (x : Tensor). moveFault x c′ sl dl)
@@ -291,11 +282,20 @@ module _ (t t′ : Tensor) (a : SameTensor t t′) where
       pub dst-strides-unseen : dstStrides t c ≡ dstStrides t′ c′
       dst-strides-unseen = dst-strides-same _ _ _ _ _ _ agrees c c′ b (config-clear t c g) ∙ across (λ (x : Tensor). dstStrides x c′)
 
-  pub count-unseen : (start : ℕ) → countOf t start ≡ countOf t′ start
-  count-unseen start = count-same _ _ _ _ _ _ agrees start ∙ across (λ (x : Tensor). countOf x start)
+pub source-unseen : UnseenTensor sourceOf
+source-unseen t t′ a = its-same _ _ _ _ _ _ (agrees t t′ a) ∙ across t t′ a (λ (x : Tensor). sourceOf x)
 
-  pub sub-unseen : (s s′ : SubConfig) → SameSub (t .rank) s s′ → (srcLen : ℕ) → subTensorOf t s srcLen ≡ subTensorOf t′ s′ srcLen
-  sub-unseen s s′ b sl =
-      sub-same _ _ _ _ _ _ agrees (s .rank) (s .offset) (s′ .offset) (s .size) (s′ .size) (record { offset = b .offset; size = b .size; rank = refl }) sl ∙
-      across (λ (x : Tensor). subTensorOf x (record { offset = s′ .offset; size = s′ .size; rank = s .rank }) sl) ∙
-      ap (λ (m : ℕ). subTensorOf t′ (record { offset = s′ .offset; size = s′ .size; rank = m }) sl) (b .rank)
+pub room-unseen : UnseenConfig roomOf
+room-unseen t t′ a c c′ b = room-same _ _ _ _ _ _ (agrees t t′ a) c c′ b ∙ across t t′ a (λ (x : Tensor). roomOf x c′)
+
+pub judge-unseen : (srcLen dstLen : ℕ) → UnseenConfig (λ t c. judgeOf t c srcLen dstLen)
+judge-unseen sl dl t t′ a c c′ b = judge-same _ _ _ _ _ _ (agrees t t′ a) c c′ b sl dl ∙ across t t′ a (λ (x : Tensor). judgeOf x c′ sl dl)
+
+pub count-unseen : (start : ℕ) → UnseenTensor (λ t. countOf t start)
+count-unseen start t t′ a = count-same _ _ _ _ _ _ (agrees t t′ a) start ∙ across t t′ a (λ (x : Tensor). countOf x start)
+
+pub sub-unseen : (srcLen : ℕ) → UnseenSub (λ t s. subTensorOf t s srcLen)
+sub-unseen sl t t′ a s s′ b =
+    sub-same _ _ _ _ _ _ (agrees t t′ a) (s .rank) (s .offset) (s′ .offset) (s .size) (s′ .size) (record { offset = b .offset; size = b .size; rank = refl }) sl ∙
+    across t t′ a (λ (x : Tensor). subTensorOf x (record { offset = s′ .offset; size = s′ .size; rank = s .rank }) sl) ∙
+    ap (λ (m : ℕ). subTensorOf t′ (record { offset = s′ .offset; size = s′ .size; rank = m }) sl) (b .rank)

@@ -9,6 +9,10 @@ use Rattle.plane.specs.Planes.{elementSize, shapeAt, strideAt, inner, re
 use Rattle.plane.specs.Moves.{extent, dstExtents, dstStrides, need}
 use Rattle.plane.specs.Helpers.{isUnit, excess}
 
+-- x is from a to b
+abbrev pub FromTo : ℕ → ℕ → ℕ → Type 0
+FromTo a b x = (a ≤ x) × (x ≤ b)
+
 -- every stride is at least its inner product and within the limit
 pub record GoodStrides (n : ℕ) (shape stride : ℕ → ℕ) : Type 0 where
   pub least : (d : ℕ) → d < n → inner n shape stride (n - suc d) ≤ resolved n shape stride d
@@ -16,9 +20,9 @@ pub record GoodStrides (n : ℕ) (shape stride : ℕ → ℕ) : Type 0 where
 
 -- 1 to 4
 pub record GoodSource (t : Tensor) : Type 0 where
-  pub rank : (1 ≤ t .rank) × (t .rank ≤ 4)
+  pub rank : FromTo 1 4 (t .rank)
   pub element : elementSize (t .«element_size») ≡ 0 → ⊥
-  pub shape : (d : ℕ) → d < t .rank → (1 ≤ shapeAt t d) × (shapeAt t d ≤ 65535)
+  pub shape : (d : ℕ) → d < t .rank → FromTo 1 65535 (shapeAt t d)
   pub strides : GoodStrides (t .rank) (shapeAt t) (strideAt t)
 
 -- 6 to 10
@@ -27,7 +31,7 @@ pub record GoodConfig (t : Tensor) (c : Config) : Type 0 where
   pub apart : (i j : ℕ) → i < t .rank → j < i → at (c .perm) j ≡ at (c .perm) i → ⊥
   pub offset : (d : ℕ) → d < t .rank → at (c .offset) d < shapeAt t d
   pub size : (d : ℕ) → d < t .rank → at (c .size) d + at (c .offset) d ≤ shapeAt t d
-  pub step : (d : ℕ) → d < t .rank → (1 ≤ at (c .step) d) × (at (c .step) d ≤ 65535)
+  pub step : (d : ℕ) → d < t .rank → FromTo 1 65535 (at (c .step) d)
   pub extent : (d : ℕ) → d < t .rank → extent t c d ≤ 65535
 
 -- 11 and 12
@@ -49,5 +53,5 @@ pub record GoodSub (t : Tensor) (s : SubConfig) (srcLen : ℕ) : Type 0 where
   pub long : span t ≤ srcLen
   pub offset : (d : ℕ) → d < t .rank → at (s .offset) d < shapeAt t d
   pub size : (d : ℕ) → d < t .rank → (1 ≤ at (s .size) d) × (at (s .size) d + at (s .offset) d ≤ shapeAt t d)
-  pub rank : (1 ≤ s .rank) × (s .rank ≤ t .rank)
+  pub rank : FromTo 1 (t .rank) (s .rank)
   pub units : excess t s ≤ howMany (t .rank) (isUnit (at (s .size)))

@@ -1,14 +1,38 @@
 -- What the contracts of private functions cite. No reader of a public contract needs this file.
-use Prim.Native.Nat.{ℕ, _+_, _-_, _*_, _^_}
+use Prim.Native.Nat.{ℕ, _+_, _-_, _*_, _^_, _≤_, _<_}
+use mathlib.Core.List.{List}
 use lib.Dec.{leb}
 use lib.ListN.{length}
+use Rattle.plane.specs.declared.Tensor.{Tensor}
+use Rattle.plane.specs.declared.Config.{Config}
 use Rattle.plane.specs.declared.Count.{Count}
 use Rattle.plane.specs.declared.strides.Strides.{Strides}
 use Rattle.plane.specs.declared.sub.Staying.{Staying}
 use Rattle.plane.specs.Arrays.{at, firsts, zeros, sum, product, howMany}
 use Rattle.faults.specs.Faults.{when, outward, ifFault}
-use Rattle.plane.specs.Planes.{badStrideAt, strides}
+use Rattle.plane.specs.Planes.{shapeAt, badStrideAt, strides}
+use Rattle.plane.specs.Moves.{extent}
 use Rattle.plane.specs.Helpers.{countAnswer, isUnit, staying}
+
+-- ---- what they ask
+
+-- the kept count of source dimension d can be worked out: its offset is within the shape, and its step is not 0
+abbrev pub Countable : Tensor → Config → ℕ → Type 0
+Countable t c d = (at (c .offset) d ≤ shapeAt t d) × (0 < at (c .step) d)
+
+-- and its extent is within the limit
+abbrev pub Extensive : Tensor → Config → ℕ → Type 0
+Extensive t c d = (at (c .offset) d ≤ shapeAt t d) × (0 < at (c .step) d) × (extent t c d ≤ 65535)
+
+-- entry i is an extent
+abbrev pub IsExtent : List ℕ → ℕ → Type 0
+IsExtent extent i = (0 < at extent i) × (at extent i ≤ 65535)
+
+-- a box from this offset on, of this extent, is not empty, and ends within what sums of 64 bits hold
+abbrev pub IsBox : List ℕ → List ℕ → ℕ → Type 0
+IsBox offset extent d = (0 < at extent d) × (at offset d + at extent d ≤ 131072)
+
+-- ---- what they answer
 
 -- strides resolved, or the fault and zeros
 unfoldable pub stridesOf : ℕ → ℕ → (ℕ → ℕ) → (ℕ → ℕ) → Strides

@@ -1,10 +1,12 @@
--- What agrees below the rank. Entries at or past the rank are not looked at, so such records and configurations have the same answers.
+-- Entries at or past the rank are not looked at: records and configurations that agree below the rank come to the same.
 use Prim.Native.Nat.{ℕ, _<_}
 use mathlib.Core.Path.{_≡_}
 use Rattle.plane.specs.declared.Tensor.{Tensor}
 use Rattle.plane.specs.declared.Config.{Config}
 use Rattle.plane.specs.declared.SubConfig.{SubConfig}
 use Rattle.plane.specs.Arrays.{at}
+
+-- ---- what agrees
 
 pub record SameTensor (t t′ : Tensor) : Type 0 where
   pub rank : t .rank ≡ t′ .rank
@@ -27,3 +29,17 @@ pub record SameSub (n : ℕ) (s s′ : SubConfig) : Type 0 where
   pub offset : (d : ℕ) → d < n → at (s .offset) d ≡ at (s′ .offset) d
   pub size : (d : ℕ) → d < n → at (s .size) d ≡ at (s′ .size) d
   pub rank : s .rank ≡ s′ .rank
+
+-- ---- what comes to the same: whatever f works out of
+
+-- a tensor record
+abbrev pub UnseenTensor : {A : Type 0} → (Tensor → A) → Type 0
+UnseenTensor f = (t t′ : Tensor) → SameTensor t t′ → f t ≡ f t′
+
+-- and a configuration
+abbrev pub UnseenConfig : {A : Type 0} → (Tensor → Config → A) → Type 0
+UnseenConfig f = (t t′ : Tensor) → SameTensor t t′ → (c c′ : Config) → SameConfig (t .rank) c c′ → f t c ≡ f t′ c′
+
+-- and a sub-tensor's numbers
+abbrev pub UnseenSub : {A : Type 0} → (Tensor → SubConfig → A) → Type 0
+UnseenSub f = (t t′ : Tensor) → SameTensor t t′ → (s s′ : SubConfig) → SameSub (t .rank) s s′ → f t s ≡ f t′ s′

@@ -14,9 +14,9 @@ use crate::strides::bytes;
 use crate::strides::resolve;
 ghost use mathlib.Core.Path.{_≡_};
 ghost use Prim.Native.Nat.{ℕ, _≤_, _<_};
-ghost use Rattle.plane.specs.Arrays.{at};
 ghost use Rattle.faults.specs.Faults.{_orElse_};
 ghost use Rattle.plane.specs.Moves.{dstExtents, configFault, dstFault, answerOf};
+ghost use Rattle.plane.specs.Private.{IsExtent};
 
 // 6 to 10
 fn config_fault(t: Tensor, c: Config) -> Fault
@@ -50,7 +50,7 @@ fn config_fault(t: Tensor, c: Config) -> Fault
 
 // 11 and 12, else the answer. extent has the extents in destination order.
 fn placement(t: Tensor, c: Config, extent: [u32; 4]) -> Answer
-    requires { ⌜ (t .rank ≤ 4) × (extent ≡ dstExtents t c) × ((i : ℕ) → i < t .rank → (0 < at extent i) × (at extent i ≤ 65535)) ⌝ }
+    requires { ⌜ (t .rank ≤ 4) × (extent ≡ dstExtents t c) × ((i : ℕ) → i < t .rank → IsExtent extent i) ⌝ }
     ensures { λ r. ⌜ r ≡ answerOf (dstFault t c) t c ⌝ }
 {
     let n = t.rank;

@@ -9,6 +9,7 @@ ghost use Rattle.plane.specs.Arrays.{at, or0};
 ghost use Rattle.faults.specs.Faults.{lowest};
 ghost use Rattle.plane.specs.Planes.{shapeAt};
 ghost use Rattle.plane.specs.Moves.{upward, extent, dstExtents, badExtent};
+ghost use Rattle.plane.specs.Private.{Countable, Extensive};
 
 // What is taken of a dimension: size 0 means all from the offset on.
 fn taken(shape: u32, offset: u32, size: u32) -> u32
@@ -45,7 +46,7 @@ fn extent_at(t: Tensor, c: Config, d: usize) -> u64
 
 // 10
 pub(crate) fn extent_fault(t: Tensor, c: Config) -> Fault
-    requires { ⌜ (t .rank ≤ 4) × ((d : ℕ) → d < t .rank → (at (c .offset) d ≤ shapeAt t d) × (0 < at (c .step) d)) ⌝ }
+    requires { ⌜ (t .rank ≤ 4) × ((d : ℕ) → d < t .rank → Countable t c d) ⌝ }
     ensures { λ r. ⌜ r ≡ lowest 10 (t .rank) (λ d. badExtent (extent t c d)) ⌝ }
 {
     let n = t.rank;
@@ -59,7 +60,7 @@ pub(crate) fn extent_fault(t: Tensor, c: Config) -> Fault
 
 // The extents in destination order.
 pub(crate) fn dst_extents(t: Tensor, c: Config) -> [u32; 4]
-    requires { ⌜ (t .rank ≤ 4) × ((i : ℕ) → i < t .rank → at (c .perm) i < t .rank) × ((d : ℕ) → d < t .rank → (at (c .offset) d ≤ shapeAt t d) × (0 < at (c .step) d) × (extent t c d ≤ 65535)) ⌝ }
+    requires { ⌜ (t .rank ≤ 4) × ((i : ℕ) → i < t .rank → at (c .perm) i < t .rank) × ((d : ℕ) → d < t .rank → Extensive t c d) ⌝ }
     ensures { λ r. ⌜ r ≡ dstExtents t c ⌝ }
 {
     let mut out = [0u32; 4];

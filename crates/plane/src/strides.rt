@@ -4,7 +4,7 @@ use crate::refusals::no_fault;
 ghost use mathlib.Core.Path.{_≡_};
 ghost use Prim.Native.Nat.{ℕ, _+_, _-_, _*_, _≤_, _<_};
 ghost use Rattle.plane.specs.Arrays.{at, firsts, sum, or0};
-ghost use Rattle.plane.specs.Private.{stridesOf, reach};
+ghost use Rattle.plane.specs.Private.{stridesOf, reach, IsBox};
 
 // Resolved strides, or the fault of the first that is refused, with zeros.
 pub(crate) struct Strides {
@@ -71,7 +71,7 @@ pub(crate) fn distance(n: u8, count: [u32; 4], stride: [u32; 4]) -> u64
 
 // The last coordinates of a box of these extents that starts at these offsets.
 fn last(n: u8, offset: [u32; 4], extent: [u32; 4]) -> [u32; 4]
-    requires { ⌜ (n ≤ 4) × ((d : ℕ) → d < n → (0 < at extent d) × (at offset d + at extent d ≤ 131072)) ⌝ }
+    requires { ⌜ (n ≤ 4) × ((d : ℕ) → d < n → IsBox offset extent d) ⌝ }
     ensures { λ r. ⌜ r ≡ firsts n (λ d. at offset d + at extent d - 1) ⌝ }
 {
     let mut out = [0u32; 4];
@@ -84,7 +84,7 @@ fn last(n: u8, offset: [u32; 4], extent: [u32; 4]) -> [u32; 4]
 
 // The bytes up to the end of the last element of such a box.
 pub(crate) fn bytes(n: u8, offset: [u32; 4], extent: [u32; 4], stride: [u32; 4], size: u8) -> u64
-    requires { ⌜ (n ≤ 4) × ((d : ℕ) → d < n → (0 < at extent d) × (at offset d + at extent d ≤ 131072)) ⌝ }
+    requires { ⌜ (n ≤ 4) × ((d : ℕ) → d < n → IsBox offset extent d) ⌝ }
     ensures { λ r. ⌜ r ≡ reach n (at offset) (at extent) (at stride) * size ⌝ }
 {
     (1 + distance(n, last(n, offset, extent), stride)) * (size as u64)

@@ -7,16 +7,14 @@ use mathlib.Core.List.{List}
 use lib.ListN.{length}
 use Rattle.plane.specs.declared.Tensor.{Tensor}
 use Rattle.plane.specs.declared.Config.{Config}
-use Rattle.faults.specs.Faults.{none, fault, when}
-use Rattle.plane.specs.Planes.{badRank}
+use Rattle.faults.specs.Faults.{fault}
 use Rattle.faults.specs.Exactness.{fromFirst, Exact}
-use Rattle.faults.proofs.Faults.{or-path, or-clear, or-none}
-use Rattle.faults.proofs.Chains.{Positive, chain, exact, or-last, whole-is}
+use Rattle.faults.proofs.Faults.{or-path}
+use Rattle.faults.proofs.Chains.{Positive, chain, exact, exact-fault, or-last, whole-is}
 use Rattle.record.specs.declared.Reading.{Reading}
-use Rattle.record.specs.Records.{tensorIn, configIn, badLength, stray, fieldsFault, readFault, writeFault, noReading, readOf, writtenRoom}
+use Rattle.record.specs.Records.{tensorIn, configIn, stray, fieldsFault, readFault, writeFault, noReading, readOf, writtenRoom}
 use Rattle.record.specs.Orders.{fieldsRules, readRules, writeRules}
-use Rattle.record.proofs.Strays.{none-stray}
-use Rattle.record.proofs.Answers.{read-refused, read-status, room-kept}
+use Rattle.record.proofs.Answers.{read-refused, read-given, read-status, room-kept}
 
 -- ---- the calls are held to their lists
 
@@ -51,19 +49,12 @@ module _ (bs : List ℕ) where
   pub read-exact : Exact (readRules bs) (readOf bs .status) (readOf bs .dim)
   read-exact =
       exact (readRules bs) (positive-read bs) (readFault bs) (read-chain bs) (read-status bs)
+      (λ z. ap (λ (r : Reading). r .dim) (read-given bs z))
       (λ h. ap (λ (r : Reading). r .dim) (sym (read-refused bs {f = readFault bs} refl h refl)))
 
 module _ (t : Tensor) (c : Config) where
   pub write-exact : (n : ℕ) → Exact (writeRules t c n) (writeFault t c n .status) (writeFault t c n .dim)
-  write-exact n = exact (writeRules t c n) (positive-write t c n) (writeFault t c n) (write-chain t c n) refl (λ h. refl)
-
-  -- an accepted write names no dimension
-  pub write-none : (n : ℕ) → writeFault t c n .status ≡ 0 → writeFault t c n ≡ none
-  unfolding writeFault fieldsFault
-  write-none n z =
-      let x = or-clear (when 25 0 (badLength n)) _ z in
-      let y = or-clear (when 1 0 (badRank (t .rank))) _ (x .1) in
-      or-none _ _ (x .0) ∙ or-none _ _ (y .0) ∙ none-stray t c (y .1)
+  write-exact n = exact-fault (writeRules t c n) (positive-write t c n) (writeFault t c n) (write-chain t c n)
 
   -- a refused write changes no byte
   pub write-kept : (room : List ℕ) → (writeFault t c (length room) .status ≡ 0 → ⊥) → writtenRoom t c room ≡ room

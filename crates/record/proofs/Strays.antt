@@ -9,8 +9,7 @@ use lib.Dec.{eqb}
 use Rattle.plane.specs.declared.Tensor.{Tensor}
 use Rattle.plane.specs.declared.Config.{Config}
 use Rattle.plane.specs.Arrays.{at, some}
-use Rattle.faults.specs.Faults.{none, lowest}
-use Rattle.faults.proofs.Faults.{Searched, searched-start, searched-more, lowest-clear}
+use Rattle.faults.proofs.Faults.{Searched, searched-start, searched-more}
 use Rattle.record.specs.Layout.{groupCount, group}
 use Rattle.record.specs.Records.{stray}
 
@@ -32,8 +31,3 @@ module _ (t : Tensor) (c : Config) where
 
   pub strays-from : t .rank ≤ 4 → Searched 28 4 (stray t c) (t .rank)
   strays-from h = searched-from 4 (t .rank) h stray-before
-
-  -- no fault: none at all
-  pub none-stray : lowest 28 4 (stray t c) .status ≡ 0 → lowest 28 4 (stray t c) ≡ none
-  none-stray z =
-      searched-from {num = 28} {bad = stray t c} 4 4 (omega arith) (λ d h. lowest-clear 28 4 (stray t c) d (omega arith) z h) .clear

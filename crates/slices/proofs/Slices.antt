@@ -171,18 +171,21 @@ module _ {t : Tensor} {s : SubConfig} {srcLen : ℕ} (g : GoodSub t s srcLen) wh
   unfolding subOf
   slice-meant src dst e m = record {
     long = m .long;
-    inside = λ x w. rw (places x) (m .inside (wide x) (wide-inside x w));
+    placed = λ x w.
+        let o = m .placed (wide x) (wide-inside x w) in record {
+          inside = rw (places x) (o .inside);
+          source = λ k b h.
+              let u = o .source (boxed-kept slice-boxed few (wide x) (wide-inside x w)) b h in
+              let f = sources x in (
+                rw length-drop (omega (arith, u .0)),
+                rw (places x) (u .1 ∙ ap (λ (j : ℕ). getD src j 0) (ap (λ (j : ℕ). j + b) (sym f) ∙ add-assoc _ _ b) ∙ sym (getD-drop (subByte t s) src _ 0)),
+              );
+          zeros = λ i h n b l. absurd (n (boxed-kept copy-boxed few-stay x w i h));
+        };
     apart = λ x y v w i h n.
         rw (places x, places y)
         (m .apart (wide x) (wide y) (wide-inside x v) (wide-inside y w) (subDim t s i) (subDim-below g i h)
         (λ q. n (sym (own x i h) ∙ q ∙ own y i h)));
-    source = λ x w k b h.
-        let o = m .source (wide x) (wide-inside x w) (boxed-kept slice-boxed few (wide x) (wide-inside x w)) b h in
-        let f = sources x in (
-          rw length-drop (omega (arith, o .0)),
-          rw (places x) (o .1 ∙ ap (λ (j : ℕ). getD src j 0) (ap (λ (j : ℕ). j + b) (sym f) ∙ add-assoc _ _ b) ∙ sym (getD-drop (subByte t s) src _ 0)),
-        );
-    zeros = λ x w i h n b l. absurd (n (boxed-kept copy-boxed few-stay x w i h));
     rest = λ k h. m .rest k (λ y w.
         let x : ℕ → ℕ = λ i. y (subDim t s i) in
         rw (← place-same t (sliced t s) (wide x) y (spread-back (at (s .size)) (excess t s) y (t .rank) (λ d l. rw (← slice-extent d l) (w d l))), ← places x)

@@ -82,7 +82,7 @@ number-of f y x number p q = elim (ℕ-discrete (f .status) 0) [
 -- and a call that names no dimension
 call-exact : (t : Table) (n h want : ℕ) {number : ℕ} → number ≡ callFault t n h want .status → Exact (callRules t n h want) number 0
 call-exact t n h want e =
-    exact (callRules t n h want) (omega arith) (callFault t n h want) (call-chain t n h want) e (λ b. sym (call-dim t n h want))
+    exact (callRules t n h want) (omega arith) (callFault t n h want) (call-chain t n h want) e (λ z. refl) (λ b. sym (call-dim t n h want))
 
 -- ---- the theorems
 
@@ -96,7 +96,7 @@ module _ (n : ℕ) where
   unfolding freshOf
   fresh-exact =
       exact (freshRules n) (omega arith) (when 17 0 (not (leb n limit))) (one-chain 17 _ (omega arith)) (fresh-number (leb n limit))
-      (λ b. sym (when-dim 17 (not (leb n limit))))
+      (λ z. refl) (λ b. sym (when-dim 17 (not (leb n limit))))
 
   pub fresh-refused : (freshOf n .status ≡ 0 → ⊥) → freshOf n ≡ record { status = 17; table = freshTable 0 }
   unfolding freshOf
@@ -111,6 +111,10 @@ module _ (t : Table) (n : ℕ) (j : Job) where
   unfolding prepareOf
   prepare-number = number-of (prepareFault t n j) _ _ (λ (r : Prepared). r .status) refl refl
 
+  prepare-plain : prepareFault t n j .status ≡ 0 → prepareOf t n j .dim ≡ 0
+  unfolding prepareOf
+  prepare-plain z = ap (λ (r : Prepared). r .dim) (if-none (prepareFault t n j) _ _ z)
+
   -- where there is a fault, the answer has its dimension, no handle, and the table that was given
   prepare-back : (prepareFault t n j .status ≡ 0 → ⊥) → prepareOf t n j ≡ record { status = prepareFault t n j .status; dim = prepareFault t n j .dim; handle = 0; table = t }
   unfolding prepareOf
@@ -119,7 +123,7 @@ module _ (t : Table) (n : ℕ) (j : Job) where
   pub prepare-exact : Exact (prepareRules t n j) (prepareOf t n j .status) (prepareOf t n j .dim)
   prepare-exact =
       exact (prepareRules t n j) (prepare-positive t n j) (prepareFault t n j) (prepare-chain t n j) prepare-number
-      (λ b. ap (λ (r : Prepared). r .dim) (prepare-back b))
+      prepare-plain (λ b. ap (λ (r : Prepared). r .dim) (prepare-back b))
 
   pub prepare-refused : (prepareOf t n j .status ≡ 0 → ⊥) → prepareOf t n j ≡ record { status = prepareOf t n j .status; dim = prepareOf t n j .dim; handle = 0; table = t }
   prepare-refused b =
@@ -193,4 +197,4 @@ module _ (t : Table) (h : ℕ) where
       (join (whole 18 (not (tableSound t)) ∷ []) (whole 23 (ltb 3 h) ∷ []) (one-chain 18 _ (omega arith)) (one-chain 23 _ (omega arith)))
       (poll-number (tableSound t) (ltb 3 h) (pollSlot (slotAt t h))
       (slot-number (isFree t h) (eqb (slotAt t h .state) 1) (eqb (slotAt t h .state) 2) (left (slotAt t h))))
-      (λ b. sym (or-dim _ _ (when-dim 18 _) (when-dim 23 _)))
+      (λ z. refl) (λ b. sym (or-dim _ _ (when-dim 18 _) (when-dim 23 _)))

@@ -1,0 +1,128 @@
+-- What the theorems claim of planes and moves: refusals, the room question, what acceptance tells, that all fits 64 bits, sub-tensors.
+-- Unseen has what they claim of entries past the rank.
+use Prim.Native.Nat.{ℕ, _+_, _*_, _^_, _≤_, _<_}
+use mathlib.Core.Path.{_≡_}
+use Rattle.plane.specs.declared.Tensor.{Tensor}
+use Rattle.plane.specs.declared.Config.{Config}
+use Rattle.plane.specs.declared.SubConfig.{SubConfig}
+use Rattle.plane.specs.Arrays.{at, zeros, product}
+use Rattle.faults.specs.Faults.{fault}
+use Rattle.faults.specs.Exactness.{Exact}
+use Rattle.plane.specs.Planes.{inner, resolved, span, sourceFault, sourceOf}
+use Rattle.plane.specs.Moves.{dstExtents, need, moveFault, refused, judgeOf, roomOf}
+use Rattle.plane.specs.Helpers.{subFault, noCount, countOf, noSub, subTensorOf}
+use Rattle.plane.specs.Orders.{sourceRules, moveRules, roomRules, countRules, subRules}
+use Rattle.plane.specs.Good.{GoodStrides, GoodSource, GoodConfig, GoodDst, GoodMove, GoodSub}
+
+-- ---- Refusals
+
+-- every answer is exact for the rules of its call
+abbrev pub SourceExact : Type 0
+SourceExact = (t : Tensor) → let f = sourceOf t .fault in Exact (sourceRules t) (f .status) (f .dim)
+
+abbrev pub JudgeExact : Type 0
+JudgeExact =
+    (t : Tensor) (c : Config) (srcLen dstLen : ℕ) →
+    let a = judgeOf t c srcLen dstLen in Exact (moveRules t c srcLen dstLen) (a .status) (a .dim)
+
+abbrev pub RoomExact : Type 0
+RoomExact = (t : Tensor) (c : Config) → let a = roomOf t c .answer in Exact (roomRules t c) (a .status) (a .dim)
+
+abbrev pub CountExact : Type 0
+CountExact = (t : Tensor) (start : ℕ) → let a = countOf t start in Exact (countRules t start) (a .status) (a .dim)
+
+abbrev pub SubExact : Type 0
+SubExact =
+    (t : Tensor) (s : SubConfig) (srcLen : ℕ) →
+    let a = subTensorOf t s srcLen in Exact (subRules t s srcLen) (a .status) (a .dim)
+
+-- besides its number and dimension a refused one is zeros
+abbrev pub SourceZeros : Type 0
+SourceZeros =
+    (t : Tensor) → (sourceOf t .fault .status ≡ 0 → ⊥) → sourceOf t ≡ record { fault = sourceOf t .fault; stride = zeros; span = 0 }
+
+abbrev pub JudgeZeros : Type 0
+JudgeZeros =
+    (t : Tensor) (c : Config) (srcLen dstLen : ℕ) →
+    let a = judgeOf t c srcLen dstLen in (a .status ≡ 0 → ⊥) → a ≡ refused (fault (a .status) (a .dim))
+
+abbrev pub RoomZeros : Type 0
+RoomZeros =
+    (t : Tensor) (c : Config) →
+    let a = roomOf t c .answer in (a .status ≡ 0 → ⊥) → roomOf t c ≡ record { answer = refused (fault (a .status) (a .dim)); span = 0 }
+
+abbrev pub CountZeros : Type 0
+CountZeros = (t : Tensor) (start : ℕ) → let a = countOf t start in (a .status ≡ 0 → ⊥) → a ≡ noCount (fault (a .status) (a .dim))
+
+abbrev pub SubZeros : Type 0
+SubZeros =
+    (t : Tensor) (s : SubConfig) (srcLen : ℕ) →
+    let a = subTensorOf t s srcLen in (a .status ≡ 0 → ⊥) → a ≡ noSub (fault (a .status) (a .dim))
+
+-- ---- The room question
+
+-- it never gives this number: 5 and 13
+abbrev pub RoomNever : ℕ → Type 0
+RoomNever num = (t : Tensor) (c : Config) → roomOf t c .answer .status ≡ num → ⊥
+
+-- it gives what a move gives that is lent enough
+abbrev pub RoomIsJudge : Type 0
+RoomIsJudge =
+    (t : Tensor) (c : Config) (srcLen dstLen : ℕ) → span t ≤ srcLen → need t c ≤ dstLen →
+    judgeOf t c srcLen dstLen ≡ roomOf t c .answer
+
+-- ---- What acceptance tells, and that it tells no less
+
+abbrev pub MoveGood : Type 0
+MoveGood = (t : Tensor) (c : Config) (srcLen dstLen : ℕ) → moveFault t c srcLen dstLen .status ≡ 0 → GoodMove t c srcLen dstLen
+
+abbrev pub MoveClear : Type 0
+MoveClear = (t : Tensor) (c : Config) (srcLen dstLen : ℕ) → GoodMove t c srcLen dstLen → moveFault t c srcLen dstLen .status ≡ 0
+
+abbrev pub SubGood : Type 0
+SubGood = (t : Tensor) (s : SubConfig) (srcLen : ℕ) → subFault t s srcLen .status ≡ 0 → GoodSub t s srcLen
+
+abbrev pub SubClear : Type 0
+SubClear = (t : Tensor) (s : SubConfig) (srcLen : ℕ) → GoodSub t s srcLen → subFault t s srcLen .status ≡ 0
+
+-- resolved strides fall inward: each is at least any inner one times its shape
+abbrev pub StridesFall : Type 0
+StridesFall =
+    (n : ℕ) (shape stride : ℕ → ℕ) → ((d : ℕ) → d < n → 1 ≤ shape d) → GoodStrides n shape stride →
+    (d e : ℕ) → d < e → e < n → resolved n shape stride e * shape e ≤ resolved n shape stride d
+
+-- ---- All fits 64 bits
+
+-- inner products
+abbrev pub InnerFits : Type 0
+InnerFits =
+    (n : ℕ) (shape stride : ℕ → ℕ) → GoodStrides n shape stride → ((d : ℕ) → d < n → shape d ≤ 65535) →
+    (k : ℕ) → k ≤ n → inner n shape stride k < 2 ^ 64
+
+abbrev pub SpanFits : Type 0
+SpanFits = (t : Tensor) → GoodSource t → span t < 2 ^ 64
+
+abbrev pub NeedFits : Type 0
+NeedFits = (t : Tensor) (c : Config) → GoodSource t → GoodConfig t c → GoodDst t c → need t c < 2 ^ 64
+
+-- the number of a destination's elements
+abbrev pub ExtentsFit : Type 0
+ExtentsFit = (t : Tensor) (c : Config) → GoodSource t → GoodConfig t c → product (t .rank) (at (dstExtents t c)) < 2 ^ 64
+
+-- a count: so 29 is never given
+abbrev pub ProductFits : Type 0
+ProductFits = (n : ℕ) (f : ℕ → ℕ) → n ≤ 4 → ((d : ℕ) → d < n → f d ≤ 65535) → product n f < 2 ^ 64
+
+-- ---- Sub-tensors
+
+-- an accepted one, used as a tensor record, is itself accepted
+abbrev pub SubAccepted : Type 0
+SubAccepted =
+    (t : Tensor) (s : SubConfig) (srcLen : ℕ) → subTensorOf t s srcLen .status ≡ 0 →
+    sourceFault (subTensorOf t s srcLen .tensor) .status ≡ 0
+
+-- and from its first byte on its span fits the source
+abbrev pub SubFits : Type 0
+SubFits =
+    (t : Tensor) (s : SubConfig) (srcLen : ℕ) → subTensorOf t s srcLen .status ≡ 0 →
+    subTensorOf t s srcLen .byte + span (subTensorOf t s srcLen .tensor) ≤ srcLen
