@@ -1,4 +1,4 @@
-//! The calls of CALLS.md: number, name, what it can give, arguments and answer of each. A new call is one more line here.
+//! The calls of CALLS.md: number, name, what it can give, arguments and answer of each. A new call is one more line.
 
 use crate::helpers::{self, Count, SubConfig, SubTensor};
 use crate::job::{self, Advanced, Job, Judged, Part};

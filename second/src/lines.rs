@@ -37,10 +37,10 @@ pub fn unhex(line: &[u8]) -> Result<Vec<u8>, u8> {
         if place == DIGITS_LIMIT {
             return Err(TOO_LONG);
         }
-        if place % 2 == 0 {
-            high = digit;
-        } else {
+        if place % 2 == 1 {
             bytes.push(16 * high + digit);
+        } else {
+            high = digit;
         }
     }
     if line.len() % 2 == 1 {
