@@ -3,9 +3,9 @@ use Prim.Native.Nat.{ℕ}
 use native.Mathlib.Omega.{arith}
 use mathlib.Core.Path.{_≡_}
 use mathlib.Core.Bool.{_||_}
-use mathlib.Core.List.{List, [], _∷_, _++_}
+use mathlib.Core.List.{[], _∷_, _++_}
 use lib.ListN.{length}
-use Rattle.faults.specs.Exactness.{whole, Exact}
+use Rattle.faults.specs.Exactness.{whole}
 use Rattle.plane.specs.Orders.{moveRules}
 use Rattle.faults.proofs.Faults.{if-fault}
 use Rattle.faults.proofs.Chains.{Positive, chain, exact-fault, join, one-chain}
@@ -13,6 +13,7 @@ use Rattle.plane.proofs.Exact.{move-chain}
 use Rattle.mover.specs.declared.Job.{Job}
 use Rattle.mover.specs.Within.{leaves, meets, jobFault, totalOf, verdictOf, further, advancedBy, advanceOf, advanceMemory}
 use Rattle.mover.specs.Orders.{jobRules}
+use Rattle.mover.specs.Claims.{JobExact, JobZeros, AdvanceExact, AdvanceZeros, AdvanceKept}
 
 pub positive-job : (n : ℕ) (j : Job) → Positive (jobRules n j)
 positive-job n j = omega arith
@@ -26,25 +27,24 @@ job-chain n j =
     join first (rules ++ last) (one-chain 20 _ (omega arith))
     (join rules last (move-chain (j .tensor) (j .config) (j .source .length) (j .destination .length)) (one-chain 21 _ (omega arith)))
 
-module _ (n : ℕ) (j : Job) where
-  pub job-exact : Exact (jobRules n j) (verdictOf n j .status) (verdictOf n j .dim)
-  unfolding verdictOf
-  job-exact = exact-fault (jobRules n j) (positive-job n j) (jobFault n j) (job-chain n j)
+pub job-exact : JobExact
+unfolding verdictOf
+job-exact n j = exact-fault (jobRules n j) (positive-job n j) (jobFault n j) (job-chain n j)
 
-  pub job-zeros : (verdictOf n j .status ≡ 0 → ⊥) → verdictOf n j .total ≡ 0
-  unfolding verdictOf
-  job-zeros h = if-fault (jobFault n j) 0 (totalOf j) h
+pub job-zeros : JobZeros
+unfolding verdictOf
+job-zeros n j h = if-fault (jobFault n j) 0 (totalOf j) h
 
-module _ (j : Job) (from budget : ℕ) (m : List ℕ) where
-  pub advance-exact : Exact (jobRules (length m) j) (advanceOf j from budget m .status) (advanceOf j from budget m .dim)
-  unfolding advanceOf
-  advance-exact = exact-fault (jobRules (length m) j) (positive-job (length m) j) (jobFault (length m) j) (job-chain (length m) j)
+pub advance-exact : AdvanceExact
+unfolding advanceOf
+advance-exact j from budget m =
+    exact-fault (jobRules (length m) j) (positive-job (length m) j) (jobFault (length m) j) (job-chain (length m) j)
 
-  pub advance-zeros : (advanceOf j from budget m .status ≡ 0 → ⊥) → advanceOf j from budget m .count ≡ 0
-  unfolding advanceOf
-  advance-zeros h = if-fault (jobFault (length m) j) 0 (further j from budget) h
+pub advance-zeros : AdvanceZeros
+unfolding advanceOf
+advance-zeros j from budget m h = if-fault (jobFault (length m) j) 0 (further j from budget) h
 
-  -- a refused one changes no byte
-  pub advance-kept : (advanceOf j from budget m .status ≡ 0 → ⊥) → advanceMemory j from budget m ≡ m
-  unfolding advanceOf advanceMemory
-  advance-kept h = if-fault (jobFault (length m) j) m (advancedBy j from (further j from budget) m) h
+-- a refused one changes no byte
+pub advance-kept : AdvanceKept
+unfolding advanceOf advanceMemory
+advance-kept j from budget m h = if-fault (jobFault (length m) j) m (advancedBy j from (further j from budget) m) h

@@ -27,6 +27,7 @@ use Rattle.mover.specs.declared.Part.{Part}
 use Rattle.mover.specs.declared.Job.{Job}
 use Rattle.mover.specs.Moved.{extentAt, total, stored, moved, moveMemory}
 use Rattle.mover.specs.Within.{leaves, meets, jobFault, totalOf, bytesOf, advancedBy}
+use Rattle.mover.specs.Claims.{Has, MoveLaws, JobLaws}
 use Rattle.mover.proofs.Runs.{getD-sets-out, length-take-most}
 use Rattle.mover.proofs.Parts.{part-own, part-other, part-again}
 
@@ -216,3 +217,36 @@ module _ (m : List ℕ) (j : Job) (z : jobFault (length m) j .status ≡ 0) wher
   advanced-whole =
       advanced-destination 0 (totalOf j) ∙
       sym (job-whole (length m) j z (bytesOf (j .source) m) (bytesOf (j .destination) m) source-length destination-length)
+
+-- ---- together
+
+pub move-laws : MoveLaws
+move-laws t c src = record {
+  none = moved-none t c src;
+  more = moved-more t c src;
+  long = moved-length t c src;
+  whole = λ dst z. moved-whole t c src dst (sym (judged t c (length src) (length dst)) ∙ z);
+}
+
+-- a byte that is none of a part's lies before it or past it
+beside : (p : Part) (k : ℕ) → (Has p k → ⊥) → (k < p .start) ⊎ (p .start + p .length ≤ k)
+beside p k h = elim (decLe (p .start + p .length) k) [
+  | yes a ↦ inr a
+  | no a ↦ elim (decLe (p .start) k) [
+    | yes b ↦ absurd (h (b, omega arith))
+    | no b ↦ inl (omega arith)
+  ]
+]
+
+pub job-laws : JobLaws
+job-laws m j z = record {
+  source = source-fits (length m) j z;
+  destination = destination-fits (length m) j z;
+  apart = λ i a b. ⊎-elim (λ (e : j .source .start + j .source .length ≤ j .destination .start). omega (arith, a .1, b .0)) (λ e. omega (arith, a .0, b .1)) (job-apart (length m) j z);
+  accepted = job-judged m j z;
+  none = advanced-none m j z;
+  more = advanced-more m j z;
+  whole = advanced-whole m j z;
+  outside = λ from n k h. advanced-outside j from n m k (beside (j .destination) k h);
+  long = λ from n. advanced-length j from n m;
+}

@@ -5,51 +5,49 @@ use native.Mathlib.Nat.{max-comm, min-comm}
 use native.Mathlib.Decide.{decLt}
 use native.Mathlib.Omega.{arith}
 use mathlib.Core.Path.{_≡_, sym, ap, _∙_}
-use mathlib.Core.Bool.{true, false, _&&_, true≢false}
+use mathlib.Core.Bool.{false, _&&_, true≢false}
 use borrow.Author.Tests.{ltb-true, lt-ltb, le-ltb}
 use lib.Dec.{ltb}
 use Rattle.mover.specs.declared.Part.{Part}
-use Rattle.mover.specs.Within.{leaves, meets}
-use Rattle.mover.specs.Claims.{Has}
+use Rattle.mover.specs.Within.{meets}
+use Rattle.mover.specs.Claims.{MeetsShared, SharedMeets, MeetsApart, LeavesEnd, LeavesByte, ByteLeaves, EmptyLeaves}
 
 -- ---- two parts meet exactly if they share a byte
 
-module _ (p q : Part) where
-  pub meets-shared : meets p q ≡ true → (i : ℕ) × Has p i × Has q i
-  meets-shared e =
-      let l = ltb-true (max (p .start) (q .start)) (min (p .start + p .length) (q .start + q .length)) e in
-      (max (p .start) (q .start), (omega arith, omega arith), (omega arith, omega arith))
+pub meets-shared : MeetsShared
+meets-shared p q e =
+    let l = ltb-true (max (p .start) (q .start)) (min (p .start + p .length) (q .start + q .length)) e in
+    (max (p .start) (q .start), (omega arith, omega arith), (omega arith, omega arith))
 
-  pub shared-meets : (i : ℕ) → Has p i → Has q i → meets p q ≡ true
-  shared-meets i a b = lt-ltb (max (p .start) (q .start)) (min (p .start + p .length) (q .start + q .length)) (omega arith)
+pub shared-meets : SharedMeets
+shared-meets p q i a b = lt-ltb (max (p .start) (q .start)) (min (p .start + p .length) (q .start + q .length)) (omega arith)
 
-  -- and else share none
-  pub meets-apart : meets p q ≡ false → (i : ℕ) → Has p i → Has q i → ⊥
-  meets-apart e i a b = true≢false (sym (shared-meets i a b) ∙ e)
+-- and else share none
+pub meets-apart : MeetsApart
+meets-apart p q e i a b = true≢false (sym (shared-meets p q i a b) ∙ e)
 
 -- ---- a part leaves a memory of n bytes exactly if it ends past byte n; so an empty one leaves it exactly if it starts past byte n
 
-module _ (n : ℕ) (p : Part) where
-  pub leaves-end : leaves n p ≡ ltb n (p .start + p .length)
-  leaves-end = elim (decLt n (p .start)) [
-    | yes l ↦ rw (lt-ltb n (p .start) l, lt-ltb n (p .start + p .length) (omega arith))
-    | no l ↦ elim (decLt (n - p .start) (p .length)) [
-      | yes m ↦ rw (le-ltb n (p .start) (omega arith), lt-ltb (n - p .start) (p .length) m, lt-ltb n (p .start + p .length) (omega arith))
-      | no m ↦ rw (le-ltb n (p .start) (omega arith), le-ltb (n - p .start) (p .length) (omega arith), le-ltb n (p .start + p .length) (omega arith))
-    ]
+pub leaves-end : LeavesEnd
+leaves-end n p = elim (decLt n (p .start)) [
+  | yes l ↦ rw (lt-ltb n (p .start) l, lt-ltb n (p .start + p .length) (omega arith))
+  | no l ↦ elim (decLt (n - p .start) (p .length)) [
+    | yes m ↦ rw (le-ltb n (p .start) (omega arith), lt-ltb (n - p .start) (p .length) m, lt-ltb n (p .start + p .length) (omega arith))
+    | no m ↦ rw (le-ltb n (p .start) (omega arith), le-ltb (n - p .start) (p .length) (omega arith), le-ltb n (p .start + p .length) (omega arith))
   ]
+]
 
-  -- one that has bytes leaves it exactly if one of them does
-  pub leaves-byte : leaves n p ≡ true → 0 < p .length → (i : ℕ) × Has p i × (n ≤ i)
-  leaves-byte e h =
-      let l = ltb-true n (p .start + p .length) (sym leaves-end ∙ e) in
-      (p .start + p .length - 1, (omega arith, omega arith), omega arith)
+-- one that has bytes leaves it exactly if one of them does
+pub leaves-byte : LeavesByte
+leaves-byte n p e h =
+    let l = ltb-true n (p .start + p .length) (sym (leaves-end n p) ∙ e) in
+    (p .start + p .length - 1, (omega arith, omega arith), omega arith)
 
-  pub byte-leaves : (i : ℕ) → Has p i → n ≤ i → leaves n p ≡ true
-  byte-leaves i a h = leaves-end ∙ lt-ltb n (p .start + p .length) (omega arith)
+pub byte-leaves : ByteLeaves
+byte-leaves n p i a h = leaves-end n p ∙ lt-ltb n (p .start + p .length) (omega arith)
 
-  pub empty-leaves : p .length ≡ 0 → leaves n p ≡ ltb n (p .start)
-  empty-leaves e = let s : p .start + p .length ≡ p .start = omega arith in leaves-end ∙ ap (ltb n) s
+pub empty-leaves : EmptyLeaves
+empty-leaves n p e = let s : p .start + p .length ≡ p .start = omega arith in leaves-end n p ∙ ap (ltb n) s
 
 -- ---- how the code tells
 

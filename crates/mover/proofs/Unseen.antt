@@ -10,7 +10,6 @@ use lib.ListN.{length, take, drop, replicate}
 use lib.Seq.{sets}
 use Rattle.plane.specs.declared.Tensor.{Tensor}
 use Rattle.plane.specs.declared.Config.{Config}
-use Rattle.plane.specs.declared.SubConfig.{SubConfig}
 use Rattle.plane.specs.declared.SubTensor.{SubTensor}
 use Rattle.faults.specs.declared.Fault.{Fault}
 use Rattle.plane.specs.Arrays.{at, sum, product, every}
@@ -21,10 +20,10 @@ use Rattle.plane.proofs.Arrays.{sum-same, every-same}
 use Rattle.faults.proofs.Faults.{status, or-path, if-fault, if-none}
 use Rattle.plane.specs.Good.{GoodConfig}
 use Rattle.plane.proofs.Good.{move-good}
-use Rattle.plane.specs.Unseen.{SameTensor, SameConfig, SameSub}
+use Rattle.plane.specs.Unseen.{SameTensor, SameConfig, UnseenConfig, UnseenSub}
 use Rattle.plane.proofs.Unseen.{fault-unseen, strides-unseen, kept-unseen, extents-unseen, dst-strides-unseen, sub-unseen}
 use Rattle.mover.specs.declared.Job.{Job}
-use Rattle.mover.specs.Claims.{SameJob}
+use Rattle.mover.specs.Claims.{SameJob, UnseenJob}
 use Rattle.mover.specs.Element.{dimOf, kOf, isKept, areKept, sourcePlace, place, element}
 use Rattle.mover.specs.Moved.{total, perStep, coordOf, stored, moved, moveMemory}
 use Rattle.mover.specs.Within.{leaves, meets, jobFault, totalOf, verdictOf, bytesOf, advancedBy, further, advanceOf, advanceMemory}
@@ -103,18 +102,16 @@ module _ (t t′ : Tensor) (c c′ : Config) (a : SameTensor t t′) (b : SameCo
     moved-unseen src from (suc n) dst =
         same-stored src (from + n) (moved t c src from n dst) ∙ ap (stored t′ c′ src (from + n)) (moved-unseen src from n dst)
 
-  -- a whole move
-  pub move-unseen : (src dst : List ℕ) → moveMemory t c src dst ≡ moveMemory t′ c′ src dst
-  unfolding moveMemory
-  move-unseen src dst =
-      same-ifFault (moveFault t c (length src) (length dst)) _ dst _ _ (fault-unseen t t′ a c c′ b (length src) (length dst))
-      (λ z.
-      let g = move-good t c (length src) (length dst) z .config in
-      moved-unseen g src 0 (total t c) dst ∙ ap (λ (n : ℕ). moved t′ c′ src 0 n dst) (total-unseen g))
+-- a whole move
+pub move-unseen : (src dst : List ℕ) → UnseenConfig (λ t c. moveMemory t c src dst)
+unfolding moveMemory
+move-unseen src dst t t′ a c c′ b =
+    same-ifFault (moveFault t c (length src) (length dst)) _ dst _ _ (fault-unseen t t′ a c c′ b (length src) (length dst))
+    (λ z.
+    let g = move-good t c (length src) (length dst) z .config in
+    moved-unseen t t′ c c′ a b g src 0 (total t c) dst ∙ ap (λ (n : ℕ). moved t′ c′ src 0 n dst) (total-unseen t t′ c c′ a b g))
 
--- ---- a move between two parts of one memory
-
--- ---- jobs with the same parts
+-- ---- a move between two parts of one memory: jobs with the same parts
 
 module _ (j j′ : Job) (s : SameJob j j′) where
   pub job-fault-unseen : (n : ℕ) → jobFault n j ≡ jobFault n j′
@@ -141,29 +138,36 @@ module _ (j j′ : Job) (s : SameJob j j′) where
         (moved-unseen (j .tensor) (j′ .tensor) (j .config) (j′ .config) (s .tensor) (s .config) (job-good n j z .config) (bytesOf (j .source) m) from k (bytesOf (j .destination) m)) ∙
         (λ i. sets m (f i .start) (moved (j′ .tensor) (j′ .config) (bytesOf (e i) m) from k (bytesOf (f i) m)))
 
-  -- its judgement
-  pub job-unseen : (n : ℕ) → verdictOf n j ≡ verdictOf n j′
-  unfolding verdictOf
-  job-unseen n =
-      let e = job-fault-unseen n in
-      let w = same-ifFault (jobFault n j) (jobFault n j′) 0 (totalOf j) (totalOf j′) e (same-total n) in
-      λ i. record { status = e i .status; dim = e i .dim; total = w i }
+    same-further : (from budget : ℕ) → further j from budget ≡ further j′ from budget
+    same-further from budget = ap (λ (x : ℕ). min budget (x - from)) same-total
 
-  -- a stretch of it: the answer and the memory
-  pub advance-unseen : (from budget : ℕ) (m : List ℕ) → (advanceOf j from budget m ≡ advanceOf j′ from budget m) × (advanceMemory j from budget m ≡ advanceMemory j′ from budget m)
-  unfolding advanceOf advanceMemory
-  advance-unseen from budget m =
-      let e = job-fault-unseen (length m) in
-      let count : jobFault (length m) j .status ≡ 0 → further j from budget ≡ further j′ from budget =
-      λ z. ap (λ (x : ℕ). min budget (x - from)) (same-total (length m) z) in
-      let w = same-ifFault (jobFault (length m) j) (jobFault (length m) j′) 0 (further j from budget) (further j′ from budget) e count in (
-        λ i. record { status = e i .status; dim = e i .dim; count = w i },
-        same-ifFault (jobFault (length m) j) (jobFault (length m) j′) m _ _ e
-            (λ z. same-advanced (length m) z from (further j from budget) m ∙ ap (λ (k : ℕ). advancedBy j′ from k m) (count z)),
-      )
+-- its judgement
+pub job-unseen : (n : ℕ) → UnseenJob (verdictOf n)
+unfolding verdictOf
+job-unseen n j j′ s =
+    let e = job-fault-unseen j j′ s n in
+    let w = same-ifFault (jobFault n j) (jobFault n j′) 0 (totalOf j) (totalOf j′) e (same-total j j′ s n) in
+    λ i. record { status = e i .status; dim = e i .dim; total = w i }
+
+-- a stretch of it: the answer, and the memory
+pub advance-unseen : (from budget : ℕ) (m : List ℕ) → UnseenJob (λ j. advanceOf j from budget m)
+unfolding advanceOf
+advance-unseen from budget m j j′ s =
+    let e = job-fault-unseen j j′ s (length m) in
+    let w = same-ifFault (jobFault (length m) j) (jobFault (length m) j′) 0 (further j from budget) (further j′ from budget) e
+    (λ z. same-further j j′ s (length m) z from budget) in
+    λ i. record { status = e i .status; dim = e i .dim; count = w i }
+
+pub advance-memory-unseen : (from budget : ℕ) (m : List ℕ) → UnseenJob (λ j. advanceMemory j from budget m)
+unfolding advanceMemory
+advance-memory-unseen from budget m j j′ s =
+    same-ifFault (jobFault (length m) j) (jobFault (length m) j′) m _ _ (job-fault-unseen j j′ s (length m))
+    (λ z.
+    same-advanced j j′ s (length m) z from (further j from budget) m ∙
+    ap (λ (k : ℕ). advancedBy j′ from k m) (same-further j j′ s (length m) z from budget))
 
 -- ---- the part of a source at which a sub-tensor starts
 
-pub part-unseen : (t t′ : Tensor) (s s′ : SubConfig) → SameTensor t t′ → SameSub (t .rank) s s′ → (src : List ℕ) → subPart t s src ≡ subPart t′ s′ src
-part-unseen t t′ s s′ a b src =
+pub part-unseen : (src : List ℕ) → UnseenSub (λ t s. subPart t s src)
+part-unseen src t t′ a s s′ b =
     part-by t s src ∙ ap (λ (r : SubTensor). partBy r src) (sub-unseen (length src) t t′ a s s′ b) ∙ sym (part-by t′ s′ src)

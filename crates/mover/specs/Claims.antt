@@ -1,13 +1,78 @@
--- What the theorems besides demand 2 claim: which bytes a part has, and which jobs agree.
+-- What the theorems claim besides demand 2 and the work: refusals of a job, which bytes a part has, which jobs agree, and what the layer
+-- above may use.
 use Prim.Native.Nat.{ℕ, _+_, _≤_, _<_}
 use mathlib.Core.Path.{_≡_}
+use mathlib.Core.Bool.{true, false}
+use mathlib.Core.List.{List}
+use lib.Dec.{ltb}
+use lib.ListN.{length, getD}
+use Rattle.faults.specs.Exactness.{Exact}
+use Rattle.plane.specs.declared.Tensor.{Tensor}
+use Rattle.plane.specs.declared.Config.{Config}
 use Rattle.plane.specs.Unseen.{SameTensor, SameConfig}
 use Rattle.mover.specs.declared.Part.{Part}
 use Rattle.mover.specs.declared.Job.{Job}
+use Rattle.mover.specs.Moved.{total, moved, moveMemory}
+use Rattle.mover.specs.Within.{leaves, meets, jobFault, totalOf, verdictOf, bytesOf, advancedBy, advanceOf, advanceMemory}
+use Rattle.mover.specs.Orders.{jobRules}
+use Rattle.mover.specs.Demand2.{Accepted}
+
+-- ---- Refusals of a move inside one memory
+
+-- every answer is exact for the rules of a job
+abbrev pub JobExact : Type 0
+JobExact = (n : ℕ) (j : Job) → let a = verdictOf n j in Exact (jobRules n j) (a .status) (a .dim)
+
+abbrev pub AdvanceExact : Type 0
+AdvanceExact =
+    (j : Job) (from budget : ℕ) (m : List ℕ) →
+    let a = advanceOf j from budget m in Exact (jobRules (length m) j) (a .status) (a .dim)
+
+-- besides its number and dimension a refused one is 0
+abbrev pub JobZeros : Type 0
+JobZeros = (n : ℕ) (j : Job) → let a = verdictOf n j in (a .status ≡ 0 → ⊥) → a .total ≡ 0
+
+abbrev pub AdvanceZeros : Type 0
+AdvanceZeros =
+    (j : Job) (from budget : ℕ) (m : List ℕ) → let a = advanceOf j from budget m in (a .status ≡ 0 → ⊥) → a .count ≡ 0
+
+-- a refused stretch changes no byte
+abbrev pub AdvanceKept : Type 0
+AdvanceKept =
+    (j : Job) (from budget : ℕ) (m : List ℕ) → (advanceOf j from budget m .status ≡ 0 → ⊥) → advanceMemory j from budget m ≡ m
+
+-- ---- Parts
 
 -- the byte i is one of the part's
 abbrev pub Has : Part → ℕ → Type 0
 Has p i = (p .start ≤ i) × (i < p .start + p .length)
+
+-- two parts meet exactly if they share a byte
+abbrev pub MeetsShared : Type 0
+MeetsShared = (p q : Part) → meets p q ≡ true → (i : ℕ) × Has p i × Has q i
+
+abbrev pub SharedMeets : Type 0
+SharedMeets = (p q : Part) (i : ℕ) → Has p i → Has q i → meets p q ≡ true
+
+abbrev pub MeetsApart : Type 0
+MeetsApart = (p q : Part) → meets p q ≡ false → (i : ℕ) → Has p i → Has q i → ⊥
+
+-- a part leaves a memory of n bytes exactly if it ends past it
+abbrev pub LeavesEnd : Type 0
+LeavesEnd = (n : ℕ) (p : Part) → leaves n p ≡ ltb n (p .start + p .length)
+
+-- one that has bytes, exactly if one of them lies outside
+abbrev pub LeavesByte : Type 0
+LeavesByte = (n : ℕ) (p : Part) → leaves n p ≡ true → 0 < p .length → (i : ℕ) × Has p i × (n ≤ i)
+
+abbrev pub ByteLeaves : Type 0
+ByteLeaves = (n : ℕ) (p : Part) (i : ℕ) → Has p i → n ≤ i → leaves n p ≡ true
+
+-- an empty one, exactly if it starts past the end
+abbrev pub EmptyLeaves : Type 0
+EmptyLeaves = (n : ℕ) (p : Part) → p .length ≡ 0 → leaves n p ≡ ltb n (p .start)
+
+-- ---- Entries past the rank
 
 -- jobs with the same parts, whose records and configurations agree below the rank
 pub record SameJob (j j′ : Job) : Type 0 where
@@ -15,3 +80,45 @@ pub record SameJob (j j′ : Job) : Type 0 where
   pub destination : j .destination ≡ j′ .destination
   pub tensor : SameTensor (j .tensor) (j′ .tensor)
   pub config : SameConfig (j .tensor .rank) (j .config) (j′ .config)
+
+-- whatever f works out of a job comes to the same
+abbrev pub UnseenJob : {A : Type 0} → (Job → A) → Type 0
+UnseenJob f = (j j′ : Job) → SameJob j j′ → f j ≡ f j′
+
+-- ---- What the layer above may use
+
+-- the elements of a move from the source src
+pub record MovedLaws (t : Tensor) (c : Config) (src : List ℕ) : Type 0 where
+  -- no element moved changes nothing
+  pub none : (from : ℕ) (dst : List ℕ) → moved t c src from 0 dst ≡ dst
+  -- k elements, then l more, are k + l
+  pub more : (n k l : ℕ) (dst : List ℕ) → moved t c src (n + k) l (moved t c src n k dst) ≡ moved t c src n (k + l) dst
+  -- the destination keeps its length
+  pub long : (from n : ℕ) (dst : List ℕ) → length (moved t c src from n dst) ≡ length dst
+  -- all of them are the whole move, where it is accepted
+  pub whole : (dst : List ℕ) → Accepted t c src dst → moveMemory t c src dst ≡ moved t c src 0 (total t c) dst
+
+abbrev pub MoveLaws : Type 0
+MoveLaws = (t : Tensor) (c : Config) (src : List ℕ) → MovedLaws t c src
+
+-- a job over the memory m
+pub record PassingJob (m : List ℕ) (j : Job) : Type 0 where
+  -- its parts lie in the memory, and share no byte
+  pub source : j .source .start + j .source .length ≤ length m
+  pub destination : j .destination .start + j .destination .length ≤ length m
+  pub apart : (i : ℕ) → Has (j .source) i → Has (j .destination) i → ⊥
+  -- the move between them is accepted
+  pub accepted : Accepted (j .tensor) (j .config) (bytesOf (j .source) m) (bytesOf (j .destination) m)
+  -- no element moved changes nothing; k elements, then l more, are k + l
+  pub none : (from : ℕ) → advancedBy j from 0 m ≡ m
+  pub more : (n k l : ℕ) → advancedBy j (n + k) l (advancedBy j n k m) ≡ advancedBy j n (k + l) m
+  -- all of them leave in the destination part what the whole move leaves there
+  pub whole : bytesOf (j .destination) (advancedBy j 0 (totalOf j) m)
+      ≡ moveMemory (j .tensor) (j .config) (bytesOf (j .source) m) (bytesOf (j .destination) m)
+  -- only bytes of the destination part change, and the memory keeps its length
+  pub outside : (from n k : ℕ) → (Has (j .destination) k → ⊥) → getD (advancedBy j from n m) k 0 ≡ getD m k 0
+  pub long : (from n : ℕ) → length (advancedBy j from n m) ≡ length m
+
+-- one that no number refuses
+abbrev pub JobLaws : Type 0
+JobLaws = (m : List ℕ) (j : Job) → jobFault (length m) j .status ≡ 0 → PassingJob m j

@@ -1,4 +1,5 @@
--- What a reader must believe; Orders is what the theorems on refusals claim, and Private holds what only private functions cite.
+-- What a reader must believe. Then what the theorems claim: Orders (the rules of a job, in order), Demand2, Work (how much is moved),
+-- Claims (all else). Private holds what only private functions cite.
 pub mod Element
 pub mod Moved
 pub mod Within

@@ -12,11 +12,13 @@ use Rattle.plane.specs.declared.Answer.{Answer}
 use Rattle.plane.specs.Arrays.{at, sum}
 use Rattle.plane.specs.Planes.{srcStrides, sourceAt}
 use Rattle.plane.specs.Moves.{count, dstExtents, dstStrides}
+use Rattle.mover.specs.declared.Part.{Part}
 use Rattle.mover.specs.declared.plan.Axis.{Axis}
 use Rattle.mover.specs.declared.plan.Plan.{Plan}
 use Rattle.mover.specs.declared.engine.Origin.{Origin}
 use Rattle.mover.specs.declared.engine.Origin.the-variants.{Lent, Inside}
 use Rattle.mover.specs.Element.{dimOf}
+use Rattle.mover.specs.Within.{bytesOf}
 
 -- ---- the plan of an accepted move
 
@@ -139,7 +141,25 @@ unfoldable pub movedBy : Plan → List ℕ → ℕ → ℕ → List ℕ → List
 movedBy p s from zero d = d
 movedBy p s from (suc n) d = putNumber p s (from + n) (movedBy p s from n d)
 
+-- ---- what the engine leaves of the destination d, from a source that stands in s or in d
+
+-- a run of size bytes, from `at` of the source to `to`
+abbrev pub runCopied : Origin → List ℕ → List ℕ → ℕ → ℕ → ℕ → List ℕ
+runCopied o s d at to size = sets d to (take size (drop at (sourceBytes o s d)))
+
+-- the element at the coordinates
+abbrev pub putFrom : Origin → Plan → List ℕ → List ℕ → ℕ → ℕ → ℕ → ℕ → List ℕ
+putFrom o p s d c0 c1 c2 c3 = putAt p (sourceBytes o s d) c0 c1 c2 c3 d
+
+-- n elements from number `from` on
+abbrev pub movedFrom : Origin → Plan → List ℕ → List ℕ → ℕ → ℕ → List ℕ
+movedFrom o p s d from n = movedBy p (sourceBytes o s d) from n d
+
 -- ---- a move within one memory
+
+-- the memory m with n elements moved from its part s to its part d
+abbrev pub movedWithin : Plan → Part → Part → List ℕ → ℕ → ℕ → List ℕ
+movedWithin p s d m from n = sets m (d .start) (movedBy p (bytesOf s m) from n (bytesOf d m))
 
 -- the l bytes of m from a on. (`sets m b e` is m with the bytes from b on replaced by e.)
 abbrev pub stretch : List ℕ → ℕ → ℕ → List ℕ
@@ -179,6 +199,13 @@ placeEnd p =
 abbrev pub RunsApart : Origin → ℕ → ℕ → ℕ → ℕ → Type 0
 RunsApart Lent a a' b b' = Unit
 RunsApart Inside a a' b b' = (a' ≤ b) ⊎ (b' ≤ a)
+
+-- a part lies in a memory, and two parts share no byte
+abbrev pub LiesIn : Part → List ℕ → Type 0
+LiesIn p m = p .start + p .length ≤ length m
+
+abbrev pub PartsApart : Part → Part → Type 0
+PartsApart p q = RunsApart Inside (p .start) (p .start + p .length) (q .start) (q .start + q .length)
 
 pub record Ready (o : Origin) (p : Plan) (s d : List ℕ) : Type 0 where
   pub sized : 0 < p .size

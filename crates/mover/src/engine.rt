@@ -6,9 +6,10 @@ use crate::plan::Plan;
 ghost use mathlib.Core.Path.{_≡_};
 ghost use mathlib.Core.Bool.{true};
 ghost use Prim.Native.Nat.{_+_, _-_, _^_, min, _≤_, _<_};
-ghost use lib.ListN.{length, take, drop, replicate};
+ghost use lib.ListN.{length, replicate};
 ghost use lib.Seq.{sets};
-ghost use Rattle.mover.specs.Private.{sourceBytes, axisKept, planKept, spotOf, placeOf, homeOf, putAt, planTotal, movedBy, InExtents, Ready, RunsApart};
+ghost use Rattle.mover.specs.Private.{sourceBytes, axisKept, planKept, spotOf, placeOf, homeOf, planTotal, runCopied, putFrom, movedFrom};
+ghost use Rattle.mover.specs.Private.{movedWithin, InExtents, Ready, RunsApart, LiesIn, PartsApart};
 ghost use Rattle.mover.specs.Within.{bytesOf};
 
 // Where the source's bytes stand: in the slice lent for reading, or in the destination's own.
@@ -119,7 +120,7 @@ fn copy(src: &[u8], dst: &mut [u8], origin: Origin, at: usize, to: usize, size: 
     requires { ⌜ at + size ≤ length (sourceBytes origin (now src) (now dst)) ⌝ }
     requires { ⌜ to + size ≤ length (now dst) ⌝ }
     requires { ⌜ RunsApart origin at (at + size) to (to + size) ⌝ }
-    ensures { λ _. ⌜ now (dst .exit) ≡ sets (now (dst .entry)) to (take size (drop at (sourceBytes origin (now (src .entry)) (now (dst .entry))))) ⌝ }
+    ensures { λ _. ⌜ now (dst .exit) ≡ runCopied origin (now (src .entry)) (now (dst .entry)) at to size ⌝ }
 {
     let mut i = 0;
     while i < size {
@@ -145,7 +146,7 @@ fn element(
 )
     requires { ⌜ Ready origin plan (now src) (now dst) ⌝ }
     requires { ⌜ InExtents plan c0 c1 c2 c3 ⌝ }
-    ensures { λ _. ⌜ now (dst .exit) ≡ putAt plan (sourceBytes origin (now (src .entry)) (now (dst .entry))) c0 c1 c2 c3 (now (dst .entry)) ⌝ }
+    ensures { λ _. ⌜ now (dst .exit) ≡ putFrom origin plan (now (src .entry)) (now (dst .entry)) c0 c1 c2 c3 ⌝ }
 {
     let to = place(plan, c0, c1, c2, c3);
     if all_kept(plan, c0, c1, c2, c3) {
@@ -168,7 +169,7 @@ pub(crate) fn advance(
     requires { ⌜ Ready origin plan (now src) (now dst) ⌝ }
     requires { ⌜ from ≤ planTotal plan ⌝ }
     ensures counted { λ r. ⌜ r ≡ min budget (planTotal plan - from) ⌝ }
-    ensures written { λ r. ⌜ now (dst .exit) ≡ movedBy plan (sourceBytes origin (now (src .entry)) (now (dst .entry))) from r (now (dst .entry)) ⌝ }
+    ensures written { λ r. ⌜ now (dst .exit) ≡ movedFrom origin plan (now (src .entry)) (now (dst .entry)) from r ⌝ }
 {
     let e0 = plan.d0.extent;
     let e1 = plan.d1.extent;
@@ -211,12 +212,12 @@ pub(crate) fn advance_within(
     from: usize,
     budget: usize,
 ) -> usize
-    requires { ⌜ (source .start + source .length ≤ length (now mem)) × (destination .start + destination .length ≤ length (now mem)) ⌝ }
-    requires { ⌜ RunsApart Origin.Inside (source .start) (source .start + source .length) (destination .start) (destination .start + destination .length) ⌝ }
+    requires { ⌜ LiesIn source (now mem) × LiesIn destination (now mem) ⌝ }
+    requires { ⌜ PartsApart source destination ⌝ }
     requires { ⌜ Ready Origin.Lent plan (bytesOf source (now mem)) (bytesOf destination (now mem)) ⌝ }
     requires { ⌜ from ≤ planTotal plan ⌝ }
     ensures counted { λ r. ⌜ r ≡ min budget (planTotal plan - from) ⌝ }
-    ensures written { λ r. ⌜ now (mem .exit) ≡ sets (now (mem .entry)) (destination .start) (movedBy plan (bytesOf source (now (mem .entry))) from r (bytesOf destination (now (mem .entry)))) ⌝ }
+    ensures written { λ r. ⌜ now (mem .exit) ≡ movedWithin plan source destination (now (mem .entry)) from r ⌝ }
 {
     let none = [0u8; 0];
     let placed = Plan {

@@ -1,27 +1,25 @@
 -- The calls that are made for a rank: what is refused and what is given. Assumes nothing.
-use Prim.Native.Nat.{ℕ}
-use mathlib.Core.Path.{_≡_, ap}
-use mathlib.Core.Bool.{true, false, cond}
+use mathlib.Core.Path.{ap}
+use mathlib.Core.Bool.{cond}
 use Rattle.plane.specs.declared.Config.{Config}
 use Rattle.plane.specs.Arrays.{at}
 use Rattle.plane.specs.Planes.{badRank}
 use Rattle.plane.specs.Settings.{configOf, zeroConfig}
-use Rattle.plane.specs.Unseen.{SameConfig}
 use Rattle.plane.proofs.Arrays.{firsts-same}
 use Rattle.ready_made.specs.ReadyMade.{cutTo, madeFor}
+use Rattle.ready_made.specs.Claims.{MadeGiven, MadeRefused, MadeUnseen}
 
 -- a configuration is refused for a wrong rank alone, and then all its fields are 0
-module _ (n : ℕ) (c : Config) where
-  pub made-given : badRank n ≡ false → madeFor n c ≡ record { status = 0; config = cutTo n c }
-  unfolding madeFor
-  made-given e = simp e
+pub made-given : MadeGiven
+unfolding madeFor
+made-given n c e = simp e
 
-  pub made-refused : badRank n ≡ true → madeFor n c ≡ record { status = 1; config = zeroConfig }
-  unfolding madeFor
-  made-refused e = simp e
+pub made-refused : MadeRefused
+unfolding madeFor
+made-refused n c e = simp e
 
 -- arguments that agree below the rank make the same configuration
-pub made-unseen : (n : ℕ) (c c′ : Config) → SameConfig n c c′ → madeFor n c ≡ madeFor n c′
+pub made-unseen : MadeUnseen
 unfolding madeFor cutTo
 made-unseen n c c′ b =
     let o = firsts-same 0 n (at (c .offset)) (at (c′ .offset)) (b .offset) in

@@ -4,16 +4,16 @@ use Prim.Native.Nat.{ℕ}
 use native.Mathlib.Omega.{arith}
 use mathlib.Core.Path.{_≡_, refl, sym, ap, _∙_}
 use mathlib.Core.List.{List}
-use lib.ListN.{length}
 use Rattle.plane.specs.declared.Tensor.{Tensor}
 use Rattle.plane.specs.declared.Config.{Config}
 use Rattle.faults.specs.Faults.{fault}
-use Rattle.faults.specs.Exactness.{fromFirst, Exact}
+use Rattle.faults.specs.Exactness.{fromFirst}
 use Rattle.faults.proofs.Faults.{or-path}
 use Rattle.faults.proofs.Chains.{Positive, chain, exact, exact-fault, or-last, whole-is}
 use Rattle.record.specs.declared.Reading.{Reading}
-use Rattle.record.specs.Records.{tensorIn, configIn, stray, fieldsFault, readFault, writeFault, noReading, readOf, writtenRoom}
+use Rattle.record.specs.Records.{tensorIn, configIn, stray, fieldsFault, readFault, writeFault, noReading, readOf}
 use Rattle.record.specs.Orders.{fieldsRules, readRules, writeRules}
+use Rattle.record.specs.Claims.{ReadExact, WriteExact, ReadZeros, WriteKept}
 use Rattle.record.proofs.Answers.{read-refused, read-given, read-status, room-kept}
 
 -- ---- the calls are held to their lists
@@ -40,22 +40,20 @@ positive-write t c n = omega arith
 
 -- ---- the theorems
 
-module _ (bs : List ℕ) where
-  pub read-zeros : (readOf bs .status ≡ 0 → ⊥) → readOf bs ≡ noReading (fault (readOf bs .status) (readOf bs .dim))
-  read-zeros h =
-      let e = sym (read-refused bs refl (λ z. h (read-status bs ∙ z)) refl) in
-      e ∙ ap (λ (r : Reading). noReading (fault (r .status) (r .dim))) (sym e)
+pub read-zeros : ReadZeros
+read-zeros bs h =
+    let e = sym (read-refused bs refl (λ z. h (read-status bs ∙ z)) refl) in
+    e ∙ ap (λ (r : Reading). noReading (fault (r .status) (r .dim))) (sym e)
 
-  pub read-exact : Exact (readRules bs) (readOf bs .status) (readOf bs .dim)
-  read-exact =
-      exact (readRules bs) (positive-read bs) (readFault bs) (read-chain bs) (read-status bs)
-      (λ z. ap (λ (r : Reading). r .dim) (read-given bs z))
-      (λ h. ap (λ (r : Reading). r .dim) (sym (read-refused bs {f = readFault bs} refl h refl)))
+pub read-exact : ReadExact
+read-exact bs =
+    exact (readRules bs) (positive-read bs) (readFault bs) (read-chain bs) (read-status bs)
+    (λ z. ap (λ (r : Reading). r .dim) (read-given bs z))
+    (λ h. ap (λ (r : Reading). r .dim) (sym (read-refused bs {f = readFault bs} refl h refl)))
 
-module _ (t : Tensor) (c : Config) where
-  pub write-exact : (n : ℕ) → Exact (writeRules t c n) (writeFault t c n .status) (writeFault t c n .dim)
-  write-exact n = exact-fault (writeRules t c n) (positive-write t c n) (writeFault t c n) (write-chain t c n)
+pub write-exact : WriteExact
+write-exact t c n = exact-fault (writeRules t c n) (positive-write t c n) (writeFault t c n) (write-chain t c n)
 
-  -- a refused write changes no byte
-  pub write-kept : (room : List ℕ) → (writeFault t c (length room) .status ≡ 0 → ⊥) → writtenRoom t c room ≡ room
-  write-kept room h = room-kept t c room h
+-- a refused write changes no byte
+pub write-kept : WriteKept
+write-kept t c room h = room-kept t c room h

@@ -5,7 +5,7 @@ use native.Mathlib.Nat.{not-suc-le-zero}
 use native.Mathlib.Decide.{ℕ-discrete}
 use native.Mathlib.Omega.{arith}
 use mathlib.Core.Path.{_≡_, refl, sym, ap, ap₂, subst, _∙_}
-use mathlib.Core.Logic.{_⊎_, inl, inr, _↔_}
+use mathlib.Core.Logic.{inl, inr}
 use mathlib.Core.Bool.{true, false}
 use mathlib.Core.List.{List, [], _∷_, _++_}
 use borrow.Author.Tests.{eqb-true, ltb-true, not-false}
@@ -23,7 +23,7 @@ use Rattle.faults.proofs.Faults.{status, or-clear, when-clear}
 use Rattle.record.specs.declared.Reading.{Reading}
 use Rattle.record.specs.Layout.{little, number, part, joined, recordLength, mark, theVersion, versionIn, rankIn, sizeIn, headBytes, groupCount, group, width, start, fourBytes}
 use Rattle.record.specs.Records.{groupIn, tensorIn, configIn, recordBytes, badLength, badMark, badVersion, fieldsFault, readFault, writeFault, reading, readOf, writtenRoom}
-use Rattle.record.specs.RoundTrip.{Fits, Bytes, OneWriting}
+use Rattle.record.specs.RoundTrip.{Fits, Bytes, OneWriting, ReadBack, WriteBack, SameFieldsSameBytes, AcceptedOnce, RefusedOrOnce}
 use Rattle.record.proofs.Parts.{part-cons, length-part, part-append, part-part, sum-step, sum-const, joined-same, part-joined, joined-parts}
 use Rattle.record.proofs.Digits.{bytes-part, length-little, number-little, little-number, number-fits, number-two, length-four}
 use Rattle.record.proofs.Laying.{length-record}
@@ -93,10 +93,10 @@ module _ (t : Tensor) (c : Config) (f : Fits t c) where
   record-back : fieldsFault t c .status ≡ 0 → readOf (recordBytes t c) ≡ reading t c
   record-back z = read-given (recordBytes t c) (status fault-back ∙ z) ∙ ap₂ reading tensor-back config-back
 
-  -- the theorem: what is written reads back
-  pub read-back : (room : List ℕ) → writeFault t c (length room) .status ≡ 0 → readOf (writtenRoom t c room) ≡ reading t c
-  unfolding writeFault
-  read-back room z = ap readOf (room-written t c room z) ∙ record-back (or-clear _ _ z .1)
+-- the theorem: what is written reads back
+pub read-back : ReadBack
+unfolding writeFault
+read-back t c f room z = ap readOf (room-written t c room z) ∙ record-back t c f (or-clear _ _ z .1)
 
 -- ---- b. Bytes read and accepted come back
 
@@ -220,7 +220,7 @@ passed bs z =
     }
 
 -- the theorem: what is read and accepted is accepted by a write too, and written over any room of 131 bytes gives the bytes
-pub write-back : (bs room : List ℕ) → Bytes bs → readOf bs .status ≡ 0 → length room ≡ recordLength → (writeFault (readOf bs .tensor) (readOf bs .config) (length room) .status ≡ 0) × (writtenRoom (readOf bs .tensor) (readOf bs .config) room ≡ bs)
+pub write-back : WriteBack
 write-back bs room b z l =
     let y = sym (read-status bs) ∙ z in
     let p = passed bs y in
@@ -232,14 +232,14 @@ write-back bs room b z l =
 
 -- ---- c. Equal fields and equal bytes go together
 
-pub same-fields-same-bytes : (t : Tensor) (c : Config) (t′ : Tensor) (c′ : Config) → Fits t c → Fits t′ c′ → (recordBytes t c ≡ recordBytes t′ c′) ↔ ((t ≡ t′) × (c ≡ c′))
+pub same-fields-same-bytes : SameFieldsSameBytes
 same-fields-same-bytes t c t′ c′ f f′ = (
   λ e. (sym (tensor-back t c f) ∙ ap tensorIn e ∙ tensor-back t′ c′ f′, sym (config-back t c f) ∙ ap configIn e ∙ config-back t′ c′ f′),
   λ e. ap₂ recordBytes (e .0) (e .1),
 )
 
 -- a read accepts exactly the bytes that are one writing
-pub accepted-once : (bs : List ℕ) → Bytes bs → (readOf bs .status ≡ 0) ↔ OneWriting bs
+pub accepted-once : AcceptedOnce
 accepted-once bs b = (
   λ z. once (sym (read-status bs) ∙ z),
   λ w. subst (λ (l : List ℕ). readOf l .status ≡ 0) (w .is) (ap (λ (r : Reading). r .status) (record-back (w .tensor) (w .config) (w .fits) (w .accepts))),
@@ -259,7 +259,7 @@ accepted-once bs b = (
         }
 
 -- so any bytes are refused (`Exact` has the number), or are one writing
-pub refused-or-once : (bs : List ℕ) → Bytes bs → (readOf bs .status ≡ 0 → ⊥) ⊎ OneWriting bs
+pub refused-or-once : RefusedOrOnce
 refused-or-once bs b = elim (ℕ-discrete (readOf bs .status) 0) [
   | yes z ↦ inr (accepted-once bs b .0 z)
   | no z ↦ inl z

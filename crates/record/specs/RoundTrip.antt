@@ -1,13 +1,14 @@
 -- What "there and back" says: fields that fit a record, bytes, and bytes that are the writing of one pair of fields.
 use Prim.Native.Nat.{ℕ, _^_, _<_}
 use mathlib.Core.Path.{_≡_}
+use mathlib.Core.Logic.{_⊎_, _↔_}
 use mathlib.Core.List.{List}
 use lib.ListN.{length}
 use Rattle.plane.specs.declared.Tensor.{Tensor}
 use Rattle.plane.specs.declared.Config.{Config}
 use Rattle.plane.specs.Arrays.{at}
-use Rattle.record.specs.Layout.{groupCount, group, width}
-use Rattle.record.specs.Records.{recordBytes, fieldsFault}
+use Rattle.record.specs.Layout.{recordLength, groupCount, group, width}
+use Rattle.record.specs.Records.{recordBytes, fieldsFault, writeFault, reading, readOf, writtenRoom}
 
 -- what the types of the code say of the fields: arrays of four entries, and each entry fits its bytes
 pub record Fits (t : Tensor) (c : Config) : Type 0 where
@@ -28,3 +29,32 @@ pub record OneWriting (bs : List ℕ) : Type 0 where
   pub accepts : fieldsFault tensor config .status ≡ 0
   pub is : recordBytes tensor config ≡ bs
   pub only : (t : Tensor) (c : Config) → Fits t c → recordBytes t c ≡ bs → (t ≡ tensor) × (c ≡ config)
+
+-- ---- the sentences
+
+-- what is written reads back to the same fields
+abbrev pub ReadBack : Type 0
+ReadBack =
+    (t : Tensor) (c : Config) → Fits t c → (room : List ℕ) → writeFault t c (length room) .status ≡ 0 →
+    readOf (writtenRoom t c room) ≡ reading t c
+
+-- what is read and accepted, a write accepts too, and writes over any room of 131 bytes as the same bytes
+abbrev pub WriteBack : Type 0
+WriteBack =
+    (bs room : List ℕ) → Bytes bs → readOf bs .status ≡ 0 → length room ≡ recordLength →
+    let r = readOf bs in
+    (writeFault (r .tensor) (r .config) (length room) .status ≡ 0) × (writtenRoom (r .tensor) (r .config) room ≡ bs)
+
+-- equal fields and equal bytes go together
+abbrev pub SameFieldsSameBytes : Type 0
+SameFieldsSameBytes =
+    (t : Tensor) (c : Config) (t′ : Tensor) (c′ : Config) → Fits t c → Fits t′ c′ →
+    (recordBytes t c ≡ recordBytes t′ c′) ↔ ((t ≡ t′) × (c ≡ c′))
+
+-- a read accepts exactly the bytes that are one writing
+abbrev pub AcceptedOnce : Type 0
+AcceptedOnce = (bs : List ℕ) → Bytes bs → (readOf bs .status ≡ 0) ↔ OneWriting bs
+
+-- so any bytes are refused (`ReadExact` has the number), or are one writing
+abbrev pub RefusedOrOnce : Type 0
+RefusedOrOnce = (bs : List ℕ) → Bytes bs → (readOf bs .status ≡ 0 → ⊥) ⊎ OneWriting bs
