@@ -156,7 +156,7 @@ fn more() {
     );
 }
 
-// K: a row of a plane as a tensor of its own, and the part of the source at which it starts.
+// K: a row of a plane as a tensor of its own. A copy of it reads the source from its byte on.
 fn sub() {
     let twelve = TWELVE;
     let t = compact(2, 1, [3, 4, 0, 0]);
@@ -165,15 +165,15 @@ fn sub() {
         size: [1, 2, 0, 0],
         rank: 1,
     };
-    let k = plane::sub_tensor(t, row, twelve.len());
+    let k = mover::sub_tensor(t, row, &twelve);
     print(b"K", k.status as u64);
     let tensor = k.tensor;
     print_entry(b" shape", tensor.shape[0]);
     print_entry(b" stride", tensor.stride[0]);
     print(b" byte", k.byte);
-    io::write_all(STDOUT_FILENO, b":");
-    print_bytes(mover::sub_part(t, row, &twelve));
     end_line();
+    let part = mover::sub_part(t, row, &twelve);
+    run(b"K", tensor, copy_of(1), part, &mut [0u8; 2]);
 }
 
 // Run only: the count of (2,4,8) from 1; sizes 65,280 and 65,281 with 255 zeros before.

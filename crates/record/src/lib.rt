@@ -7,6 +7,7 @@ mod checks; // 1 and 28, which reading and writing share
 mod reader; // a record read
 mod writer; // a record written
 
+pub use layout::LENGTH;
 use plane::Config;
 use plane::Tensor;
 pub use reader::read;

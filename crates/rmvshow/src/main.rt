@@ -23,7 +23,7 @@ fn moved(bytes: &[u8], source: &[u8], room: &mut [u8]) -> Answer {
 // What follows the record is the source, up to 16,384 bytes; the rest is not read. An input that ends within the record is
 // refused as a record.
 fn main() {
-    let mut bytes = [0u8; 131];
+    let mut bytes = [0u8; record::LENGTH];
     let mut source = [0u8; 16384];
     let mut room = [0u8; 32768];
     let n = io::read_full(STDIN_FILENO, &mut bytes);

@@ -1,0 +1,182 @@
+// preview: a small picture becomes a thumbnail and a turned picture. A program to copy from: first a whole move between two lent
+// slices, then two transfers that take turns over one memory.
+use libc::STDOUT_FILENO;
+use plane::Config;
+use plane::Tensor;
+use transfers::Job;
+use transfers::Part;
+use transfers::Poll;
+use transfers::Table;
+
+const HEIGHT: usize = 4;
+
+const WIDTH: usize = 6;
+
+const PICTURE: usize = HEIGHT * WIDTH; // bytes of the picture
+
+const SMALL: usize = PICTURE / 4; // bytes of its thumbnail: every second row, and of it every second byte
+
+// The memory of the transfers: the picture, its thumbnail, and the picture turned.
+const SMALL_AT: usize = PICTURE;
+
+const TURNED_AT: usize = SMALL_AT + SMALL;
+
+const MEMORY: usize = TURNED_AT + PICTURE;
+
+const BUDGET: u64 = 4; // elements that one step may move
+
+// The bytes of the picture: their digits are row and column.
+const PIXELS: [u8; PICTURE] =
+    *b"\x11\x12\x13\x14\x15\x16\x21\x22\x23\x24\x25\x26\x31\x32\x33\x34\x35\x36\x41\x42\x43\x44\x45\x46";
+
+// The tensor record of the picture. Stride 0: its rows follow one another without gaps.
+fn picture() -> Tensor {
+    Tensor {
+        rank: 2,
+        element_size: 1,
+        shape: [HEIGHT as u32, WIDTH as u32, 0, 0],
+        stride: [0; 4],
+    }
+}
+
+// A ready-made configuration with one setting: one row in two, one byte in two.
+fn thumbnail() -> Config {
+    let copy = ready_made::copy(2);
+    copy.config.with_step([2, 2, 0, 0])
+}
+
+// Rows become columns.
+fn turned() -> Config {
+    let turn = ready_made::permute(2, [1, 0, 0, 0]);
+    turn.config
+}
+
+fn print_status(text: &[u8], status: u8) {
+    io::write_all(STDOUT_FILENO, text);
+    io::write_all(STDOUT_FILENO, b" ");
+    io::print_decimal(STDOUT_FILENO, status as u64);
+    io::write_all(STDOUT_FILENO, b"\n");
+}
+
+// Whether byte i is the last of its row.
+fn ends_row(i: usize, width: usize) -> bool {
+    if width == 0 {
+        return false;
+    }
+    i % width == width - 1
+}
+
+fn print_byte(byte: u8, is_last: bool) {
+    io::print_hex(STDOUT_FILENO, byte as u64, 2);
+    if is_last {
+        io::write_all(STDOUT_FILENO, b"\n");
+        return;
+    }
+    io::write_all(STDOUT_FILENO, b" ");
+}
+
+// A plane of bytes, a row a line.
+fn print_plane(bytes: &[u8], width: u32) {
+    for i in 0..bytes.len() {
+        print_byte(bytes[i], ends_row(i, width as usize));
+    }
+}
+
+// A whole move into the room lent.
+fn move_and_print(t: Tensor, c: Config, source: &[u8], room: &mut [u8]) {
+    let answer = mover::move_plane(t, c, source, room);
+    print_status(b"moved", answer.status);
+    print_plane(room, answer.extent[1]);
+}
+
+// The same into the start of a buffer. The room question comes first: it refuses what the move would refuse, and tells how many
+// bytes to lend.
+fn move_into(t: Tensor, c: Config, source: &[u8], buffer: &mut [u8]) {
+    let asked = plane::room(t, c);
+    if asked.answer.status != 0 {
+        print_status(b"refused", asked.answer.status);
+        return;
+    }
+    let n = asked.answer.need as usize;
+    if buffer.len() < n {
+        print_status(b"refused", 13);
+        return;
+    }
+    move_and_print(t, c, source, &mut buffer[0..n]);
+}
+
+// A transfer within the memory: it reads the picture, and writes length bytes from byte start on.
+fn job(config: Config, start: usize, length: usize) -> Job {
+    Job {
+        source: Part {
+            start: 0,
+            length: PICTURE as u64,
+        },
+        destination: Part {
+            start: start as u64,
+            length: length as u64,
+        },
+        tensor: picture(),
+        config,
+    }
+}
+
+fn is_done(table: Table, handle: u32) -> bool {
+    let poll = table.poll(handle);
+    match poll {
+        Poll::Done => true,
+        _ => false,
+    }
+}
+
+// Steps two running transfers by turns until both are done. Each turn moves at least one element of each that is not done (a
+// step of one that is done is refused and changes nothing), and neither has more elements than the memory has bytes: so there
+// are turns enough.
+fn by_turns(table: Table, mem: &mut [u8], first: u32, second: u32) -> Table {
+    let mut now = table;
+    for _ in 0..mem.len() {
+        let a = now.step(mem, first, BUDGET);
+        let b = a.table.step(mem, second, BUDGET);
+        now = b.table;
+        if is_done(now, first) & is_done(now, second) {
+            return now;
+        }
+    }
+    now
+}
+
+// Starts the transfers a and b that a table has prepared, and releases them once they are done. A transfer that is not done is
+// not released: so the two numbers printed tell whether all went well.
+fn run_both(table: Table, mem: &mut [u8], a: u32, b: u32) {
+    let one = table.start(mem, a);
+    let both = one.table.start(mem, b);
+    let done = by_turns(both.table, mem, a, b);
+    let less = done.release(mem, a);
+    let none = less.table.release(mem, b);
+    print_status(b"released", less.status);
+    print_status(b"released", none.status);
+}
+
+// Two transfers over one memory: the thumbnail, and the picture turned.
+fn transfer_both(mem: &mut [u8]) {
+    let made = Table::fresh(mem.len() as u64);
+    let small = made.table.prepare(mem, job(thumbnail(), SMALL_AT, SMALL));
+    let large = small.table.prepare(mem, job(turned(), TURNED_AT, PICTURE));
+    if (small.status != 0) | (large.status != 0) {
+        print_status(b"refused", small.status);
+        print_status(b"refused", large.status);
+        return;
+    }
+    run_both(large.table, mem, small.handle, large.handle);
+}
+
+fn main() {
+    let pixels = PIXELS;
+    let mut mem = [0u8; MEMORY];
+    move_into(picture(), thumbnail(), &pixels, &mut mem);
+    let copy = ready_made::copy(2);
+    move_into(picture(), copy.config, &pixels, &mut mem);
+    transfer_both(&mut mem);
+    print_plane(&mem[SMALL_AT..TURNED_AT], WIDTH as u32 / 2);
+    print_plane(&mem[TURNED_AT..MEMORY], HEIGHT as u32);
+}
