@@ -25,7 +25,7 @@ use Rattle.transfers.specs.declared.Stepped.{Stepped}
 use Rattle.transfers.specs.Slots.{freshTable, slotAt, withSlot, isFree, lowestFree, clashes, tableSound, limit}
 use Rattle.transfers.specs.Calls.{freshOf, openFault, prepareFault, callFault, prepareOf, changed, startOf, releaseOf, stepOf, stepMemory, left, pollSlot, pollOf, pollStatus}
 use Rattle.transfers.specs.Orders.{freshRules, openRules, prepareRules, callRules, pollRules}
-use Rattle.transfers.specs.Claims.{RefusedCalls}
+use Rattle.transfers.specs.Claims.{ExactCalls, RefusedCalls}
 use Rattle.transfers.specs.declared.Poll.{Poll}
 use Rattle.transfers.specs.declared.Poll.the-variants as poll
 
@@ -198,3 +198,13 @@ module _ (t : Table) (h : ℕ) where
       (poll-number (tableSound t) (ltb 3 h) (pollSlot (slotAt t h))
       (slot-number (isFree t h) (eqb (slotAt t h .state) 1) (eqb (slotAt t h .state) 2) (left (slotAt t h))))
       (λ z. refl) (λ b. sym (or-dim _ _ (when-dim 18 _) (when-dim 23 _)))
+
+pub exact-calls : ExactCalls
+exact-calls = record {
+  fresh = fresh-exact;
+  prepare = prepare-exact;
+  start = start-exact;
+  step = λ t n h budget. step-exact t h budget n;
+  release = release-exact;
+  poll = poll-exact;
+}

@@ -17,7 +17,7 @@ use Rattle.plane.proofs.Arrays.{some-same, every-same}
 use Rattle.mover.specs.declared.Job.{Job}
 use Rattle.mover.specs.Claims.{SameJob}
 use Rattle.mover.specs.Within.{meets, jobFault, totalOf, verdictOf, advanceMemory}
-use Rattle.mover.proofs.Unseen.{job-fault-unseen, job-unseen, advance-unseen}
+use Rattle.mover.proofs.Unseen.{job-fault-unseen, job-unseen, advance-memory-unseen}
 use Rattle.transfers.specs.declared.Slot.{Slot}
 use Rattle.transfers.specs.declared.Table.{Table}
 use Rattle.transfers.specs.declared.Poll.the-variants as poll
@@ -47,7 +47,7 @@ same-breaks j j′ k k′ a b =
 
 same-total : (n : ℕ) (j j′ : Job) → SameJob j j′ → jobFault n j .status ≡ 0 → totalOf j ≡ totalOf j′
 same-total n j j′ a z =
-    sym (verdict-total n j refl z) ∙ verdict-total n j′ (job-unseen j j′ a n) (sym (status (job-fault-unseen j j′ a n)) ∙ z)
+    sym (verdict-total n j refl z) ∙ verdict-total n j′ (job-unseen n j j′ a) (sym (status (job-fault-unseen j j′ a n)) ∙ z)
 
 -- ---- slots
 
@@ -67,7 +67,7 @@ module _ (s s′ : Slot) (a : SameSlot s s′) where
 
   taken-sound : (n : ℕ) → (s .state ≡ 0 → ⊥) → slotSound n s ≡ slotSound n s′
   taken-sound n b =
-      let e = job-unseen (s .job) (s′ .job) (a .taken b) n in
+      let e = job-unseen n (s .job) (s′ .job) (a .taken b) in
       let b′ : s′ .state ≡ 0 → ⊥ = λ z. b (a .state ∙ z) in
       let state = a .state in
       let moved = a .moved in
@@ -273,7 +273,7 @@ module _ (t t′ : Table) (a : SameTable t t′) where
               let b = a .slot h (k .range) in
               sym (step-memory t h budget m z refl refl) ∙
               step-memory t′ h budget m (sym (status e) ∙ z) refl
-              (advance-unseen (s .job) (s′ .job) (b .taken (k .taken)) (s .moved) budget m .1 ∙
+              (advance-memory-unseen (s .moved) budget m (s .job) (s′ .job) (b .taken (k .taken)) ∙
               ap (λ (n : ℕ). advanceMemory (s′ .job) n budget m) (b .moved))
           | no d ↦ sym (step-refused t h budget m refl d .1) ∙ step-refused t′ h budget m refl (λ z. d (status e ∙ z)) .1
         ]

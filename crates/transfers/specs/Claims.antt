@@ -1,18 +1,30 @@
--- What is claimed besides: what a refused call hands back, what a poll says, what finishes a transfer.
+-- What is claimed besides: each refusal in its case and order, what a refused call hands back, what a poll says, what finishes a
+-- transfer.
 use mathlib.Core.Path.{_≡_}
 use Prim.Native.Nat.{ℕ, _+_, _≤_, _<_}
 use mathlib.Core.Bool.{true, false, cond}
 use mathlib.Core.List.{List, [], _∷_}
 use lib.Dec.{eqb}
 use lib.ListN.{length}
+use Rattle.faults.specs.Exactness.{Exact}
 use Rattle.mover.specs.declared.Job.{Job}
 use Rattle.transfers.specs.declared.Table.{Table}
 use Rattle.transfers.specs.declared.Poll.the-variants as says
 use Rattle.transfers.specs.Slots.{freshTable, slotAt, tableSound}
-use Rattle.transfers.specs.Calls.{freshOf, prepareOf, startOf, stepOf, stepMemory, releaseOf, left, pollOf, pollNumbers}
+use Rattle.transfers.specs.Calls.{freshOf, prepareOf, startOf, stepOf, stepMemory, releaseOf, left, pollOf, pollStatus, pollNumbers}
+use Rattle.transfers.specs.Orders.{freshRules, prepareRules, callRules, pollRules}
 use Rattle.transfers.specs.Demand3.{Call, prepare, start, step, release, poll, World, after, run}
 
--- ---- refused calls
+-- ---- refusals
+
+-- every answer is exact for the rules of its call; where an answer has no dimension there is none to name
+pub record ExactCalls : Type 0 where
+  pub fresh : (n : ℕ) → Exact (freshRules n) (freshOf n .status) 0
+  pub prepare : (t : Table) (n : ℕ) (j : Job) → let a = prepareOf t n j in Exact (prepareRules t n j) (a .status) (a .dim)
+  pub start : (t : Table) (n h : ℕ) → Exact (callRules t n h 1) (startOf t n h .status) 0
+  pub step : (t : Table) (n h budget : ℕ) → Exact (callRules t n h 2) (stepOf t n h budget .status) 0
+  pub release : (t : Table) (n h : ℕ) → Exact (callRules t n h 3) (releaseOf t n h .status) 0
+  pub poll : (t : Table) (h : ℕ) → Exact (pollRules t h) (pollStatus (pollOf t h)) 0
 
 abbrev pub Refused : ℕ → Type 0
 Refused number = number ≡ 0 → ⊥
