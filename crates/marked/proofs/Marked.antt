@@ -1,4 +1,4 @@
--- Every example of the table is right, by computation. Assumes nothing.
+-- Every example of the table is right, by one computation over it. Assumes nothing.
 use mathlib.Core.Path.{refl}
 use Rattle.plane.specs.Arrays.{firstsOr, sum, product, howMany, some, every}
 use Rattle.faults.specs.Faults.{when, _orElse_, first, lowest, outward}
@@ -16,4 +16,4 @@ use Rattle.marked.specs.Examples.{AllRight, table}
 
 pub all-right : AllRight table
 unfolding judgeOf roomOf moveFault roomFault sourceFault configFault dstFault when _orElse_ lowest first outward answerOf span need sum product howMany some firstsOr badStrideAt resolved inner extent count dstExtents countOf countFault countAnswer elements subTensorOf subFault rankFault subAnswer subOf subByte staying moveMemory moved stored coordOf perStep total element place sourcePlace areKept isKept every subPart jobFault advancedBy freshOf openFault prepareFault callFault prepareOf changed startOf later stepOf stepMemory pollSlot pollOf withSlot lowestFree breaks clashes isZeroTensor isZeroConfig isZeroJob movedRight slotSound soundAt tableSound begin after
-all-right = ((refl, refl), ((refl, refl), ((refl, refl), ((refl, refl), ((refl, refl), ((refl, refl), ((refl, refl), ((refl, refl), ((refl, refl), ((refl, refl), ((refl, refl), ((refl, refl), ((refl, refl), ((refl, refl), ((refl, refl), ((refl, (refl, (refl, (refl, (refl, (refl, (refl, (refl, (refl, (refl, (refl, refl))))))))))), (refl, ((refl, refl), (refl, (refl, (refl, (refl, (refl, ((refl, refl), tt))))))))))))))))))))))))
+all-right = refl

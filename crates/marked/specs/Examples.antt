@@ -1,4 +1,5 @@
--- The paper's marked examples A to L, as one table: an entry says what is given and what comes out. `AllRight` says when a table is right.
+-- The paper's marked examples A to L, as one table: an entry has the paper's letter, and says what is given and what comes out.
+-- `AllRight` says when a table is right.
 use Prim.Native.Nat.{ℕ, zero, suc}
 use mathlib.Core.Path.{_≡_}
 use mathlib.Core.List.{List, [], _∷_, _++_}
@@ -41,7 +42,25 @@ pub data Example : Type 0 where
   -- tensor, start dimension; the element count
   count : Tensor → ℕ → Count → Example
 
--- ---- when it is right: the definitions that decide the public calls give what it says
+-- the letters that the paper marks its examples with, and what is not of A to L
+pub data Letter : Type 0 where
+  A B C D E F G H I J K L : Letter
+  besides : Letter
+
+infix 70 _shows_
+pub data Entry : Type 0 where
+  _shows_ : Letter → Example → Entry
+
+-- ---- when a table is right: the definitions that decide the public calls give what it says
+
+-- what comes out of an example
+pub data Outcome : Type 0 where
+  of-move : Answer → List ℕ → Outcome
+  of-sub : SubTensor → List ℕ → Outcome
+  -- what each call answers, and at last the memory
+  of-calls : List (List ℕ) → Outcome
+  of-room : RoomAnswer → Outcome
+  of-count : Count → Outcome
 
 -- the status first; then prepare: the dimension and the handle; step: how many it moved; poll: the state and what is left
 abbrev pub reply : Call → World → List ℕ
@@ -51,21 +70,37 @@ reply (step h b) w = let a = stepOf (w .table) (length (w .memory)) h b in a .st
 reply (release h) w = releaseOf (w .table) (length (w .memory)) h .status ∷ []
 reply (poll h) w = pollNumbers (pollOf (w .table) h)
 
--- each call answers what it is said to, and the last leaves that memory
-abbrev pub Answered : List Asked → List ℕ → World → Type 0
-Answered [] out w = w .memory ≡ out
-Answered (c answers a ∷ cs) out w = (reply c w ≡ a) × Answered cs out (after c w)
+-- what calls on a table answer, one after another, and at last the memory; and what they are said to
+abbrev pub replies : List Asked → World → List (List ℕ)
+replies [] w = w .memory ∷ []
+replies (c answers a ∷ cs) w = reply c w ∷ replies cs (after c w)
 
-abbrev pub Right : Example → Type 0
-Right (move t c source over a out) = (judgeOf t c (length source) (length over) ≡ a) × (moveMemory t c source over ≡ out)
-Right (sub t s source a part) = (subTensorOf t s (length source) ≡ a) × (subPart t s source ≡ part)
-Right (transfers m cs out) = Answered cs out (begin (length m) m)
-Right (room t c a) = roomOf t c ≡ a
-Right (count t from a) = countOf t from ≡ a
+abbrev pub expected : List Asked → List ℕ → List (List ℕ)
+expected [] out = out ∷ []
+expected (c answers a ∷ cs) out = a ∷ expected cs out
 
-abbrev pub AllRight : List Example → Type 0
-AllRight [] = Unit
-AllRight (e ∷ es) = Right e × AllRight es
+-- what the definitions give, and what the example says
+abbrev pub given : Example → Outcome
+given (move t c source over a out) = of-move (judgeOf t c (length source) (length over)) (moveMemory t c source over)
+given (sub t s source a part) = of-sub (subTensorOf t s (length source)) (subPart t s source)
+given (transfers m cs out) = of-calls (replies cs (begin (length m) m))
+given (room t c a) = of-room (roomOf t c)
+given (count t from a) = of-count (countOf t from)
+
+abbrev pub said : Example → Outcome
+said (move t c source over a out) = of-move a out
+said (sub t s source a part) = of-sub a part
+said (transfers m cs out) = of-calls (expected cs out)
+said (room t c a) = of-room a
+said (count t from a) = of-count a
+
+-- entry by entry, each under its letter
+abbrev pub outcomes : (Example → Outcome) → List Entry → List (Letter × Outcome)
+outcomes f [] = []
+outcomes f (l shows e ∷ es) = (l, f e) ∷ outcomes f es
+
+abbrev pub AllRight : List Entry → Type 0
+AllRight es = outcomes given es ≡ outcomes said es
 
 -- ---- how the entries are written
 
@@ -117,52 +152,52 @@ acceptedSub n size shape stride byte =
 
 -- ---- the table
 
-abbrev pub table : List Example
+abbrev pub table : List Entry
 table =
-    -- A: (2,3) 1..6, perm (1,0): 1 4 2 5 3 6
-    move (compact 2 1 (two 2 3)) (withPerm defaults (two 1 0)) (upTo 6) (over 6)
+    -- (2,3) 1..6, perm (1,0): 1 4 2 5 3 6
+    A shows move (compact 2 1 (two 2 3)) (withPerm defaults (two 1 0)) (upTo 6) (over 6)
     (acceptedMove 2 1 (3 ∷ 2 ∷ 0 ∷ 0 ∷ []) (2 ∷ 1 ∷ 0 ∷ 0 ∷ []) 6) (1 ∷ 4 ∷ 2 ∷ 5 ∷ 3 ∷ 6 ∷ []) ∷
-    -- B: (3,4) 1..12, offset (1,1), size (2,2): 6 7 10 11
-    move (compact 2 1 (two 3 4)) (withSize (withOffset defaults (two 1 1)) (two 2 2)) (upTo 12) (over 4)
+    -- (3,4) 1..12, offset (1,1), size (2,2): 6 7 10 11
+    B shows move (compact 2 1 (two 3 4)) (withSize (withOffset defaults (two 1 1)) (two 2 2)) (upTo 12) (over 4)
     (acceptedMove 2 1 (2 ∷ 2 ∷ 0 ∷ 0 ∷ []) (2 ∷ 1 ∷ 0 ∷ 0 ∷ []) 4) (6 ∷ 7 ∷ 10 ∷ 11 ∷ []) ∷
-    -- C: (7) 1..7, step 3: 1 4 7. Size 6: 1 4. Step 9: 1
-    move (compact 1 1 (one 7)) (withStep defaults (one 3)) (upTo 7) (over 3)
+    -- (7) 1..7, step 3: 1 4 7. Size 6: 1 4. Step 9: 1
+    C shows move (compact 1 1 (one 7)) (withStep defaults (one 3)) (upTo 7) (over 3)
     (acceptedMove 1 1 (3 ∷ 0 ∷ 0 ∷ 0 ∷ []) (1 ∷ 0 ∷ 0 ∷ 0 ∷ []) 3) (1 ∷ 4 ∷ 7 ∷ []) ∷
-    move (compact 1 1 (one 7)) (withSize (withStep defaults (one 3)) (one 6)) (upTo 7) (over 2)
+    C shows move (compact 1 1 (one 7)) (withSize (withStep defaults (one 3)) (one 6)) (upTo 7) (over 2)
     (acceptedMove 1 1 (2 ∷ 0 ∷ 0 ∷ 0 ∷ []) (1 ∷ 0 ∷ 0 ∷ 0 ∷ []) 2) (1 ∷ 4 ∷ []) ∷
-    move (compact 1 1 (one 7)) (withStep defaults (one 9)) (upTo 7) (over 1)
+    C shows move (compact 1 1 (one 7)) (withStep defaults (one 9)) (upTo 7) (over 1)
     (acceptedMove 1 1 (1 ∷ 0 ∷ 0 ∷ 0 ∷ []) (1 ∷ 0 ∷ 0 ∷ 0 ∷ []) 1) (1 ∷ []) ∷
-    -- D: (1,2) 5 6, pre (1,0), post (0,1): 0 0 0 5 6 0
-    move (compact 2 1 (two 1 2)) (withPost (withPre defaults (two 1 0)) (two 0 1)) (5 ∷ 6 ∷ []) (over 6)
+    -- (1,2) 5 6, pre (1,0), post (0,1): 0 0 0 5 6 0
+    D shows move (compact 2 1 (two 1 2)) (withPost (withPre defaults (two 1 0)) (two 0 1)) (5 ∷ 6 ∷ []) (over 6)
     (acceptedMove 2 1 (2 ∷ 3 ∷ 0 ∷ 0 ∷ []) (3 ∷ 1 ∷ 0 ∷ 0 ∷ []) 6) (0 ∷ 0 ∷ 0 ∷ 5 ∷ 6 ∷ 0 ∷ []) ∷
-    -- E: (1,2) 8 9, destination offset (1,0), strides (2,1), over 1 1 1 1: 1 1 8 9
-    move (compact 2 1 (two 1 2)) (withDstStride (withDstOffset defaults (two 1 0)) (two 2 1)) (8 ∷ 9 ∷ []) (1 ∷ 1 ∷ 1 ∷ 1 ∷ [])
+    -- (1,2) 8 9, destination offset (1,0), strides (2,1), over 1 1 1 1: 1 1 8 9
+    E shows move (compact 2 1 (two 1 2)) (withDstStride (withDstOffset defaults (two 1 0)) (two 2 1)) (8 ∷ 9 ∷ []) (1 ∷ 1 ∷ 1 ∷ 1 ∷ [])
     (acceptedMove 2 1 (1 ∷ 2 ∷ 0 ∷ 0 ∷ []) (2 ∷ 1 ∷ 0 ∷ 0 ∷ []) 4) (1 ∷ 1 ∷ 8 ∷ 9 ∷ []) ∷
-    -- F: (2,2) 1..4, destination strides (3,1), over five 7s: 1 2 7 3 4. Over four: 13, and nothing changes
-    move (compact 2 1 (two 2 2)) (withDstStride defaults (two 3 1)) (upTo 4) (7 ∷ 7 ∷ 7 ∷ 7 ∷ 7 ∷ [])
+    -- (2,2) 1..4, destination strides (3,1), over five 7s: 1 2 7 3 4. Over four: 13, and nothing changes
+    F shows move (compact 2 1 (two 2 2)) (withDstStride defaults (two 3 1)) (upTo 4) (7 ∷ 7 ∷ 7 ∷ 7 ∷ 7 ∷ [])
     (acceptedMove 2 1 (2 ∷ 2 ∷ 0 ∷ 0 ∷ []) (3 ∷ 1 ∷ 0 ∷ 0 ∷ []) 5) (1 ∷ 2 ∷ 7 ∷ 3 ∷ 4 ∷ []) ∷
-    move (compact 2 1 (two 2 2)) (withDstStride defaults (two 3 1)) (upTo 4) (7 ∷ 7 ∷ 7 ∷ 7 ∷ [])
+    F shows move (compact 2 1 (two 2 2)) (withDstStride defaults (two 3 1)) (upTo 4) (7 ∷ 7 ∷ 7 ∷ 7 ∷ [])
     (refused (fault 13 0)) (7 ∷ 7 ∷ 7 ∷ 7 ∷ []) ∷
-    -- G: (1,2) 5 6, pre (1,0), perm (1,0): 0 5 0 6
-    move (compact 2 1 (two 1 2)) (withPerm (withPre defaults (two 1 0)) (two 1 0)) (5 ∷ 6 ∷ []) (over 4)
+    -- (1,2) 5 6, pre (1,0), perm (1,0): 0 5 0 6
+    G shows move (compact 2 1 (two 1 2)) (withPerm (withPre defaults (two 1 0)) (two 1 0)) (5 ∷ 6 ∷ []) (over 4)
     (acceptedMove 2 1 (2 ∷ 2 ∷ 0 ∷ 0 ∷ []) (2 ∷ 1 ∷ 0 ∷ 0 ∷ []) 4) (0 ∷ 5 ∷ 0 ∷ 6 ∷ []) ∷
-    -- H: (3,4) 1..12, offset (0,1), steps (2,2), perm (1,0): 2 10 4 12
-    move (compact 2 1 (two 3 4)) (withPerm (withStep (withOffset defaults (two 0 1)) (two 2 2)) (two 1 0)) (upTo 12) (over 4)
+    -- (3,4) 1..12, offset (0,1), steps (2,2), perm (1,0): 2 10 4 12
+    H shows move (compact 2 1 (two 3 4)) (withPerm (withStep (withOffset defaults (two 0 1)) (two 2 2)) (two 1 0)) (upTo 12) (over 4)
     (acceptedMove 2 1 (2 ∷ 2 ∷ 0 ∷ 0 ∷ []) (2 ∷ 1 ∷ 0 ∷ 0 ∷ []) 4) (2 ∷ 10 ∷ 4 ∷ 12 ∷ []) ∷
-    -- I: element size 2, (3), bytes 1..6, offset 1: 3 4 5 6
-    move (compact 1 2 (one 3)) (withOffset defaults (one 1)) (upTo 6) (over 4)
+    -- element size 2, (3), bytes 1..6, offset 1: 3 4 5 6
+    I shows move (compact 1 2 (one 3)) (withOffset defaults (one 1)) (upTo 6) (over 4)
     (acceptedMove 1 2 (2 ∷ 0 ∷ 0 ∷ 0 ∷ []) (1 ∷ 0 ∷ 0 ∷ 0 ∷ []) 4) (3 ∷ 4 ∷ 5 ∷ 6 ∷ []) ∷
-    -- J: element size 3 with shape (0,70000): 2. A with perm (0,0): 6 at dimension 1
-    move (compact 2 3 (two 0 70000)) defaults (upTo 6) (over 3)
+    -- element size 3 with shape (0,70000): 2. A with perm (0,0): 6 at dimension 1
+    J shows move (compact 2 3 (two 0 70000)) defaults (upTo 6) (over 3)
     (refused (fault 2 0)) (99 ∷ 99 ∷ 99 ∷ []) ∷
-    move (compact 2 1 (two 2 3)) (withPerm defaults (two 0 0)) (upTo 6) (over 6)
+    J shows move (compact 2 1 (two 2 3)) (withPerm defaults (two 0 0)) (upTo 6) (over 6)
     (refused (fault 6 1)) (99 ∷ 99 ∷ 99 ∷ 99 ∷ 99 ∷ 99 ∷ []) ∷
-    -- K: sub-tensor of (3,4) at (1,2), sizes (1,2), rank 1: shape (2), stride 1, byte 6. The source is 1..12
-    sub (compact 2 1 (two 3 4)) (cut (two 1 2) (two 1 2) 1) (upTo 12)
+    -- sub-tensor of (3,4) at (1,2), sizes (1,2), rank 1: shape (2), stride 1, byte 6. The source is 1..12
+    K shows sub (compact 2 1 (two 3 4)) (cut (two 1 2) (two 1 2) 1) (upTo 12)
     (acceptedSub 1 1 (2 ∷ 0 ∷ 0 ∷ 0 ∷ []) (1 ∷ 0 ∷ 0 ∷ 0 ∷ []) 6) (7 ∷ 8 ∷ 9 ∷ 10 ∷ 11 ∷ 12 ∷ []) ∷
-    -- L: memory 1 2 3 4 0 0 0 0; two transfers of (2), bytes 0..1 to 4..5 and 2..3 to 6..7; steps of 1 alternating, second first:
+    -- memory 1 2 3 4 0 0 0 0; two transfers of (2), bytes 0..1 to 4..5 and 2..3 to 6..7; steps of 1 alternating, second first:
     -- 1 2 3 4 1 2 3 4. A third of (1) from byte 2 into byte 0, before either is released: 22
-    transfers (1 ∷ 2 ∷ 3 ∷ 4 ∷ 0 ∷ 0 ∷ 0 ∷ 0 ∷ [])
+    L shows transfers (1 ∷ 2 ∷ 3 ∷ 4 ∷ 0 ∷ 0 ∷ 0 ∷ 0 ∷ [])
     (prepare (transfer 2 0 4) answers (0 ∷ 0 ∷ 0 ∷ []) ∷
     prepare (transfer 2 2 6) answers (0 ∷ 0 ∷ 1 ∷ []) ∷
     start 0 answers (0 ∷ []) ∷
@@ -178,22 +213,22 @@ table =
     (1 ∷ 2 ∷ 3 ∷ 4 ∷ 1 ∷ 2 ∷ 3 ∷ 4 ∷ []) ∷
     -- ---- not of A to L: what the paper only runs, and its easy errors
     -- (2,4,8) with perm (2,0,1) becomes (8,2,4), and (2,2,3) becomes (3,2,2): read the other way round, (4,8,2) and (2,3,2)
-    room (compact 3 1 (three 2 4 8)) (withPerm defaults (three 2 0 1))
+    besides shows room (compact 3 1 (three 2 4 8)) (withPerm defaults (three 2 0 1))
     (record { answer = acceptedMove 3 1 (8 ∷ 2 ∷ 4 ∷ 0 ∷ []) (8 ∷ 4 ∷ 1 ∷ 0 ∷ []) 64; span = 64 }) ∷
-    move (compact 3 1 (three 2 2 3)) (withPerm defaults (three 2 0 1)) (upTo 12) (over 12)
+    besides shows move (compact 3 1 (three 2 2 3)) (withPerm defaults (three 2 0 1)) (upTo 12) (over 12)
     (acceptedMove 3 1 (3 ∷ 2 ∷ 2 ∷ 0 ∷ []) (4 ∷ 2 ∷ 1 ∷ 0 ∷ []) 12) (1 ∷ 4 ∷ 7 ∷ 10 ∷ 2 ∷ 5 ∷ 8 ∷ 11 ∷ 3 ∷ 6 ∷ 9 ∷ 12 ∷ []) ∷
     -- the count of (2,4,8) from 1 is 32; from 3: 16
-    count (compact 3 1 (three 2 4 8)) 1 (record { status = 0; dim = 0; count = 32 }) ∷
-    count (compact 3 1 (three 2 4 8)) 3 (noCount (fault 16 0)) ∷
+    besides shows count (compact 3 1 (three 2 4 8)) 1 (record { status = 0; dim = 0; count = 32 }) ∷
+    besides shows count (compact 3 1 (three 2 4 8)) 3 (noCount (fault 16 0)) ∷
     -- size 65,280 with pre 255 is accepted, 65,281 gives 10
-    room (compact 1 1 (one 65535)) (withPre (withSize defaults (one 65280)) (one 255))
+    besides shows room (compact 1 1 (one 65535)) (withPre (withSize defaults (one 65280)) (one 255))
     (record { answer = acceptedMove 1 1 (65535 ∷ 0 ∷ 0 ∷ 0 ∷ []) (1 ∷ 0 ∷ 0 ∷ 0 ∷ []) 65535; span = 65535 }) ∷
-    room (compact 1 1 (one 65535)) (withPre (withSize defaults (one 65281)) (one 255))
+    besides shows room (compact 1 1 (one 65535)) (withPre (withSize defaults (one 65281)) (one 255))
     (record { answer = refused (fault 10 0); span = 0 }) ∷
     -- (1,2) with strides (0, 2147483647): what 0 stands for is itself too large, 4 at dimension 0
-    room (record { rank = 2; «element_size» = 1; shape = two 1 2; stride = two 0 2147483647 }) defaults
+    besides shows room (record { rank = 2; «element_size» = 1; shape = two 1 2; stride = two 0 2147483647 }) defaults
     (record { answer = refused (fault 4 0); span = 0 }) ∷
     -- a sub-tensor of (3,4) keeps the resolved stride 4 of the whole plane: 0 would be resolved again, from its own shape, to 2
-    sub (compact 2 1 (two 3 4)) (cut (two 1 1) (two 2 2) 2) (upTo 12)
+    besides shows sub (compact 2 1 (two 3 4)) (cut (two 1 1) (two 2 2) 2) (upTo 12)
     (acceptedSub 2 1 (2 ∷ 2 ∷ 0 ∷ 0 ∷ []) (4 ∷ 1 ∷ 0 ∷ 0 ∷ []) 5) (6 ∷ 7 ∷ 8 ∷ 9 ∷ 10 ∷ 11 ∷ 12 ∷ []) ∷
     []

@@ -15,22 +15,22 @@ use Rattle.plane.specs.Arrays.{at, zeros, sum, product}
 use Rattle.plane.specs.Planes.{shapeAt, srcStrides}
 use Rattle.plane.specs.Moves.{dstStrides, need}
 use Rattle.plane.specs.Settings.{withOffset, withSize, withDstStride}
-use Rattle.plane.specs.Helpers.{excess, subDim, subTensorOf, subOf, subByte}
-use Rattle.ready_made.specs.ReadyMade.{defaults, cutTo, copyOf, sliceOf}
+use Rattle.plane.specs.Helpers.{excess, subDim, subOf, subByte}
+use Rattle.ready_made.specs.ReadyMade.{defaults, cutTo}
 use Rattle.plane.proofs.Arrays.{sum-same, product-same}
 use Rattle.plane.proofs.Counting.{product-grows}
 use Rattle.plane.specs.Good.{GoodConfig, GoodDst, GoodMove, GoodSub}
 use Rattle.plane.proofs.Good.{move-clear}
 use Rattle.plane.proofs.Staying.{staying-sum}
-use Rattle.plane.proofs.SubTensors.{sub-told, sub-given, sub-count, subDim-below, sub-shape, sub-source, sub-within}
+use Rattle.plane.proofs.SubTensors.{sub-told, sub-count, subDim-below, sub-shape, sub-source, sub-within}
 use Rattle.mover.specs.Element.{sourcePlace, place}
 use Rattle.mover.specs.Moved.{extentAt, moveMemory}
-use Rattle.mover.specs.SubPart.{subPart}
 use Rattle.mover.proofs.Keeping.{place-same}
+use Rattle.slices.specs.Claims.{SubIsSlice}
 use Rattle.slices.proofs.Spread.{staying-product, staying-heads, spread, spread-at, spread-below, spread-sum, spread-back}
 use Rattle.slices.proofs.Boxes.{Boxed, boxed-extent-at, boxed-kept, boxed-stride, boxed-source, boxed-config, boxed-place, taken-some, cut-at, cut-zero, cut-table, made, copied, copy-whole, copy-place}
 use Rattle.mover.proofs.SubParts.{part-here}
-use Rattle.slices.proofs.SubElements.{place-whole}
+use Rattle.slices.proofs.SubElements.{place-whole, its-byte, its-tensor}
 use Rattle.mover.proofs.Laws.{judged, judged-good, moved-refused}
 use Rattle.mover.specs.Demand2.{IsCoordinate, Meant}
 use Rattle.mover.proofs.Demand2.{demand-2, demand-2-only}
@@ -228,10 +228,9 @@ module _ (t : Tensor) (s : SubConfig) (src dst : List ℕ) (g : GoodSub t s (len
 
 -- the copy of an accepted sub-tensor, from the part of the source that the second call hands back, leaves in any destination what the
 -- slice of the whole leaves
-pub sub-is-slice : (t : Tensor) (s : SubConfig) (src dst : List ℕ) → subTensorOf t s (length src) .status ≡ 0 →
-    moveMemory (subTensorOf t s (length src) .tensor) (copyOf (s .rank) .config) (subPart t s src) dst ≡ moveMemory t (sliceOf (t .rank) (s .offset) (s .size) zeros .config) src dst
+pub sub-is-slice : SubIsSlice
 sub-is-slice t s src dst z =
     let g = sub-told t s (length src) z in
     let n = g .source .rank in
-    rw (part-here t s src z, sub-given t s (length src) z, made (s .rank) defaults (g .rank .0) (few-stay g), made (t .rank) (withDstStride (withSize (withOffset defaults (s .offset)) (s .size)) zeros) (n .0) (n .1))
+    rw (part-here t s src z, its-byte t s src z, its-tensor t s src z, made (s .rank) defaults (g .rank .0) (few-stay g), made (t .rank) (withDstStride (withSize (withOffset defaults (s .offset)) (s .size)) zeros) (n .0) (n .1))
     (slice-memory t s src dst g)

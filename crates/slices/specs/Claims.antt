@@ -1,14 +1,37 @@
--- What is claimed of a sub-tensor: where its coordinate lies in the plane, and what is compared.
-use Prim.Native.Nat.{ℕ, _+_}
-use mathlib.Core.Bool.{cond}
+-- What is claimed of a sub-tensor that is accepted: its elements are the plane's, and copied it is a slice of the plane.
+use Prim.Native.Nat.{ℕ, _+_, _*_, _≤_, _<_}
+use mathlib.Core.Path.{_≡_}
+use mathlib.Core.Bool.{true, cond}
 use mathlib.Core.List.{List}
-use lib.ListN.{length}
+use lib.ListN.{length, getD}
 use Rattle.plane.specs.declared.Tensor.{Tensor}
 use Rattle.plane.specs.declared.Config.{Config}
 use Rattle.plane.specs.declared.SubConfig.{SubConfig}
-use Rattle.plane.specs.Arrays.{at}
-use Rattle.plane.specs.Helpers.{removed, staying, excess, subTensorOf}
-use Rattle.ready_made.specs.ReadyMade.{copyOf}
+use Rattle.plane.specs.Arrays.{at, zeros, sum}
+use Rattle.plane.specs.Planes.{shapeAt, sourceAt}
+use Rattle.plane.specs.Helpers.{removed, staying, excess, subDim, subTensorOf}
+use Rattle.ready_made.specs.ReadyMade.{copyOf, sliceOf}
+use Rattle.mover.specs.Moved.{moveMemory}
+use Rattle.mover.specs.SubPart.{subPart}
+use Rattle.mover.specs.Demand2.{sourceByte}
+
+-- ---- what the calls answer
+
+-- the sub-tensor is accepted for a lent source, and these are its numbers
+abbrev pub Taken : Tensor → SubConfig → List ℕ → Type 0
+Taken t s src = subTensorOf t s (length src) .status ≡ 0
+
+abbrev pub subAt : Tensor → SubConfig → List ℕ → Tensor
+subAt t s src = subTensorOf t s (length src) .tensor
+
+-- the configurations that copy a plane of rank n, and that slice one, with destination strides 0
+abbrev pub copy : ℕ → Config
+copy n = copyOf n .config
+
+abbrev pub slice : ℕ → List ℕ → List ℕ → Config
+slice n offset size = sliceOf n offset size zeros .config
+
+-- ---- coordinates and places
 
 -- the plane's coordinate, in its dimension d, of the sub-tensor's coordinate x: offset + x in a dimension that stays, the offset in one
 -- that is removed
@@ -16,9 +39,47 @@ abbrev pub wholeAt : Tensor → SubConfig → (ℕ → ℕ) → ℕ → ℕ
 wholeAt t s x d =
     at (s .offset) d + cond (removed (at (s .size)) (excess t s) d) 0 (x (length (staying (at (s .size)) (excess t s) d)))
 
--- the sub-tensor that the first call answers for a lent source, and the configuration that copies a plane of rank n
-abbrev pub subAt : Tensor → SubConfig → List ℕ → Tensor
-subAt t s src = subTensorOf t s (length src) .tensor
+-- the byte at which the element of coordinates y stands in a plane
+abbrev pub elementByte : Tensor → (ℕ → ℕ) → ℕ
+elementByte t y = sum (t .rank) (λ d. sourceAt t d (y d)) * t .«element_size»
 
-abbrev pub copy : ℕ → Config
-copy n = copyOf n .config
+-- the copy of a plane reads it there
+abbrev pub CopyReads : Type 0
+CopyReads = (t : Tensor) → 1 ≤ t .rank → t .rank ≤ 4 → (y : ℕ → ℕ) → sourceByte t (copy (t .rank)) y ≡ elementByte t y
+
+-- ---- the sentences
+
+-- in a dimension that stays the plane's coordinate is the offset and the sub-tensor's own
+abbrev pub WholeStays : Type 0
+WholeStays =
+    (t : Tensor) (s : SubConfig) (src : List ℕ) → Taken t s src → (x : ℕ → ℕ) →
+    (i : ℕ) → i < s .rank → wholeAt t s x (subDim t s i) ≡ at (s .offset) (subDim t s i) + x i
+
+-- in one that is removed it is the offset
+abbrev pub WholeRemoved : Type 0
+WholeRemoved =
+    (t : Tensor) (s : SubConfig) (x : ℕ → ℕ) (d : ℕ) → removed (at (s .size)) (excess t s) d ≡ true → wholeAt t s x d ≡ at (s .offset) d
+
+-- it is a coordinate of the plane if x is one of the sub-tensor
+abbrev pub WholeInside : Type 0
+WholeInside =
+    (t : Tensor) (s : SubConfig) (src : List ℕ) → Taken t s src → (x : ℕ → ℕ) →
+    ((i : ℕ) → i < s .rank → x i < shapeAt (subAt t s src) i) → (d : ℕ) → d < t .rank → wholeAt t s x d < shapeAt t d
+
+-- from the sub-tensor's byte on, its element at x stands where the plane's stands
+abbrev pub SubPlace : Type 0
+SubPlace =
+    (t : Tensor) (s : SubConfig) (src : List ℕ) → Taken t s src → (x : ℕ → ℕ) →
+    subTensorOf t s (length src) .byte + elementByte (subAt t s src) x ≡ elementByte t (wholeAt t s x)
+
+-- so each byte of it, in the part of the source that the second call hands back, is the plane's
+abbrev pub SubElement : Type 0
+SubElement =
+    (t : Tensor) (s : SubConfig) (src : List ℕ) → Taken t s src → (x : ℕ → ℕ) (b : ℕ) →
+    getD (subPart t s src) (elementByte (subAt t s src) x + b) 0 ≡ getD src (elementByte t (wholeAt t s x) + b) 0
+
+-- the copy of the sub-tensor, from that part, leaves in any destination what the slice of the plane leaves
+abbrev pub SubIsSlice : Type 0
+SubIsSlice =
+    (t : Tensor) (s : SubConfig) (src dst : List ℕ) → Taken t s src →
+    moveMemory (subAt t s src) (copy (s .rank)) (subPart t s src) dst ≡ moveMemory t (slice (t .rank) (s .offset) (s .size)) src dst

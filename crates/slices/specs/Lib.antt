@@ -1,2 +1,2 @@
--- What a reader must believe.
+-- What is claimed of a sub-tensor, and what it is said with.
 pub mod Claims
