@@ -16,7 +16,7 @@ use Rattle.faults.proofs.Faults.{status, is-fault, given, spared, if-fault, if-
 use Rattle.record.specs.declared.Reading.{Reading}
 use Rattle.record.specs.Layout.{recordLength}
 use Rattle.record.specs.Records.{tensorIn, configIn, recordBytes, badLength, badMark, badVersion, fieldsFault, readFault, writeFault, noReading, reading, readOf, writtenRoom}
-use Rattle.record.specs.Private.{tensorBytes, configBytes}
+use Rattle.record.specs.Private.{tensorBytes, configAt, configBytes}
 use Rattle.record.proofs.Laying.{record-laid}
 
 pub length-bad : (n : ℕ) → (n ≡ recordLength → ⊥) → badLength n ≡ true
@@ -103,5 +103,5 @@ module _ (t : Tensor) (c : Config) where
       pub write-refused : (f .status ≡ 0 → ⊥) → (f ≡ writeFault t c (length room)) × (room ≡ writtenRoom t c room)
       write-refused h = (write-judged, sym (room-kept (λ z. h (status write-judged ∙ z))))
 
-      pub write-given : {a b : List ℕ} → f .status ≡ 0 → a ≡ sets room 0 (tensorBytes t) → b ≡ sets a 39 (configBytes c) → (f ≡ writeFault t c (length room)) × (b ≡ writtenRoom t c room)
+      pub write-given : {a b : List ℕ} → f .status ≡ 0 → a ≡ sets room 0 (tensorBytes t) → b ≡ sets a configAt (configBytes c) → (f ≡ writeFault t c (length room)) × (b ≡ writtenRoom t c room)
       write-given z ea eb = (write-judged, record-laid t c room l ea eb ∙ sym (room-written (sym (status write-judged) ∙ z)))

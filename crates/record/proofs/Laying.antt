@@ -10,7 +10,7 @@ use Rattle.plane.specs.declared.Config.{Config}
 use Rattle.plane.specs.Arrays.{sum}
 use Rattle.record.specs.Layout.{little, joined, groupCount, group, width, fourBytes, recordLength, headBytes}
 use Rattle.record.specs.Records.{recordBytes}
-use Rattle.record.specs.Private.{tensorBytes, configBytes}
+use Rattle.record.specs.Private.{tensorBytes, configAt, configBytes}
 use Rattle.record.proofs.Parts.{Stored, stored-next, sets-next, sets-whole, length-joined}
 use Rattle.record.proofs.Digits.{length-four}
 
@@ -29,8 +29,8 @@ module _ (l : List ℕ) (t : Tensor) where
   pub tensor-laid : {a b m : List ℕ} → a ≡ sets l 0 (headBytes (t .rank) (t .«element_size»)) → b ≡ sets a 7 (fourBytes 4 (t .shape)) → m ≡ sets b 23 (fourBytes 4 (t .stride)) → m ≡ sets l 0 (tensorBytes t)
   tensor-laid ea eb em = tensor-stored ea eb em .is
 
-module _ (l : List ℕ) (c : Config) {m1 m2 m3 m4 m5 m6 m7 m8 : List ℕ} (e1 : m1 ≡ sets l 39 (fourBytes 4 (c .offset))) (e2 : m2 ≡ sets m1 55 (fourBytes 4 (c .size))) (e3 : m3 ≡ sets m2 71 (fourBytes 4 (c .step))) (e4 : m4 ≡ sets m3 87 (fourBytes 4 (c .«dst_offset»))) (e5 : m5 ≡ sets m4 103 (fourBytes 4 (c .«dst_stride»))) (e6 : m6 ≡ sets m5 119 (fourBytes 1 (c .perm))) (e7 : m7 ≡ sets m6 123 (fourBytes 1 (c .pre))) (e8 : m8 ≡ sets m7 127 (fourBytes 1 (c .post))) where
-  pub config-laid : m8 ≡ sets l 39 (configBytes c)
+module _ (l : List ℕ) (c : Config) {m1 m2 m3 m4 m5 m6 m7 m8 : List ℕ} (e1 : m1 ≡ sets l configAt (fourBytes 4 (c .offset))) (e2 : m2 ≡ sets m1 55 (fourBytes 4 (c .size))) (e3 : m3 ≡ sets m2 71 (fourBytes 4 (c .step))) (e4 : m4 ≡ sets m3 87 (fourBytes 4 (c .«dst_offset»))) (e5 : m5 ≡ sets m4 103 (fourBytes 4 (c .«dst_stride»))) (e6 : m6 ≡ sets m5 119 (fourBytes 1 (c .perm))) (e7 : m7 ≡ sets m6 123 (fourBytes 1 (c .pre))) (e8 : m8 ≡ sets m7 127 (fourBytes 1 (c .post))) where
+  pub config-laid : m8 ≡ sets l configAt (configBytes c)
   unfolding configBytes
   config-laid =
       let a = fourBytes 4 (c .offset) in
@@ -40,14 +40,14 @@ module _ (l : List ℕ) (c : Config) {m1 m2 m3 m4 m5 m6 m7 m8 : List ℕ} (e1 : 
       let f = e ++ fourBytes 4 (c .«dst_stride») in
       let g = f ++ fourBytes 1 (c .perm) in
       let h = g ++ fourBytes 1 (c .pre) in
-      let s1 : Stored l 39 16 a m1 = record { is = e1; long = length-four 4 (c .offset) } in
-      let s2 = group-next l 39 a 4 (c .size) s1 e2 in
-      let s3 = group-next l 39 b 4 (c .step) s2 e3 in
-      let s4 = group-next l 39 d 4 (c .«dst_offset») s3 e4 in
-      let s5 = group-next l 39 e 4 (c .«dst_stride») s4 e5 in
-      let s6 = group-next l 39 f 1 (c .perm) s5 e6 in
-      let s7 = group-next l 39 g 1 (c .pre) s6 e7 in
-      group-next l 39 h 1 (c .post) s7 e8 .is
+      let s1 : Stored l configAt 16 a m1 = record { is = e1; long = length-four 4 (c .offset) } in
+      let s2 = group-next l configAt a 4 (c .size) s1 e2 in
+      let s3 = group-next l configAt b 4 (c .step) s2 e3 in
+      let s4 = group-next l configAt d 4 (c .«dst_offset») s3 e4 in
+      let s5 = group-next l configAt e 4 (c .«dst_stride») s4 e5 in
+      let s6 = group-next l configAt f 1 (c .perm) s5 e6 in
+      let s7 = group-next l configAt g 1 (c .pre) s6 e7 in
+      group-next l configAt h 1 (c .post) s7 e8 .is
 
 regroup : (h a b d e f g k m n p : List ℕ) → h ++ a ++ b ++ (d ++ e ++ f ++ g ++ k ++ m ++ n ++ p) ≡ h ++ (a ++ b ++ d ++ e ++ f ++ g ++ k ++ m ++ n ++ p)
 regroup h a b d e f g k m n p = simp append-assoc
@@ -67,9 +67,9 @@ module _ (t : Tensor) (c : Config) where
       (fourBytes 4 (c .step)) (fourBytes 4 (c .«dst_offset»)) (fourBytes 4 (c .«dst_stride»)) (fourBytes 1 (c .perm)) (fourBytes 1 (c .pre)) (fourBytes 1 (c .post))
 
   -- both pieces stored in a room of the record's length
-  pub record-laid : (l : List ℕ) {a b : List ℕ} → length l ≡ recordLength → a ≡ sets l 0 (tensorBytes t) → b ≡ sets a 39 (configBytes c) → b ≡ recordBytes t c
+  pub record-laid : (l : List ℕ) {a b : List ℕ} → length l ≡ recordLength → a ≡ sets l 0 (tensorBytes t) → b ≡ sets a configAt (configBytes c) → b ≡ recordBytes t c
   record-laid l h ea eb =
       let n = tensor-stored [] t refl refl refl .long in
-      eb ∙ ap (λ (a : List ℕ). sets a 39 (configBytes c)) ea ∙
-      sets-next (tensorBytes t) (configBytes c) l 0 39 (omega arith) ∙
+      eb ∙ ap (λ (a : List ℕ). sets a configAt (configBytes c)) ea ∙
+      sets-next (tensorBytes t) (configBytes c) l 0 configAt (omega arith) ∙
       ap (sets l 0) two-pieces ∙ sets-whole (recordBytes t c) l (length-record ∙ sym h)

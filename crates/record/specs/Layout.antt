@@ -31,8 +31,9 @@ joined (suc k) f = joined k f ++ f k
 
 -- ---- The table: seven bytes, and then ten groups of four numbers
 
+-- 131: the first seven bytes, seven groups of four-byte numbers, three of single bytes
 abbrev pub recordLength : ℕ
-recordLength = 131
+recordLength = 7 + 7 * (4 * 4) + 3 * (4 * 1)
 
 -- R, M, V
 abbrev pub mark : List ℕ

@@ -1,5 +1,5 @@
 -- What the contracts of private functions cite. No reader of a public contract needs this file.
-use Prim.Native.Nat.{ℕ}
+use Prim.Native.Nat.{ℕ, _+_, _*_}
 use mathlib.Core.List.{List, _++_}
 use Rattle.plane.specs.declared.Tensor.{Tensor}
 use Rattle.plane.specs.declared.Config.{Config}
@@ -9,7 +9,11 @@ use Rattle.record.specs.Layout.{headBytes, fourBytes}
 unfoldable pub tensorBytes : Tensor → List ℕ
 tensorBytes t = headBytes (t .rank) (t .«element_size») ++ fourBytes 4 (t .shape) ++ fourBytes 4 (t .stride)
 
--- and from there on
+-- where they end: past the first seven bytes and two groups
+abbrev pub configAt : ℕ
+configAt = 7 + 2 * (4 * 4)
+
+-- the bytes from there on
 unfoldable pub configBytes : Config → List ℕ
 configBytes c =
     fourBytes 4 (c .offset) ++ fourBytes 4 (c .size) ++ fourBytes 4 (c .step) ++

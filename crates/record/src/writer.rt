@@ -12,7 +12,7 @@ ghost use lib.ListN.{length};
 ghost use lib.Seq.{sets};
 ghost use Rattle.record.specs.Layout.{recordLength, headBytes};
 ghost use Rattle.record.specs.Records.{writeFault, writtenRoom};
-ghost use Rattle.record.specs.Private.{tensorBytes, configBytes};
+ghost use Rattle.record.specs.Private.{tensorBytes, configAt, configBytes};
 
 // Mark, version, rank and element size.
 fn put_head(room: &mut [u8], rank: u8, size: u8)
@@ -42,7 +42,7 @@ fn put_tensor(room: &mut [u8], t: Tensor)
 // The bytes from there to the end.
 fn put_config(room: &mut [u8], c: Config)
     requires { ⌜ length (now room) ≡ recordLength ⌝ }
-    ensures { λ _. ⌜ now (room .exit) ≡ sets (now (room .entry)) 39 (configBytes c) ⌝ }
+    ensures { λ _. ⌜ now (room .exit) ≡ sets (now (room .entry)) configAt (configBytes c) ⌝ }
 {
     let offset = c.offset;
     let size = c.size;
