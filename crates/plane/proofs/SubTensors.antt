@@ -17,7 +17,7 @@ use Rattle.faults.proofs.Bools.{either-clear, neither}
 use Rattle.plane.proofs.Arrays.{firsts-at, firsts-same, sum-same}
 use Rattle.faults.proofs.Faults.{or-clear, or-zero, when-clear, when-zero, lowest-clear, lowest-zero, if-none}
 use Rattle.plane.specs.Good.{GoodSource, GoodSub}
-use Rattle.plane.specs.Claims.{SubGood, SubClear, SubAccepted, SubFits}
+use Rattle.plane.specs.Claims.{SubGood, SubClear, SubTold, SubAccepted, SubFits}
 use Rattle.plane.proofs.Good.{positive, source-good, source-clear}
 use Rattle.plane.proofs.Falling.{stride-positive, strides-fall, written-stays, written-good}
 use Rattle.plane.proofs.SubAnswers.{sub-status}
@@ -169,6 +169,19 @@ module _ (t : Tensor) (s : SubConfig) (srcLen : ℕ) (z : subTensorOf t s srcLen
 
   pub sub-told : GoodSub t s srcLen
   sub-told = sub-good t s srcLen sub-taken
+
+-- its dimensions are the plane's that stay
+pub sub-numbers : SubTold
+sub-numbers t s srcLen z =
+    let g = sub-told t s srcLen z in
+    record {
+      count = sub-count g;
+      below = subDim-below g;
+      rises = subDim-rises g;
+      shape = sub-shape g;
+      stride = sub-stride g;
+      resolved = sub-resolved g;
+    }
 
 -- the numbers of a sub-tensor, used as a tensor record, are accepted
 pub sub-accepted : SubAccepted

@@ -2,15 +2,16 @@
 -- Unseen has what they claim of entries past the rank.
 use Prim.Native.Nat.{ℕ, _+_, _*_, _^_, _≤_, _<_}
 use mathlib.Core.Path.{_≡_}
+use lib.ListN.{length}
 use Rattle.plane.specs.declared.Tensor.{Tensor}
 use Rattle.plane.specs.declared.Config.{Config}
 use Rattle.plane.specs.declared.SubConfig.{SubConfig}
 use Rattle.plane.specs.Arrays.{at, zeros, product}
 use Rattle.faults.specs.Faults.{fault}
 use Rattle.faults.specs.Exactness.{Exact}
-use Rattle.plane.specs.Planes.{inner, resolved, span, sourceFault, sourceOf}
+use Rattle.plane.specs.Planes.{shapeAt, strideAt, inner, resolved, srcStrides, span, sourceFault, sourceOf}
 use Rattle.plane.specs.Moves.{dstExtents, need, moveFault, refused, judgeOf, roomOf}
-use Rattle.plane.specs.Helpers.{subFault, noCount, countOf, noSub, subTensorOf}
+use Rattle.plane.specs.Helpers.{noCount, countOf, staying, excess, subDim, subFault, subOf, noSub, subTensorOf}
 use Rattle.plane.specs.Orders.{sourceRules, moveRules, roomRules, countRules, subRules}
 use Rattle.plane.specs.Good.{GoodStrides, GoodSource, GoodConfig, GoodDst, GoodMove, GoodSub}
 
@@ -114,6 +115,20 @@ abbrev pub ProductFits : Type 0
 ProductFits = (n : ℕ) (f : ℕ → ℕ) → n ≤ 4 → ((d : ℕ) → d < n → f d ≤ 65535) → product n f < 2 ^ 64
 
 -- ---- Sub-tensors
+
+-- its dimensions: as many stay as its rank asks for, and they are dimensions of the plane, in order; each has the size for its shape, and
+-- the plane's resolved stride, which is resolved as it is written
+pub record SubNumbers (t : Tensor) (s : SubConfig) : Type 0 where
+  pub count : length (staying (at (s .size)) (excess t s) (t .rank)) ≡ s .rank
+  pub below : (i : ℕ) → i < s .rank → subDim t s i < t .rank
+  pub rises : (i j : ℕ) → i < j → j < s .rank → subDim t s i < subDim t s j
+  pub shape : (i : ℕ) → i < s .rank → shapeAt (subOf t s) i ≡ at (s .size) (subDim t s i)
+  pub stride : (i : ℕ) → i < s .rank → strideAt (subOf t s) i ≡ at (srcStrides t) (subDim t s i)
+  pub resolved : srcStrides (subOf t s) ≡ subOf t s .stride
+
+-- of an accepted one
+abbrev pub SubTold : Type 0
+SubTold = (t : Tensor) (s : SubConfig) (srcLen : ℕ) → subTensorOf t s srcLen .status ≡ 0 → SubNumbers t s
 
 -- an accepted one, used as a tensor record, is itself accepted
 abbrev pub SubAccepted : Type 0

@@ -37,7 +37,7 @@ dstExtents t c = firsts (t .rank) (λ i. extent t c (at (c .perm) i))
 abbrev pub dstStrides : Tensor → Config → List ℕ
 dstStrides t c = strides (t .rank) (at (dstExtents t c)) (at (c .«dst_stride»))
 
--- in bytes
+-- the bytes from the destination's first to the end of its last element
 unfoldable pub need : Tensor → Config → ℕ
 need t c = (1 + sum (t .rank) (λ i. (at (c .«dst_offset») i + at (dstExtents t c) i - 1) * at (dstStrides t c) i)) * t .«element_size»
 

@@ -58,13 +58,13 @@ abbrev pub srcStrides : Tensor → List ℕ
 srcStrides t = strides (t .rank) (shapeAt t) (strideAt t)
 
 -- where coordinate x of dimension d lies, in elements from coordinate 0 on: the source place of one coordinate in one dimension, which
--- moves, sub-tensors and the engine's plan all read here
+-- spans, moves, sub-tensors and the engine's plan all read here
 abbrev pub sourceAt : Tensor → ℕ → ℕ → ℕ
 sourceAt t d x = x * at (srcStrides t) d
 
--- in bytes
+-- the bytes from the plane's first to the end of its last element
 unfoldable pub span : Tensor → ℕ
-span t = (1 + sum (t .rank) (λ d. (shapeAt t d - 1) * at (srcStrides t) d)) * t .«element_size»
+span t = (1 + sum (t .rank) (λ d. sourceAt t d (shapeAt t d - 1))) * t .«element_size»
 
 -- 1 to 4
 unfoldable pub sourceFault : Tensor → Fault

@@ -28,7 +28,7 @@ Extensive t c d = (at (c .offset) d ≤ shapeAt t d) × (0 < at (c .step) d) × 
 abbrev pub IsExtent : List ℕ → ℕ → Type 0
 IsExtent extent i = (0 < at extent i) × (at extent i ≤ 65535)
 
--- a box from this offset on, of this extent, is not empty, and ends within what sums of 64 bits hold
+-- in dimension d a box, from this offset on and of this extent, is not empty, and ends so early that sums over it fit 64 bits
 abbrev pub IsBox : List ℕ → List ℕ → ℕ → Type 0
 IsBox offset extent d = (0 < at extent d) × (at offset d + at extent d ≤ 131072)
 
