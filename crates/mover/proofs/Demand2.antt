@@ -1,7 +1,7 @@
 -- Demand 2: what an accepted move, and its first elements, leave of the destination, on the paper's terms alone; and that a refused one
 -- leaves it as it was.
 -- Assumes nothing.
-use Prim.Native.Nat.{ℕ, zero, suc, _+_, _-_, _*_, _≤_, _<_}
+use Prim.Native.Nat.{ℕ, zero, suc, _+_, _-_, _≤_, _<_}
 use native.Mathlib.Nat.{zero-add, add-mul, one-mul, not-suc-le-zero, le-of-suc-le-suc, eq-or-lt-of-le}
 use native.Mathlib.Decide.{decLt}
 use native.Mathlib.Omega.{arith}
@@ -15,12 +15,12 @@ use Rattle.plane.specs.declared.Tensor.{Tensor}
 use Rattle.plane.specs.declared.Config.{Config}
 use Rattle.plane.specs.Arrays.{at}
 use Rattle.plane.specs.Planes.{span}
-use Rattle.plane.specs.Moves.{count, judgeOf}
+use Rattle.plane.specs.Moves.{count}
 use Rattle.plane.proofs.Arrays.{every-all, every-each, every-fails}
 use Rattle.plane.specs.Good.{GoodConfig, GoodMove}
-use Rattle.mover.specs.Element.{dimOf, kOf, isKept, areKept, sourcePlace, place, element}
+use Rattle.mover.specs.Element.{dimOf, kOf, isKept, areKept, sourcePlace, element}
 use Rattle.mover.specs.Moved.{total, coordOf, moved, moveMemory}
-use Rattle.mover.specs.Demand2.{IsCoordinate, KeptAt, byteAt, endAt, sourceByte, Spares, InPlaceAt, Meant, FirstsMeant, Accepted, AcceptedMeant, AcceptedOnly, AcceptedFirsts, AcceptedFirstsOnly, RefusedKept}
+use Rattle.mover.specs.Demand2.{IsCoordinate, KeptAt, endAt, sourceByte, Spares, InPlaceAt, Meant, FirstsMeant, Accepted, AcceptedMeant, AcceptedOnly, AcceptedFirsts, AcceptedFirstsOnly, RefusedKept}
 use Rattle.mover.proofs.Laws.{judged, judged-good, moved-length, moved-whole, moved-refused}
 use Rattle.mover.proofs.Keeping.{range-test, test-range, place-same, source-same}
 use Rattle.mover.proofs.Fitting.{home-fits, place-fits}

@@ -11,7 +11,7 @@ use Rattle.faults.specs.Exactness.{fromFirst}
 use Rattle.faults.proofs.Faults.{or-path}
 use Rattle.faults.proofs.Chains.{Positive, chain, exact, exact-fault, or-last, whole-is}
 use Rattle.record.specs.declared.Reading.{Reading}
-use Rattle.record.specs.Records.{tensorIn, configIn, stray, fieldsFault, readFault, writeFault, noReading, readOf}
+use Rattle.record.specs.Records.{tensorIn, configIn, stray, fieldsFault, readFault, writeFault, noReading}
 use Rattle.record.specs.Orders.{fieldsRules, readRules, writeRules}
 use Rattle.record.specs.Claims.{ReadExact, WriteExact, ReadZeros, WriteKept}
 use Rattle.record.proofs.Answers.{read-refused, read-given, read-status, room-kept}
