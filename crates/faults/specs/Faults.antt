@@ -32,6 +32,6 @@ lowest num n bad = first n (λ d. when num d (bad d))
 unfoldable pub outward : ℕ → ℕ → (ℕ → Bool) → Fault
 outward num n bad = first n (λ k. when num (n - suc k) (bad (n - suc k)))
 
--- x where there is no fault, and y where there is one
+-- y where f is a fault, and x where it is none
 abbrev pub ifFault : {A : Type 0} → Fault → A → A → A
 ifFault f y x = cond (eqb (f .status) 0) x y

@@ -48,8 +48,8 @@ pub data Letter : Type 0 where
   besides : Letter
 
 infix 70 _shows_
-pub data Entry : Type 0 where
-  _shows_ : Letter → Example → Entry
+pub data Row : Type 0 where
+  _shows_ : Letter → Example → Row
 
 -- ---- when a table is right: the definitions that decide the public calls give what it says
 
@@ -70,7 +70,7 @@ reply (step h b) w = let a = stepOf (w .table) (length (w .memory)) h b in a .st
 reply (release h) w = releaseOf (w .table) (length (w .memory)) h .status ∷ []
 reply (poll h) w = pollNumbers (pollOf (w .table) h)
 
--- what calls on a table answer, one after another, and at last the memory; and what they are said to
+-- what calls on a table answer, one after another, and at last the memory; and what they are said to answer
 abbrev pub replies : List Asked → World → List (List ℕ)
 replies [] w = w .memory ∷ []
 replies (c answers a ∷ cs) w = reply c w ∷ replies cs (after c w)
@@ -95,11 +95,11 @@ said (room t c a) = of-room a
 said (count t from a) = of-count a
 
 -- entry by entry, each under its letter
-abbrev pub outcomes : (Example → Outcome) → List Entry → List (Letter × Outcome)
+abbrev pub outcomes : (Example → Outcome) → List Row → List (Letter × Outcome)
 outcomes f [] = []
 outcomes f (l shows e ∷ es) = (l, f e) ∷ outcomes f es
 
-abbrev pub AllRight : List Entry → Type 0
+abbrev pub AllRight : List Row → Type 0
 AllRight es = outcomes given es ≡ outcomes said es
 
 -- ---- how the entries are written
@@ -152,7 +152,7 @@ acceptedSub n size shape stride byte =
 
 -- ---- the table
 
-abbrev pub table : List Entry
+abbrev pub table : List Row
 table =
     -- (2,3) 1..6, perm (1,0): 1 4 2 5 3 6
     A shows move (compact 2 1 (two 2 3)) (withPerm defaults (two 1 0)) (upTo 6) (over 6)

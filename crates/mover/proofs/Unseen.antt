@@ -23,7 +23,7 @@ use Rattle.plane.proofs.Good.{move-good}
 use Rattle.plane.specs.Unseen.{SameTensor, SameConfig, UnseenConfig, UnseenSub}
 use Rattle.plane.proofs.Unseen.{fault-unseen, strides-unseen, kept-unseen, extents-unseen, dst-strides-unseen, sub-unseen}
 use Rattle.mover.specs.declared.Job.{Job}
-use Rattle.mover.specs.Claims.{SameJob, UnseenJob}
+use Rattle.mover.specs.Claims.{SameJob, UnseenJob, MovesUnseen}
 use Rattle.mover.specs.Element.{dimOf, kOf, isKept, areKept, sourcePlace, place, element}
 use Rattle.mover.specs.Moved.{total, perStep, coordOf, stored, moved, moveMemory}
 use Rattle.mover.specs.Within.{leaves, meets, jobFault, totalOf, verdictOf, bytesOf, advancedBy, further, advanceOf, advanceMemory}
@@ -171,3 +171,7 @@ advance-memory-unseen from budget m j j′ s =
 pub part-unseen : (src : List ℕ) → UnseenSub (λ t s. subPart t s src)
 part-unseen src t t′ a s s′ b =
     part-by t s src ∙ ap (λ (r : SubTensor). partBy r src) (sub-unseen (length src) t t′ a s s′ b) ∙ sym (part-by t′ s′ src)
+
+pub moves-unseen : MovesUnseen
+moves-unseen =
+    record { move = move-unseen; part = part-unseen; job = job-unseen; advance = advance-unseen; memory = advance-memory-unseen }

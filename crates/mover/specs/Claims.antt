@@ -9,11 +9,12 @@ use lib.ListN.{length, getD}
 use Rattle.faults.specs.Exactness.{Exact}
 use Rattle.plane.specs.declared.Tensor.{Tensor}
 use Rattle.plane.specs.declared.Config.{Config}
-use Rattle.plane.specs.Unseen.{SameTensor, SameConfig}
+use Rattle.plane.specs.Unseen.{SameTensor, SameConfig, UnseenConfig, UnseenSub}
 use Rattle.mover.specs.declared.Part.{Part}
 use Rattle.mover.specs.declared.Job.{Job}
 use Rattle.mover.specs.Moved.{total, moved, moveMemory}
 use Rattle.mover.specs.Within.{leaves, meets, jobFault, totalOf, verdictOf, bytesOf, advancedBy, advanceOf, advanceMemory}
+use Rattle.mover.specs.SubPart.{subPart}
 use Rattle.mover.specs.Orders.{jobRules}
 use Rattle.mover.specs.Demand2.{Accepted}
 
@@ -85,6 +86,14 @@ pub record SameJob (j j′ : Job) : Type 0 where
 abbrev pub UnseenJob : {A : Type 0} → (Job → A) → Type 0
 UnseenJob f = (j j′ : Job) → SameJob j j′ → f j ≡ f j′
 
+-- so every call that is handed such a record, configuration or job, and the memory that it leaves
+pub record MovesUnseen : Type 0 where
+  pub move : (src dst : List ℕ) → UnseenConfig (λ t c. moveMemory t c src dst)
+  pub part : (src : List ℕ) → UnseenSub (λ t s. subPart t s src)
+  pub job : (n : ℕ) → UnseenJob (verdictOf n)
+  pub advance : (from budget : ℕ) (m : List ℕ) → UnseenJob (λ j. advanceOf j from budget m)
+  pub memory : (from budget : ℕ) (m : List ℕ) → UnseenJob (λ j. advanceMemory j from budget m)
+
 -- ---- What the layer above may use
 
 -- the elements of a move from the source src
@@ -101,7 +110,7 @@ pub record MovedLaws (t : Tensor) (c : Config) (src : List ℕ) : Type 0 where
 abbrev pub MoveLaws : Type 0
 MoveLaws = (t : Tensor) (c : Config) (src : List ℕ) → MovedLaws t c src
 
--- a job over the memory m
+-- what is so of a job over the memory m that no number refuses
 pub record PassingJob (m : List ℕ) (j : Job) : Type 0 where
   -- its parts lie in the memory, and share no byte
   pub source : j .source .start + j .source .length ≤ length m
@@ -119,6 +128,6 @@ pub record PassingJob (m : List ℕ) (j : Job) : Type 0 where
   pub outside : (from n k : ℕ) → (Has (j .destination) k → ⊥) → getD (advancedBy j from n m) k 0 ≡ getD m k 0
   pub long : (from n : ℕ) → length (advancedBy j from n m) ≡ length m
 
--- one that no number refuses
+-- of every such job
 abbrev pub JobLaws : Type 0
 JobLaws = (m : List ℕ) (j : Job) → jobFault (length m) j .status ≡ 0 → PassingJob m j

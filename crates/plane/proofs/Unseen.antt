@@ -17,7 +17,7 @@ use Rattle.faults.specs.Faults.{when, _orElse_, lowest, ifFault}
 use Rattle.plane.specs.Planes.{badShape, badStride, shapeAt, strideAt, inner, resolved, badStrideAt, strides, srcStrides, span, sourceFault, sourceOf}
 use Rattle.plane.specs.Moves.{upward, count, extent, dstExtents, dstStrides, need, badPermAt, badOffset, badStep, badExtent, badDstOffset, configFault, dstFault, moveFault, roomFault, accepted, answerOf, judgeOf, roomOf}
 use Rattle.plane.specs.Helpers.{elements, countFault, countAnswer, countOf, isUnit, staying, subDim, rankFault, subFault, subOf, subByte, noSub, subAnswer, subTensorOf}
-use Rattle.plane.specs.Unseen.{SameTensor, SameConfig, SameSub, UnseenTensor, UnseenConfig, UnseenSub}
+use Rattle.plane.specs.Unseen.{SameTensor, SameConfig, SameSub, UnseenTensor, UnseenConfig, UnseenSub, CallsUnseen}
 use Rattle.plane.proofs.Arrays.{firsts-same, sum-same, product-same, howMany-same, some-same}
 use Rattle.faults.proofs.Faults.{status, or-path, or-found, or-clear, lowest-same, outward-same, if-fault, if-none}
 use Rattle.plane.specs.Good.{GoodConfig}
@@ -299,3 +299,7 @@ sub-unseen sl t t′ a s s′ b =
     sub-same _ _ _ _ _ _ (agrees t t′ a) (s .rank) (s .offset) (s′ .offset) (s .size) (s′ .size) (record { offset = b .offset; size = b .size; rank = refl }) sl ∙
     across t t′ a (λ (x : Tensor). subTensorOf x (record { offset = s′ .offset; size = s′ .size; rank = s .rank }) sl) ∙
     ap (λ (m : ℕ). subTensorOf t′ (record { offset = s′ .offset; size = s′ .size; rank = m }) sl) (b .rank)
+
+pub calls-unseen : CallsUnseen
+calls-unseen =
+    record { source = source-unseen; room = room-unseen; judge = judge-unseen; count = count-unseen; sub = sub-unseen }

@@ -9,7 +9,7 @@ use lib.ListN.{getD}
 abbrev pub at : List ℕ → ℕ → ℕ
 at xs d = getD xs d 0
 
--- v below the rank n, and z at or past it
+-- v if d is below the rank n, else z
 abbrev pub below : {A : Type 0} → A → ℕ → ℕ → A → A
 below z n d v = cond (ltb d n) v z
 

@@ -62,9 +62,9 @@ SubZeros =
 
 -- ---- The room question
 
--- it never gives this number: 5 and 13
-abbrev pub RoomNever : ℕ → Type 0
-RoomNever num = (t : Tensor) (c : Config) → roomOf t c .answer .status ≡ num → ⊥
+-- it never gives 5 or 13
+abbrev pub RoomNever : Type 0
+RoomNever = (t : Tensor) (c : Config) → let n = roomOf t c .answer .status in (n ≡ 5 → ⊥) × (n ≡ 13 → ⊥)
 
 -- it gives what a move gives that is lent enough
 abbrev pub RoomIsJudge : Type 0
@@ -110,7 +110,7 @@ NeedFits = (t : Tensor) (c : Config) → GoodSource t → GoodConfig t c → Goo
 abbrev pub ExtentsFit : Type 0
 ExtentsFit = (t : Tensor) (c : Config) → GoodSource t → GoodConfig t c → product (t .rank) (at (dstExtents t c)) < 2 ^ 64
 
--- a count: so 29 is never given
+-- a count
 abbrev pub ProductFits : Type 0
 ProductFits = (n : ℕ) (f : ℕ → ℕ) → n ≤ 4 → ((d : ℕ) → d < n → f d ≤ 65535) → product n f < 2 ^ 64
 

@@ -51,15 +51,15 @@ badPermAt n perm i = leb n (perm i) || some i (λ j. eqb (perm j) (perm i))
 abbrev pub badOffset : ℕ → ℕ → Bool
 badOffset shape offset = leb shape offset
 
--- 8
+-- 8: size + offset above the shape
 abbrev pub badSize : ℕ → ℕ → ℕ → Bool
 badSize shape offset size = ltb shape (size + offset)
 
--- 9
+-- 9: 0, or above 65,535
 abbrev pub badStep : ℕ → Bool
 badStep step = eqb step 0 || ltb 65535 step
 
--- 10
+-- 10: above 65,535
 abbrev pub badExtent : ℕ → Bool
 badExtent e = ltb 65535 e
 

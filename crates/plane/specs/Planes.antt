@@ -20,7 +20,7 @@ badRank n = ltb n 1 || ltb 4 n
 abbrev pub elementSize : ℕ → ℕ
 elementSize z = cond (eqb z 1 || eqb z 2 || eqb z 4) z 0
 
--- 2
+-- 2: not one that is taken
 abbrev pub badElement : ℕ → Bool
 badElement z = eqb (elementSize z) 0
 
@@ -58,7 +58,7 @@ abbrev pub srcStrides : Tensor → List ℕ
 srcStrides t = strides (t .rank) (shapeAt t) (strideAt t)
 
 -- where coordinate x of dimension d lies, in elements from coordinate 0 on: the source place of one coordinate in one dimension, which
--- spans, moves, sub-tensors and the engine's plan all read here
+-- spans, moves, a sub-tensor's byte and the first element of the engine's plan read here
 abbrev pub sourceAt : Tensor → ℕ → ℕ → ℕ
 sourceAt t d x = x * at (srcStrides t) d
 

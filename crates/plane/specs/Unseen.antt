@@ -5,6 +5,9 @@ use Rattle.plane.specs.declared.Tensor.{Tensor}
 use Rattle.plane.specs.declared.Config.{Config}
 use Rattle.plane.specs.declared.SubConfig.{SubConfig}
 use Rattle.plane.specs.Arrays.{at}
+use Rattle.plane.specs.Planes.{sourceOf}
+use Rattle.plane.specs.Moves.{judgeOf, roomOf}
+use Rattle.plane.specs.Helpers.{countOf, subTensorOf}
 
 -- ---- what agrees
 
@@ -43,3 +46,11 @@ UnseenConfig f = (t t′ : Tensor) → SameTensor t t′ → (c c′ : Config) �
 -- and a sub-tensor's numbers
 abbrev pub UnseenSub : {A : Type 0} → (Tensor → SubConfig → A) → Type 0
 UnseenSub f = (t t′ : Tensor) → SameTensor t t′ → (s s′ : SubConfig) → SameSub (t .rank) s s′ → f t s ≡ f t′ s′
+
+-- so every call that is handed such
+pub record CallsUnseen : Type 0 where
+  pub source : UnseenTensor sourceOf
+  pub room : UnseenConfig roomOf
+  pub judge : (srcLen dstLen : ℕ) → UnseenConfig (λ t c. judgeOf t c srcLen dstLen)
+  pub count : (start : ℕ) → UnseenTensor (λ t. countOf t start)
+  pub sub : (srcLen : ℕ) → UnseenSub (λ t s. subTensorOf t s srcLen)

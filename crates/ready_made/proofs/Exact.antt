@@ -1,13 +1,15 @@
 -- The calls that are made for a rank: what is refused and what is given. Assumes nothing.
-use mathlib.Core.Path.{ap}
+use Prim.Native.Nat.{ℕ, _<_}
+use mathlib.Core.Path.{_≡_, ap}
 use mathlib.Core.Bool.{cond}
+use mathlib.Core.List.{List, [], _∷_}
 use Rattle.plane.specs.declared.Config.{Config}
-use Rattle.plane.specs.Arrays.{at}
+use Rattle.plane.specs.Arrays.{at, firsts}
 use Rattle.plane.specs.Planes.{badRank}
-use Rattle.plane.specs.Settings.{configOf, zeroConfig}
+use Rattle.plane.specs.Settings.{configOf, zeroConfig, withDstStride, withPre, withPost}
 use Rattle.plane.proofs.Arrays.{firsts-same}
-use Rattle.ready_made.specs.ReadyMade.{cutTo, madeFor}
-use Rattle.ready_made.specs.Claims.{MadeGiven, MadeRefused, MadeUnseen}
+use Rattle.ready_made.specs.ReadyMade.{defaults, cutTo, madeFor}
+use Rattle.ready_made.specs.Claims.{MadeGiven, MadeRefused, MadeUnseen, PadsUnseen}
 
 -- a configuration is refused for a wrong rank alone, and then all its fields are 0
 pub made-given : MadeGiven
@@ -32,3 +34,19 @@ made-unseen n c c′ b =
     let g = firsts-same 0 n (at (c .post)) (at (c′ .post)) (b .post) in
     ap (λ (x : Config). cond (badRank n) (record { status = 1; config = zeroConfig }) (record { status = 0; config = x }))
     (λ i. configOf (o i) (z i) (s i) (d i) (e i) (p i) (f i) (g i))
+
+-- so do the pads
+cut-stride : (c : Config) (s s′ : List ℕ) → ((d : ℕ) → d < 3 → at s d ≡ at s′ d) → cutTo 3 (withDstStride c s) ≡ cutTo 3 (withDstStride c s′)
+unfolding cutTo
+cut-stride c s s′ h =
+    ap
+    (λ (l : List ℕ).
+    configOf (firsts 3 (at (c .offset))) (firsts 3 (at (c .size))) (firsts 3 (at (c .step))) (firsts 3 (at (c .«dst_offset»))) l
+    (firsts 3 (at (c .perm))) (firsts 3 (at (c .pre))) (firsts 3 (at (c .post))))
+    (firsts-same 0 3 (at s) (at s′) h)
+
+pub pads-unseen : PadsUnseen
+pads-unseen left right top bottom s s′ h = (
+  cut-stride (withPost (withPre defaults (0 ∷ top ∷ left ∷ 0 ∷ [])) (0 ∷ bottom ∷ right ∷ 0 ∷ [])) s s′ h,
+  cut-stride (withPost (withPre defaults (top ∷ left ∷ 0 ∷ 0 ∷ [])) (bottom ∷ right ∷ 0 ∷ 0 ∷ [])) s s′ h,
+)

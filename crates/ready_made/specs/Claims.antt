@@ -1,12 +1,14 @@
 -- What the theorems claim of a configuration that is made for a rank.
-use Prim.Native.Nat.{ℕ}
+use Prim.Native.Nat.{ℕ, _<_}
 use mathlib.Core.Path.{_≡_}
 use mathlib.Core.Bool.{true, false}
+use mathlib.Core.List.{List}
 use Rattle.plane.specs.declared.Config.{Config}
+use Rattle.plane.specs.Arrays.{at}
 use Rattle.plane.specs.Planes.{badRank}
 use Rattle.plane.specs.Settings.{zeroConfig}
 use Rattle.plane.specs.Unseen.{SameConfig}
-use Rattle.ready_made.specs.ReadyMade.{cutTo, madeFor}
+use Rattle.ready_made.specs.ReadyMade.{cutTo, madeFor, padChwOf, padHwcOf}
 
 -- a right rank is given the configuration, cut to it
 abbrev pub MadeGiven : Type 0
@@ -19,3 +21,10 @@ MadeRefused = (n : ℕ) (c : Config) → badRank n ≡ true → madeFor n c ≡ 
 -- arguments that agree below the rank make the same configuration
 abbrev pub MadeUnseen : Type 0
 MadeUnseen = (n : ℕ) (c c′ : Config) → SameConfig n c c′ → madeFor n c ≡ madeFor n c′
+
+-- so do the pads, which have rank 3
+abbrev pub PadsUnseen : Type 0
+PadsUnseen =
+    (left right top bottom : ℕ) (s s′ : List ℕ) → ((d : ℕ) → d < 3 → at s d ≡ at s′ d) →
+    (padChwOf left right top bottom s ≡ padChwOf left right top bottom s′) ×
+    (padHwcOf left right top bottom s ≡ padHwcOf left right top bottom s′)

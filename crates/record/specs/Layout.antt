@@ -1,5 +1,5 @@
 -- The bytes of a move record: which field stands where. What read and write have to agree on is here, and nowhere else.
-use Prim.Native.Nat.{ℕ, zero, suc, _+_, _*_, _/_, _%_}
+use Prim.Native.Nat.{ℕ, zero, suc, _+_, _-_, _*_, _/_, _%_}
 use mathlib.Core.Bool.{cond}
 use mathlib.Core.List.{List, [], _∷_, _++_}
 use lib.Dec.{ltb}
@@ -31,9 +31,20 @@ joined (suc k) f = joined k f ++ f k
 
 -- ---- The table: seven bytes, and then ten groups of four numbers
 
--- 131: the first seven bytes, seven groups of four-byte numbers, three of single bytes
+-- mark, version, rank and element size
+abbrev pub headLength : ℕ
+headLength = 7
+
+-- how many groups there are, and how many of them, the first, have numbers of four bytes; the others have single bytes
+abbrev pub groupCount : ℕ
+groupCount = 10
+
+abbrev pub wideGroups : ℕ
+wideGroups = 7
+
+-- 131
 abbrev pub recordLength : ℕ
-recordLength = 7 + 7 * (4 * 4) + 3 * (4 * 1)
+recordLength = headLength + wideGroups * (4 * 4) + (groupCount - wideGroups) * (4 * 1)
 
 -- R, M, V
 abbrev pub mark : List ℕ
@@ -56,10 +67,7 @@ sizeIn bs = at bs 6
 abbrev pub headBytes : ℕ → ℕ → List ℕ
 headBytes rank size = mark ++ little 2 theVersion ++ rank ∷ size ∷ []
 
--- how many groups there are, and what they are, in the record's order
-abbrev pub groupCount : ℕ
-groupCount = 10
-
+-- the groups, in the record's order
 abbrev pub groups : Tensor → Config → List (List ℕ)
 groups t c =
     t .shape ∷ t .stride ∷
@@ -69,13 +77,13 @@ groups t c =
 abbrev pub group : Tensor → Config → ℕ → List ℕ
 group t c k = getD (groups t c) k []
 
--- the bytes of a number of group k: four in the first seven groups, one in the others
+-- the bytes of a number of group k
 abbrev pub width : ℕ → ℕ
-width k = cond (ltb k 7) 4 1
+width k = cond (ltb k wideGroups) 4 1
 
 -- the byte at which group k starts: where the one before it ends
 unfoldable pub start : ℕ → ℕ
-start k = 7 + sum k (λ j. 4 * width j)
+start k = headLength + sum k (λ j. 4 * width j)
 
 -- ---- A group of four numbers of w bytes each
 

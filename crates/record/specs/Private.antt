@@ -3,15 +3,15 @@ use Prim.Native.Nat.{ℕ, _+_, _*_}
 use mathlib.Core.List.{List, _++_}
 use Rattle.plane.specs.declared.Tensor.{Tensor}
 use Rattle.plane.specs.declared.Config.{Config}
-use Rattle.record.specs.Layout.{headBytes, fourBytes}
+use Rattle.record.specs.Layout.{headLength, headBytes, fourBytes}
 
 -- the record's bytes up to the end of the strides
 unfoldable pub tensorBytes : Tensor → List ℕ
 tensorBytes t = headBytes (t .rank) (t .«element_size») ++ fourBytes 4 (t .shape) ++ fourBytes 4 (t .stride)
 
--- where they end: past the first seven bytes and two groups
+-- where they end: past two groups
 abbrev pub configAt : ℕ
-configAt = 7 + 2 * (4 * 4)
+configAt = headLength + 2 * (4 * 4)
 
 -- the bytes from there on
 unfoldable pub configBytes : Config → List ℕ

@@ -13,7 +13,8 @@ use Rattle.plane.specs.Planes.{badRank}
 use Rattle.plane.specs.Settings.{configOf, zeroConfig}
 use Rattle.plane.specs.Planes.{zeroTensor}
 use Rattle.record.specs.declared.Reading.{Reading}
-use Rattle.record.specs.Layout.{joined, recordLength, mark, theVersion, versionIn, rankIn, sizeIn, headBytes, groupCount, group, width, start, fourIn, fourBytes}
+use Rattle.record.specs.Layout.{joined, recordLength, mark, theVersion, versionIn, rankIn, sizeIn}
+use Rattle.record.specs.Layout.{headBytes, groupCount, group, width, start, fourIn, fourBytes}
 
 -- ---- The fields that bytes hold, and the bytes of fields
 
@@ -34,15 +35,15 @@ recordBytes t c = headBytes (t .rank) (t .«element_size») ++ joined groupCount
 
 -- ---- The numbers of refusal
 
--- 25
+-- 25: not 131 bytes
 abbrev pub badLength : ℕ → Bool
 badLength n = not (eqb n recordLength)
 
--- 26
+-- 26: another mark
 abbrev pub badMark : List ℕ → Bool
 badMark bs = some 3 (λ k. not (eqb (at bs k) (at mark k)))
 
--- 27
+-- 27: another version
 abbrev pub badVersion : List ℕ → Bool
 badVersion bs = not (eqb (versionIn bs) theVersion)
 

@@ -11,7 +11,7 @@ use lib.ListN.{length, getD, set, length-set}
 use lib.Seq.{getD-set-same, getD-set-other, set-set, set-comm, set-getD}
 use borrow.Author.Tests.{eq-eqb, ne-eqb}
 use Rattle.serial.specs.Parts.{bytesOf}
-use Rattle.serial.specs.Machine.{Mover, Stage, prepared, running, done, Slot, free, taken, Life, held, released, isHeld, Entry, entered, reporting, has, edit, applied, Clear}
+use Rattle.serial.specs.Machine.{Mover, Stage, prepared, running, done, Slot, free, taken, Life, held, released, isHeld, Entry, entered, reporting, isFor, edit, applied, Clear}
 use Rattle.serial.specs.Claims.{Lawful, EveryHeld, Finished}
 use Rattle.serial.proofs.Applied.{Fits, clear-sym, length-applied, source-kept, destination-now, applied-first, more-first, source-other, destination-other, applied-comm}
 
@@ -19,22 +19,22 @@ use Rattle.serial.proofs.Applied.{Fits, clear-sym, length-applied, sour
 
 module _ {J : Type 0} (h : ℕ) (f : Entry J → Entry J) where
   edit-here : (e : Entry J) (older : List (Entry J)) → e .life ≡ held → e .handle ≡ h → edit h f (e ∷ older) ≡ f e ∷ older
-  unfolding edit has
+  unfolding edit isFor
   edit-here e older l q =
       ap₂ (λ (x : Life) (b : Bool). cond (isHeld x && b) (f e ∷ older) (e ∷ edit h f older)) l (eq-eqb (e .handle) h q)
 
   edit-other : (e : Entry J) (older : List (Entry J)) → e .life ≡ held → (e .handle ≡ h → ⊥) → edit h f (e ∷ older) ≡ e ∷ edit h f older
-  unfolding edit has
+  unfolding edit isFor
   edit-other e older l q =
       ap₂ (λ (x : Life) (b : Bool). cond (isHeld x && b) (f e ∷ older) (e ∷ edit h f older)) l (ne-eqb (e .handle) h q)
 
   edit-gone : (e : Entry J) (older : List (Entry J)) → isHeld (e .life) ≡ false → edit h f (e ∷ older) ≡ e ∷ edit h f older
-  unfolding edit has
+  unfolding edit isFor
   edit-gone e older l =
       ap (λ (x : Bool). cond (x && eqb (e .handle) h) (f e ∷ older) (e ∷ edit h f older)) l
 
-  has-held : (e : Entry J) → has h e ≡ true → e .life ≡ held
-  unfolding has
+  has-held : (e : Entry J) → isFor h e ≡ true → e .life ≡ held
+  unfolding isFor
   has-held e q = go (e .life) (eqb (e .handle) h) q
     where
       go : (x : Life) (b : Bool) → isHeld x && b ≡ true → x ≡ held
@@ -46,9 +46,9 @@ module _ {J : Type 0} (h : ℕ) (f : Entry J → Entry J) where
       → (log : List (Entry J)) → EveryHeld P log → EveryHeld P (edit h f log)
   unfolding edit
   every-edit P keep [] ps = ps
-  every-edit P keep (e ∷ older) ps = go (has h e) refl (every-edit P keep older (ps .1))
+  every-edit P keep (e ∷ older) ps = go (isFor h e) refl (every-edit P keep older (ps .1))
     where
-      go : (b : Bool) → has h e ≡ b → EveryHeld P (edit h f older) → EveryHeld P (cond b (f e ∷ older) (e ∷ edit h f older))
+      go : (b : Bool) → isFor h e ≡ b → EveryHeld P (edit h f older) → EveryHeld P (cond b (f e ∷ older) (e ∷ edit h f older))
       go true q rest = ((λ l. keep e (has-held e q) (ps .0 (has-held e q)) l), ps .1)
       go false q rest = (ps .0, rest)
 
@@ -64,7 +64,7 @@ module _ (M : Mover) where
       → (m₀ : List ℕ) (log : List (Entry (M .Job))) → history m₀ (edit h f log) ≡ history m₀ log
   unfolding history edit
   history-edit h f pj pc m₀ [] = refl
-  history-edit h f pj pc m₀ (e ∷ older) = go (has h e) (history-edit h f pj pc m₀ older)
+  history-edit h f pj pc m₀ (e ∷ older) = go (isFor h e) (history-edit h f pj pc m₀ older)
     where
       go : (b : Bool) → history m₀ (edit h f older) ≡ history m₀ older
           → history m₀ (cond b (f e ∷ older) (e ∷ edit h f older)) ≡ applied M (e .job) 0 (e .reported) (history m₀ older)
@@ -74,7 +74,7 @@ module _ (M : Mover) where
 pub edit-same : {J : Type 0} (h : ℕ) (log : List (Entry J)) → edit h (λ e. e) log ≡ log
 unfolding edit
 edit-same h [] = refl
-edit-same {J} h (e ∷ older) = go (has h e) (edit-same h older)
+edit-same {J} h (e ∷ older) = go (isFor h e) (edit-same h older)
   where
     go : (b : Bool) → edit h (λ e. e) older ≡ older → cond b (e ∷ older) (e ∷ edit h (λ e. e) older) ≡ e ∷ older
     go true q = refl
@@ -122,7 +122,7 @@ pub record Behind (M : Mover) (n : ℕ) (P : Entry (M .Job) → Type 0) (st : St
   pub is-job : entry .job ≡ j
   pub fits : Fits M n j
   pub stands : Stands M st j c
-  pub has : P entry
+  pub isFor : P entry
 
 module _ (M : Mover) (n : ℕ) (P : Entry (M .Job) → Type 0) (h : ℕ) (st : Stage) (j : M .Job) (c : ℕ) where
   pub behind : {ss : List (Slot (M .Job))} {log : List (Entry (M .Job))} → Good M n ss log → EveryHeld P log
@@ -141,7 +141,7 @@ module _ (M : Mover) (n : ℕ) (P : Entry (M .Job) → Type 0) (h : ℕ) (st : S
             is-job = pj;
             fits = subst (Fits M n) pj f;
             stands = subst₃ (Stands M) pst pj pc sd;
-            has = ps .0 l;
+            isFor = ps .0 l;
           }
       go (no r) rec = rec (getD-set-other ss (e .handle) h free free (λ a. r (sym a)) ∙ q)
   behind (gone l f cl fin g) ps q = behind g (ps .1) q
@@ -247,7 +247,7 @@ module _ (M : Mover) (L : Lawful M) (n : ℕ) where
     pass e older f cl g q rec =
         let b : Behind M n (λ i. Clear M (e .job) (i .job)) st j c = behind M n (λ i. Clear M (e .job) (i .job)) h st j c g cl q in
         applied-comm M L n j (e .job) (b .fits) f
-        (clear-sym M (e .job) j (subst (λ (a : M .Job). Clear M (e .job) a) (b .is-job) (b .has)))
+        (clear-sym M (e .job) j (subst (λ (a : M .Job). Clear M (e .job) a) (b .is-job) (b .isFor)))
         (history M m₀ older) (length-history m₀ long g) c k 0 (e .reported)
         ∙ ap (applied M (e .job) 0 (e .reported)) rec
 
@@ -321,7 +321,7 @@ module _ (M : Mover) (L : Lawful M) (n : ℕ) where
           → (e .life ≡ held → Placed m e) → e .life ≡ held → Placed (applied M j c k m) e
       placed-pass e older f cl g q p x =
           let b : Behind M n (λ i. Clear M (e .job) (i .job)) st j c = behind M n (λ i. Clear M (e .job) (i .job)) h st j c g cl q in
-          placed-other j c k (b .fits) e f (subst (λ (a : M .Job). Clear M (e .job) a) (b .is-job) (b .has)) (p x)
+          placed-other j c k (b .fits) e f (subst (λ (a : M .Job). Clear M (e .job) a) (b .is-job) (b .isFor)) (p x)
 
       pub placed-step : {ss : List (Slot (M .Job))} {log : List (Entry (M .Job))} → Good M n ss log → getD ss h free ≡ taken st j c
           → EveryHeld (Placed m) log → EveryHeld (Placed (applied M j c k m)) (edit h (reporting k) log)

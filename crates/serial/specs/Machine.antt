@@ -61,17 +61,18 @@ entered h j m = record { handle = h; job = j; before = m; reported = 0; life = h
 unfoldable pub reporting : {J : Type 0} → ℕ → Entry J → Entry J
 reporting k e = record { handle = e .handle; job = e .job; before = e .before; reported = e .reported + k; life = e .life }
 
+-- the entry with that life
 unfoldable pub ended : {J : Type 0} → Life → Entry J → Entry J
 ended l e = record { handle = e .handle; job = e .job; before = e .before; reported = e .reported; life = l }
 
 -- whether the entry is that of the transfer which has the handle now
-unfoldable pub has : {J : Type 0} → ℕ → Entry J → Bool
-has h e = isHeld (e .life) && eqb (e .handle) h
+unfoldable pub isFor : {J : Type 0} → ℕ → Entry J → Bool
+isFor h e = isHeld (e .life) && eqb (e .handle) h
 
 -- the log with that transfer's entry changed
 unfoldable pub edit : {J : Type 0} → ℕ → (Entry J → Entry J) → List (Entry J) → List (Entry J)
 edit h f [] = []
-edit h f (e ∷ older) = cond (has h e) (f e ∷ older) (e ∷ edit h f older)
+edit h f (e ∷ older) = cond (isFor h e) (f e ∷ older) (e ∷ edit h f older)
 
 -- ---- accepted calls
 

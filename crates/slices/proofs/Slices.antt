@@ -5,6 +5,7 @@ use native.Mathlib.Nat.{zero-add, add-assoc, zero-mul, eq-of-mul-eq-mul-left}
 use native.Mathlib.Decide.{decLe}
 use native.Mathlib.Omega.{arith}
 use mathlib.Core.Path.{_≡_, sym, ap, ap₂, _∙_}
+use mathlib.Core.Logic.{_↔_}
 use mathlib.Core.List.{List}
 use lib.ListN.{length, getD, drop, length-drop}
 use lib.Seq.{getD-drop}
@@ -26,13 +27,13 @@ use Rattle.plane.proofs.SubTensors.{sub-told, sub-count, subDim-below, sub-shap
 use Rattle.mover.specs.Element.{sourcePlace, place}
 use Rattle.mover.specs.Moved.{extentAt, moveMemory}
 use Rattle.mover.proofs.Keeping.{place-same}
-use Rattle.slices.specs.Claims.{SubIsSlice}
+use Rattle.slices.specs.Claims.{SubIsSlice, SubSliceAccepted}
 use Rattle.slices.proofs.Spread.{staying-product, staying-heads, spread, spread-at, spread-below, spread-sum, spread-back}
 use Rattle.slices.proofs.Boxes.{Boxed, boxed-extent-at, boxed-kept, boxed-stride, boxed-source, boxed-config, boxed-place, taken-some, cut-at, cut-zero, cut-table, made, copied, copy-whole, copy-place}
 use Rattle.mover.proofs.SubParts.{part-here}
 use Rattle.slices.proofs.SubElements.{place-whole, its-byte, its-tensor}
 use Rattle.mover.proofs.Laws.{judged, judged-good, moved-refused}
-use Rattle.mover.specs.Demand2.{IsCoordinate, Meant}
+use Rattle.mover.specs.Demand2.{IsCoordinate, Meant, Accepted}
 use Rattle.mover.proofs.Demand2.{demand-2, demand-2-only}
 
 -- the whole plane's configuration for the slice
@@ -224,7 +225,20 @@ module _ (t : Tensor) (s : SubConfig) (src dst : List ℕ) (g : GoodSub t s (len
         sym (moved-refused t (sliced t s) src dst (λ e. h (judged-good t (sliced t s) (length src) (length dst) e .room)))
   ]
 
--- ---- the theorem, on what the calls answer
+  -- each is accepted if the destination is as long as their need
+  both-accepted : Accepted (subOf t s) (copied (s .rank)) part dst ↔ Accepted t (sliced t s) src dst
+  both-accepted = (
+    λ e.
+    judged t (sliced t s) (length src) (length dst) ∙
+    move-clear t (sliced t s) (length src) (length dst)
+    (slice-too (rw (← needs g) (judged-good (subOf t s) (copied (s .rank)) (length part) (length dst) e .room))),
+    λ e.
+    judged (subOf t s) (copied (s .rank)) (length part) (length dst) ∙
+    move-clear (subOf t s) (copied (s .rank)) (length part) (length dst)
+    (copy-too (judged-good t (sliced t s) (length src) (length dst) e .room)),
+  )
+
+-- ---- the theorems, on what the calls answer
 
 -- the copy of an accepted sub-tensor, from the part of the source that the second call hands back, leaves in any destination what the
 -- slice of the whole leaves
@@ -234,3 +248,10 @@ sub-is-slice t s src dst z =
     let n = g .source .rank in
     rw (part-here t s src z, its-byte t s src z, its-tensor t s src z, made (s .rank) defaults (g .rank .0) (few-stay g), made (t .rank) (withDstStride (withSize (withOffset defaults (s .offset)) (s .size)) zeros) (n .0) (n .1))
     (slice-memory t s src dst g)
+
+pub sub-slice-accepted : SubSliceAccepted
+sub-slice-accepted t s src dst z =
+    let g = sub-told t s (length src) z in
+    let n = g .source .rank in
+    rw (part-here t s src z, its-byte t s src z, its-tensor t s src z, made (s .rank) defaults (g .rank .0) (few-stay g), made (t .rank) (withDstStride (withSize (withOffset defaults (s .offset)) (s .size)) zeros) (n .0) (n .1))
+    (both-accepted t s src dst g)

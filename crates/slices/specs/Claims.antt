@@ -2,6 +2,7 @@
 use Prim.Native.Nat.{ℕ, _+_, _*_, _≤_, _<_}
 use mathlib.Core.Path.{_≡_}
 use mathlib.Core.Bool.{true, cond}
+use mathlib.Core.Logic.{_↔_}
 use mathlib.Core.List.{List}
 use lib.ListN.{length, getD}
 use Rattle.plane.specs.declared.Tensor.{Tensor}
@@ -13,7 +14,7 @@ use Rattle.plane.specs.Helpers.{removed, staying, excess, subDim, subTensorOf}
 use Rattle.ready_made.specs.ReadyMade.{copyOf, sliceOf}
 use Rattle.mover.specs.Moved.{moveMemory}
 use Rattle.mover.specs.SubPart.{subPart}
-use Rattle.mover.specs.Demand2.{sourceByte}
+use Rattle.mover.specs.Demand2.{sourceByte, Accepted}
 
 -- ---- what the calls answer
 
@@ -25,11 +26,11 @@ abbrev pub subAt : Tensor → SubConfig → List ℕ → Tensor
 subAt t s src = subTensorOf t s (length src) .tensor
 
 -- the configurations that copy a plane of rank n, and that slice one, with destination strides 0
-abbrev pub copy : ℕ → Config
-copy n = copyOf n .config
+abbrev pub copyConfig : ℕ → Config
+copyConfig n = copyOf n .config
 
-abbrev pub slice : ℕ → List ℕ → List ℕ → Config
-slice n offset size = sliceOf n offset size zeros .config
+abbrev pub sliceConfig : ℕ → List ℕ → List ℕ → Config
+sliceConfig n offset size = sliceOf n offset size zeros .config
 
 -- ---- coordinates and places
 
@@ -45,7 +46,7 @@ elementByte t y = sum (t .rank) (λ d. sourceAt t d (y d)) * t .«element_size»
 
 -- the copy of a plane reads it there
 abbrev pub CopyReads : Type 0
-CopyReads = (t : Tensor) → 1 ≤ t .rank → t .rank ≤ 4 → (y : ℕ → ℕ) → sourceByte t (copy (t .rank)) y ≡ elementByte t y
+CopyReads = (t : Tensor) → 1 ≤ t .rank → t .rank ≤ 4 → (y : ℕ → ℕ) → sourceByte t (copyConfig (t .rank)) y ≡ elementByte t y
 
 -- ---- the sentences
 
@@ -82,4 +83,10 @@ SubElement =
 abbrev pub SubIsSlice : Type 0
 SubIsSlice =
     (t : Tensor) (s : SubConfig) (src dst : List ℕ) → Taken t s src →
-    moveMemory (subAt t s src) (copy (s .rank)) (subPart t s src) dst ≡ moveMemory t (slice (t .rank) (s .offset) (s .size)) src dst
+    moveMemory (subAt t s src) (copyConfig (s .rank)) (subPart t s src) dst ≡ moveMemory t (sliceConfig (t .rank) (s .offset) (s .size)) src dst
+
+-- and the one is accepted exactly if the other is
+abbrev pub SubSliceAccepted : Type 0
+SubSliceAccepted =
+    (t : Tensor) (s : SubConfig) (src dst : List ℕ) → Taken t s src →
+    Accepted (subAt t s src) (copyConfig (s .rank)) (subPart t s src) dst ↔ Accepted t (sliceConfig (t .rank) (s .offset) (s .size)) src dst

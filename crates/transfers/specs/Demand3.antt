@@ -168,7 +168,7 @@ pub record Demand3 (m₀ : List ℕ) (t : Table) (m : List ℕ) (log : Log) : Ty
   -- so its first elements are in place, and the part's other bytes, and the source part, are as at acceptance
   pub in-place : EveryHeld (InPlace m) log
 
--- for callers whose calls are no list
+-- for a caller who chooses each call by the answers so far
 abbrev pub ForCourses : Type 0
 ForCourses = (m₀ : List ℕ) (t : Table) (m : List ℕ) (log : Log) → Course m₀ t m log → Demand3 m₀ t m log
 

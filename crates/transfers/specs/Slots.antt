@@ -51,7 +51,7 @@ lowestFree t =
 
 -- ---- the rule between two slots
 
--- a destination part of the one meets a part of the other. The parts of a free slot are empty, and an empty part meets none
+-- the destination part of one meets a part of the other. The parts of a free slot are empty, and an empty part meets none
 unfoldable pub breaks : Job → Job → Bool
 breaks j k = meets (j .destination) (k .destination) || meets (j .destination) (k .source) || meets (j .source) (k .destination)
 

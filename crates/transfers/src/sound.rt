@@ -14,7 +14,7 @@ ghost use mathlib.Core.Path.{_≡_};
 ghost use Prim.Native.Nat.{_≤_};
 ghost use Rattle.transfers.specs.Slots.{breaks, clashes, movedRight, slotSound, tableSound};
 
-// Whether a destination part of the one meets a part of the other.
+// Whether the destination part of one meets a part of the other.
 fn breaks(j: Job, k: Job) -> bool
     ensures { λ r. ⌜ r ≡ breaks j k ⌝ }
 {
