@@ -85,12 +85,16 @@ fn print_plane(bytes: &[u8], width: u32) {
 // A whole move into the room lent.
 fn move_and_print(t: Tensor, c: Config, source: &[u8], room: &mut [u8]) {
     let answer = mover::move_plane(t, c, source, room);
-    print_status(b"moved", answer.status);
+    if answer.status != 0 {
+        print_status(b"refused", answer.status);
+        return;
+    }
+    print_status(b"moved", 0);
     print_plane(room, answer.extent[1]);
 }
 
-// The same into the start of a buffer. The room question comes first: it refuses what the move would refuse, and tells how many
-// bytes to lend.
+// The same into the start of a buffer. The room question comes first: it refuses what the move would refuse whatever is lent, and
+// tells how many bytes to lend.
 fn move_into(t: Tensor, c: Config, source: &[u8], buffer: &mut [u8]) {
     let asked = plane::room(t, c);
     if asked.answer.status != 0 {
@@ -174,6 +178,7 @@ fn main() {
     let pixels = PIXELS;
     let mut mem = [0u8; MEMORY];
     move_into(picture(), thumbnail(), &pixels, &mut mem);
+    // The picture itself, at the memory's start: the transfers read it there.
     let copy = ready_made::copy(2);
     move_into(picture(), copy.config, &pixels, &mut mem);
     transfer_both(&mut mem);
