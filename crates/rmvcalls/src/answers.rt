@@ -1,5 +1,8 @@
 // What an answer's bytes are. Each function puts its value from byte p on and tells where the next goes; a byte that has no
 // place is left out.
+use crate::layout::LONG;
+use crate::layout::OUT;
+use crate::layout::WORD;
 use plane::Answer;
 use plane::Config;
 use plane::Fault;
@@ -10,42 +13,46 @@ use transfers::Part;
 use transfers::Slot;
 use transfers::Table;
 
-pub(crate) fn byte(out: &mut [u8], p: usize, x: u8) -> usize {
-    if p < out.len() {
+// Room for any answer.
+pub(crate) type Out = [u8; OUT];
+
+pub(crate) fn byte(out: &mut Out, p: usize, x: u8) -> usize {
+    if p < OUT {
         out[p] = x;
         return p + 1;
     }
     p
 }
 
-pub(crate) fn word(out: &mut [u8], p: usize, x: u32) -> usize {
-    let p1 = byte(out, p, (x % 256) as u8);
-    let p2 = byte(out, p1, (x / 256 % 256) as u8);
-    let p3 = byte(out, p2, (x / 65536 % 256) as u8);
-    byte(out, p3, (x / 16777216) as u8)
+// The count lowest bytes of x, the lowest first.
+fn number(out: &mut Out, p: usize, x: u64, count: usize) -> usize {
+    let mut end = p;
+    let mut left = x;
+    for _ in 0..count {
+        end = byte(out, end, (left % 256) as u8);
+        left = left / 256;
+    }
+    end
 }
 
-pub(crate) fn long(out: &mut [u8], p: usize, x: u64) -> usize {
-    let p4 = word(out, p, (x % 4294967296) as u32);
-    word(out, p4, (x / 4294967296) as u32)
+pub(crate) fn word(out: &mut Out, p: usize, x: u32) -> usize {
+    number(out, p, x as u64, WORD)
 }
 
-pub(crate) fn words(out: &mut [u8], p: usize, a: [u32; 4]) -> usize {
-    let p1 = word(out, p, a[0]);
-    let p2 = word(out, p1, a[1]);
-    let p3 = word(out, p2, a[2]);
-    word(out, p3, a[3])
+pub(crate) fn long(out: &mut Out, p: usize, x: u64) -> usize {
+    number(out, p, x, LONG)
 }
 
-fn bytes(out: &mut [u8], p: usize, a: [u8; 4]) -> usize {
-    let p1 = byte(out, p, a[0]);
-    let p2 = byte(out, p1, a[1]);
-    let p3 = byte(out, p2, a[2]);
-    byte(out, p3, a[3])
+pub(crate) fn words(out: &mut Out, p: usize, a: [u32; 4]) -> usize {
+    let mut end = p;
+    for d in 0..4 {
+        end = word(out, end, a[d]);
+    }
+    end
 }
 
 // A memory, whole.
-pub(crate) fn memory(out: &mut [u8], p: usize, mem: &[u8]) -> usize {
+pub(crate) fn memory(out: &mut Out, p: usize, mem: &[u8]) -> usize {
     let mut end = p;
     for i in 0..mem.len() {
         end = byte(out, end, mem[i]);
@@ -53,12 +60,16 @@ pub(crate) fn memory(out: &mut [u8], p: usize, mem: &[u8]) -> usize {
     end
 }
 
-pub(crate) fn fault(out: &mut [u8], p: usize, f: Fault) -> usize {
+fn bytes(out: &mut Out, p: usize, a: [u8; 4]) -> usize {
+    memory(out, p, &a)
+}
+
+pub(crate) fn fault(out: &mut Out, p: usize, f: Fault) -> usize {
     let p1 = byte(out, p, f.status);
     byte(out, p1, f.dim)
 }
 
-pub(crate) fn tensor(out: &mut [u8], p: usize, t: Tensor) -> usize {
+pub(crate) fn tensor(out: &mut Out, p: usize, t: Tensor) -> usize {
     let shape = t.shape;
     let stride = t.stride;
     let p1 = byte(out, p, t.rank);
@@ -67,7 +78,7 @@ pub(crate) fn tensor(out: &mut [u8], p: usize, t: Tensor) -> usize {
     words(out, p3, stride)
 }
 
-pub(crate) fn config(out: &mut [u8], p: usize, c: Config) -> usize {
+pub(crate) fn config(out: &mut Out, p: usize, c: Config) -> usize {
     let offset = c.offset;
     let size = c.size;
     let step = c.step;
@@ -86,7 +97,7 @@ pub(crate) fn config(out: &mut [u8], p: usize, c: Config) -> usize {
     bytes(out, p7, post)
 }
 
-pub(crate) fn answer(out: &mut [u8], p: usize, a: Answer) -> usize {
+pub(crate) fn answer(out: &mut Out, p: usize, a: Answer) -> usize {
     let extent = a.extent;
     let stride = a.stride;
     let p1 = byte(out, p, a.status);
@@ -98,37 +109,37 @@ pub(crate) fn answer(out: &mut [u8], p: usize, a: Answer) -> usize {
     long(out, p6, a.need)
 }
 
-pub(crate) fn made(out: &mut [u8], p: usize, m: Made) -> usize {
+pub(crate) fn made(out: &mut Out, p: usize, m: Made) -> usize {
     let p1 = byte(out, p, m.status);
     config(out, p1, m.config)
 }
 
 // A number of refusal with its dimension, and how many.
-pub(crate) fn counted(out: &mut [u8], p: usize, status: u8, dim: u8, count: u64) -> usize {
+pub(crate) fn counted(out: &mut Out, p: usize, status: u8, dim: u8, count: u64) -> usize {
     let p1 = byte(out, p, status);
     let p2 = byte(out, p1, dim);
     long(out, p2, count)
 }
 
-fn part(out: &mut [u8], p: usize, x: Part) -> usize {
+fn part(out: &mut Out, p: usize, x: Part) -> usize {
     let p1 = long(out, p, x.start);
     long(out, p1, x.length)
 }
 
-fn job(out: &mut [u8], p: usize, j: Job) -> usize {
+fn job(out: &mut Out, p: usize, j: Job) -> usize {
     let p1 = part(out, p, j.source);
     let p2 = part(out, p1, j.destination);
     let p3 = tensor(out, p2, j.tensor);
     config(out, p3, j.config)
 }
 
-fn slot(out: &mut [u8], p: usize, s: Slot) -> usize {
+fn slot(out: &mut Out, p: usize, s: Slot) -> usize {
     let p1 = byte(out, p, s.state);
     let p2 = job(out, p1, s.job);
     long(out, p2, s.moved)
 }
 
-pub(crate) fn table(out: &mut [u8], p: usize, t: Table) -> usize {
+pub(crate) fn table(out: &mut Out, p: usize, t: Table) -> usize {
     let slots = t.slots;
     let p1 = long(out, p, t.length);
     let p2 = slot(out, p1, slots[0]);

@@ -1,4 +1,7 @@
-// What a call's bytes stand for, from byte p on. Past the end there is nothing but zeros; calls.rt looks at the length first.
+// What a call's bytes stand for, from byte p on; calls.rt looks at the length first. No call is so long that a place in it could
+// wrap.
+use crate::layout;
+use crate::layout::BODY;
 use plane::Config;
 use plane::Fault;
 use plane::SubConfig;
@@ -9,11 +12,26 @@ use transfers::Slot;
 use transfers::Table;
 ghost use Prim.Native.Nat.{_≤_};
 
-pub(crate) fn byte(b: &[u8], p: usize) -> u8 {
-    if p < b.len() { b[p] } else { 0 }
+// Room for any call.
+pub(crate) type Body = [u8; BODY];
+
+pub(crate) fn byte(b: &Body, p: usize) -> u8 {
+    if p < BODY { b[p] } else { 0 }
 }
 
-pub(crate) fn word(b: &[u8], p: usize) -> u32
+// The bytes from byte p up to byte end, or none.
+pub(crate) fn rest(bytes: &[u8], p: usize, end: usize) -> &[u8] {
+    let n = bytes.len();
+    if n < end {
+        return &bytes[n..];
+    }
+    if end < p {
+        return &bytes[n..];
+    }
+    &bytes[p..end]
+}
+
+pub(crate) fn word(b: &Body, p: usize) -> u32
     requires { ⌜ p ≤ 4000 ⌝ }
 {
     let low = (byte(b, p) as u32) | ((byte(b, p + 1) as u32) << 8);
@@ -21,25 +39,34 @@ pub(crate) fn word(b: &[u8], p: usize) -> u32
     low | (high << 16)
 }
 
-pub(crate) fn long(b: &[u8], p: usize) -> u64
+pub(crate) fn long(b: &Body, p: usize) -> u64
     requires { ⌜ p ≤ 3000 ⌝ }
 {
-    (word(b, p) as u64) | ((word(b, p + 4) as u64) << 32)
+    (word(b, p) as u64) | ((word(b, p + layout::WORD) as u64) << 32)
 }
 
-pub(crate) fn words(b: &[u8], p: usize) -> [u32; 4]
+const TWO_WORDS: usize = 2 * layout::WORD;
+
+const THREE_WORDS: usize = 3 * layout::WORD;
+
+pub(crate) fn words(b: &Body, p: usize) -> [u32; 4]
     requires { ⌜ p ≤ 3000 ⌝ }
 {
-    [word(b, p), word(b, p + 4), word(b, p + 8), word(b, p + 12)]
+    [
+        word(b, p),
+        word(b, p + layout::WORD),
+        word(b, p + TWO_WORDS),
+        word(b, p + THREE_WORDS),
+    ]
 }
 
-pub(crate) fn bytes(b: &[u8], p: usize) -> [u8; 4]
+pub(crate) fn bytes(b: &Body, p: usize) -> [u8; 4]
     requires { ⌜ p ≤ 3000 ⌝ }
 {
     [byte(b, p), byte(b, p + 1), byte(b, p + 2), byte(b, p + 3)]
 }
 
-pub(crate) fn fault(b: &[u8], p: usize) -> Fault
+pub(crate) fn fault(b: &Body, p: usize) -> Fault
     requires { ⌜ p ≤ 3000 ⌝ }
 {
     Fault {
@@ -48,76 +75,89 @@ pub(crate) fn fault(b: &[u8], p: usize) -> Fault
     }
 }
 
-pub(crate) fn tensor(b: &[u8], p: usize) -> Tensor
+pub(crate) fn tensor(b: &Body, p: usize) -> Tensor
     requires { ⌜ p ≤ 2000 ⌝ }
 {
     Tensor {
         rank: byte(b, p),
         element_size: byte(b, p + 1),
-        shape: words(b, p + 2),
-        stride: words(b, p + 18),
+        shape: words(b, p + layout::SHAPE),
+        stride: words(b, p + layout::STRIDE),
     }
 }
 
-pub(crate) fn config(b: &[u8], p: usize) -> Config
+pub(crate) fn config(b: &Body, p: usize) -> Config
     requires { ⌜ p ≤ 2000 ⌝ }
 {
     Config {
         offset: words(b, p),
-        size: words(b, p + 16),
-        step: words(b, p + 32),
-        dst_offset: words(b, p + 48),
-        dst_stride: words(b, p + 64),
-        perm: bytes(b, p + 80),
-        pre: bytes(b, p + 84),
-        post: bytes(b, p + 88),
+        size: words(b, p + layout::SIZE),
+        step: words(b, p + layout::STEP),
+        dst_offset: words(b, p + layout::DST_OFFSET),
+        dst_stride: words(b, p + layout::DST_STRIDE),
+        perm: bytes(b, p + layout::PERM),
+        pre: bytes(b, p + layout::PRE),
+        post: bytes(b, p + layout::POST),
     }
 }
 
-pub(crate) fn sub_config(b: &[u8], p: usize) -> SubConfig
+pub(crate) fn sub_config(b: &Body, p: usize) -> SubConfig
     requires { ⌜ p ≤ 2000 ⌝ }
 {
     SubConfig {
         offset: words(b, p),
-        size: words(b, p + 16),
-        rank: word(b, p + 32),
+        size: words(b, p + layout::SIZE),
+        rank: word(b, p + layout::SUB_RANK),
     }
 }
 
-pub(crate) fn part(b: &[u8], p: usize) -> Part
+pub(crate) fn part(b: &Body, p: usize) -> Part
     requires { ⌜ p ≤ 2000 ⌝ }
 {
     Part {
         start: long(b, p),
-        length: long(b, p + 8),
+        length: long(b, p + layout::LONG),
     }
 }
 
-pub(crate) fn job(b: &[u8], p: usize) -> Job
+pub(crate) fn job(b: &Body, p: usize) -> Job
     requires { ⌜ p ≤ 1000 ⌝ }
 {
     Job {
         source: part(b, p),
-        destination: part(b, p + 16),
-        tensor: tensor(b, p + 32),
-        config: config(b, p + 66),
+        destination: part(b, p + layout::PART),
+        tensor: tensor(b, p + layout::JOB_TENSOR),
+        config: config(b, p + layout::JOB_CONFIG),
     }
 }
 
-fn slot(b: &[u8], p: usize) -> Slot
+fn slot(b: &Body, p: usize) -> Slot
     requires { ⌜ p ≤ 600 ⌝ }
 {
     Slot {
         state: byte(b, p),
-        job: job(b, p + 1),
-        moved: long(b, p + 159),
+        job: job(b, p + layout::SLOT_JOB),
+        moved: long(b, p + layout::MOVED),
     }
 }
 
-// A table stands at byte 1 of a call, right after its number.
-pub(crate) fn table(b: &[u8]) -> Table {
+// A table comes first in every call that has one.
+const SLOT_0: usize = layout::FIRST + layout::SLOTS;
+
+const SLOT_1: usize = SLOT_0 + layout::SLOT;
+
+const SLOT_2: usize = SLOT_1 + layout::SLOT;
+
+const SLOT_3: usize = SLOT_2 + layout::SLOT;
+
+pub(crate) fn table(b: &Body) -> Table {
     Table {
-        length: long(b, 1),
-        slots: [slot(b, 9), slot(b, 176), slot(b, 343), slot(b, 510)],
+        length: long(b, layout::FIRST),
+        slots: [
+            slot(b, SLOT_0),
+            slot(b, SLOT_1),
+            slot(b, SLOT_2),
+            slot(b, SLOT_3),
+        ],
     }
 }

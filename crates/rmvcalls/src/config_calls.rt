@@ -1,80 +1,124 @@
-// 10 to 1f: configurations made ready, and settings. Every answer starts at byte 1, after the call's number.
-use crate::answers::config as put_config;
-use crate::answers::made as put_made;
+// 10 to 1f: configurations made ready, and settings. Every answer starts after the call's number.
+use crate::answers;
+use crate::answers::Out;
+use crate::args::Body;
 use crate::args::byte;
 use crate::args::bytes;
 use crate::args::config;
 use crate::args::words;
+use crate::layout;
+use crate::layout::BYTE;
+use crate::layout::FIRST;
+use plane::Config;
 use ready_made::Made;
 
-// Every field as given.
-fn all(b: &[u8]) -> Made {
+// The groups of four that follow the rank of a ready-made configuration, as they stand in any configuration.
+const ONE: usize = FIRST + BYTE;
+
+const TWO: usize = ONE + layout::SIZE;
+
+const THREE: usize = ONE + layout::STEP;
+
+const DST_OFFSET: usize = ONE + layout::DST_OFFSET;
+
+const DST_STRIDE: usize = ONE + layout::DST_STRIDE;
+
+const PERM: usize = ONE + layout::PERM;
+
+const PRE: usize = ONE + layout::PRE;
+
+const POST: usize = ONE + layout::POST;
+
+// Those of a pad: left, right, top and bottom, and then the destination strides.
+const RIGHT: usize = FIRST + BYTE;
+
+const TOP: usize = RIGHT + BYTE;
+
+const BOTTOM: usize = TOP + BYTE;
+
+const PAD_STRIDE: usize = BOTTOM + BYTE;
+
+// The four entries of a setting, after the configuration.
+const SETTING: usize = FIRST + layout::CONFIG;
+
+// 17: every field as given.
+fn all(b: &Body) -> Made {
     ready_made::all(
-        byte(b, 1),
-        words(b, 2),
-        words(b, 18),
-        words(b, 34),
-        words(b, 50),
-        words(b, 66),
-        bytes(b, 82),
-        bytes(b, 86),
-        bytes(b, 90),
+        byte(b, FIRST),
+        words(b, ONE),
+        words(b, TWO),
+        words(b, THREE),
+        words(b, DST_OFFSET),
+        words(b, DST_STRIDE),
+        bytes(b, PERM),
+        bytes(b, PRE),
+        bytes(b, POST),
     )
 }
 
-// 10 to 17
-fn made(number: u8, b: &[u8], out: &mut [u8]) -> usize {
-    let rank = byte(b, 1);
+// 10 to 14, and 17
+fn made(number: u8, b: &Body) -> Made {
+    let rank = byte(b, FIRST);
+    let one = words(b, ONE);
+    let two = words(b, TWO);
     match number {
-        0x10 => put_made(out, 1, ready_made::copy(rank)),
-        0x11 => put_made(
-            out,
-            1,
-            ready_made::slice(rank, words(b, 2), words(b, 18), words(b, 34)),
-        ),
-        0x12 => put_made(
-            out,
-            1,
-            ready_made::concatenate(rank, words(b, 2), words(b, 18)),
-        ),
-        0x13 => put_made(
-            out,
-            1,
-            ready_made::subsample(rank, words(b, 2), words(b, 18)),
-        ),
-        0x14 => put_made(out, 1, ready_made::permute(rank, bytes(b, 2))),
-        0x15 => put_config(
-            out,
-            1,
-            ready_made::pad_chw(byte(b, 1), byte(b, 2), byte(b, 3), byte(b, 4), words(b, 5)),
-        ),
-        0x16 => put_config(
-            out,
-            1,
-            ready_made::pad_hwc(byte(b, 1), byte(b, 2), byte(b, 3), byte(b, 4), words(b, 5)),
-        ),
-        _ => put_made(out, 1, all(b)),
+        0x10 => ready_made::copy(rank),
+        0x11 => ready_made::slice(rank, one, two, words(b, THREE)),
+        0x12 => ready_made::concatenate(rank, one, two),
+        0x13 => ready_made::subsample(rank, one, two),
+        0x14 => ready_made::permute(rank, bytes(b, ONE)),
+        _ => all(b),
     }
 }
 
-// 18 to 1f
-fn set(number: u8, b: &[u8], out: &mut [u8]) -> usize {
-    let c = config(b, 1);
+// 15 and 16
+fn padded(number: u8, b: &Body) -> Config {
+    let left = byte(b, FIRST);
+    let right = byte(b, RIGHT);
+    let top = byte(b, TOP);
+    let bottom = byte(b, BOTTOM);
+    let stride = words(b, PAD_STRIDE);
+    if number == 0x15 {
+        return ready_made::pad_chw(left, right, top, bottom, stride);
+    }
+    ready_made::pad_hwc(left, right, top, bottom, stride)
+}
+
+// 18 to 1c
+fn with_words(number: u8, c: Config, four: [u32; 4]) -> Config {
     match number {
-        0x18 => put_config(out, 1, c.with_offset(words(b, 93))),
-        0x19 => put_config(out, 1, c.with_size(words(b, 93))),
-        0x1a => put_config(out, 1, c.with_step(words(b, 93))),
-        0x1b => put_config(out, 1, c.with_dst_offset(words(b, 93))),
-        0x1c => put_config(out, 1, c.with_dst_stride(words(b, 93))),
-        0x1d => put_config(out, 1, c.with_perm(bytes(b, 93))),
-        0x1e => put_config(out, 1, c.with_pre(bytes(b, 93))),
-        _ => put_config(out, 1, c.with_post(bytes(b, 93))),
+        0x18 => c.with_offset(four),
+        0x19 => c.with_size(four),
+        0x1a => c.with_step(four),
+        0x1b => c.with_dst_offset(four),
+        _ => c.with_dst_stride(four),
     }
 }
 
-pub(crate) fn config_call(number: u8, b: &[u8], out: &mut [u8]) -> usize {
+// 1d to 1f
+fn with_bytes(number: u8, c: Config, four: [u8; 4]) -> Config {
+    match number {
+        0x1d => c.with_perm(four),
+        0x1e => c.with_pre(four),
+        _ => c.with_post(four),
+    }
+}
+
+// 15, 16, and 18 to 1f
+fn configured(number: u8, b: &Body) -> Config {
     if number < 0x18 {
-        return made(number, b, out);
+        return padded(number, b);
     }
-    set(number, b, out)
+    let c = config(b, FIRST);
+    if number < 0x1d {
+        return with_words(number, c, words(b, SETTING));
+    }
+    with_bytes(number, c, bytes(b, SETTING))
+}
+
+pub(crate) fn config_call(number: u8, b: &Body, out: &mut Out) -> usize {
+    match number {
+        0x10 | 0x11 | 0x12 | 0x13 | 0x14 | 0x17 => answers::made(out, FIRST, made(number, b)),
+        _ => answers::config(out, FIRST, configured(number, b)),
+    }
 }

@@ -1,70 +1,66 @@
 // Lines: a call's digits become bytes as they come, and at the newline the call is made and its answer printed.
+use crate::answers::Out;
+use crate::args::Body;
 use crate::calls::answer;
+use crate::layout::BODY;
+use crate::layout::NO_CALL;
 use libc::STDOUT_FILENO;
 ghost use mathlib.Core.Path.{_≡_};
 ghost use Prim.Native.Nat.{_≤_, min};
 ghost use lib.ListN.{length};
 
-// A line so far: how many digits it has, and the reason why it is no call, or 0.
+// A line so far: how many digits it has, the reason why it is no call, or 0, and whether every answer before it was written.
 pub(crate) struct Line {
     pub(crate) digits: usize,
     pub(crate) reason: u8,
+    pub(crate) is_heard: bool,
 }
 
-pub(crate) fn none() -> Line {
+// The start of a line.
+pub(crate) fn start(is_heard: bool) -> Line {
     Line {
         digits: 0,
         reason: 0,
+        is_heard,
+    }
+}
+
+fn no_call(reason: u8) -> Line {
+    Line {
+        digits: 0,
+        reason,
+        is_heard: true,
     }
 }
 
 // What a hexadecimal digit stands for, or 16.
 fn value(ch: u8) -> u8 {
-    if ch < b'0' {
-        return 16;
+    match ch {
+        b'0'..=b'9' => ch - b'0',
+        b'A'..=b'F' => ch - b'A' + 10,
+        b'a'..=b'f' => ch - b'a' + 10,
+        _ => 16,
     }
-    if ch <= b'9' {
-        return ch - b'0';
-    }
-    if ch < b'A' {
-        return 16;
-    }
-    if ch <= b'F' {
-        return ch - b'A' + 10;
-    }
-    if ch < b'a' {
-        return 16;
-    }
-    if ch <= b'f' {
-        return ch - b'a' + 10;
-    }
-    16
 }
 
-// The line with one more character.
-fn with_char(body: &mut [u8], line: Line, ch: u8) -> Line {
+// The line with one more character. The second digit of a byte pushes the first one up.
+fn with_char(body: &mut Body, line: Line, ch: u8) -> Line {
     if line.reason != 0 {
         return line;
     }
     let x = value(ch);
-    let p = line.digits / 2;
     if x == 16 {
-        return Line {
-            digits: 0,
-            reason: 1,
-        };
+        return no_call(1);
     }
-    if body.len() <= p {
-        return Line {
-            digits: 0,
-            reason: 2,
-        };
+    let p = line.digits / 2;
+    if BODY <= p {
+        return no_call(2);
     }
-    let is_first = line.digits % 2 == 0;
-    body[p] = if is_first { x << 4 } else { body[p] | x };
+    body[p] = (body[p] << 4) | x;
     Line {
         digits: line.digits + 1,
         reason: 0,
+        is_heard: true,
     }
 }
 
@@ -76,17 +72,17 @@ fn digit(n: u8) -> u8 {
 
 const ROW: usize = 4096; // bytes printed by one write
 
-// The bytes in hexadecimal.
-fn print_row(bytes: &[u8])
+// The bytes in hexadecimal. Here and below: false where they could not be written.
+fn print_row(bytes: &[u8]) -> bool
     requires { ⌜ length (now bytes) ≤ 4096 ⌝ }
 {
-    let mut text = [0u8; 8192];
+    let mut text = [0u8; 2 * ROW];
     let n = bytes.len();
     for i in 0..n {
         text[2 * i] = digit(bytes[i] / 16);
         text[2 * i + 1] = digit(bytes[i]);
     }
-    io::write_all(STDOUT_FILENO, &text[..2 * n]);
+    io::write_all(STDOUT_FILENO, &text[..2 * n])
 }
 
 fn smaller(a: usize, b: usize) -> usize
@@ -95,62 +91,52 @@ fn smaller(a: usize, b: usize) -> usize
     if a < b { a } else { b }
 }
 
-// The first n bytes in hexadecimal.
-fn print_rows(bytes: &[u8], n: usize) {
+// The first n bytes in hexadecimal, as a line.
+fn print(bytes: &[u8], n: usize) -> bool {
     let all = smaller(bytes.len(), n);
     let mut i = 0;
     while i < all {
         let end = i + smaller(ROW, all - i);
-        print_row(&bytes[i..end]);
+        if !print_row(&bytes[i..end]) {
+            return false;
+        }
         i = end;
     }
+    io::write_all(STDOUT_FILENO, b"\n")
 }
 
-// The same as a line.
-fn print(bytes: &[u8], n: usize) {
-    print_rows(bytes, n);
-    io::write_all(STDOUT_FILENO, b"\n");
-}
-
-fn print_reason(reason: u8) {
-    print(&[255, reason], 2);
+fn print_reason(reason: u8) -> bool {
+    print(&[NO_CALL, reason], 2)
 }
 
 // Makes the call of a line that has ended, and prints what it answers.
-fn finish(body: &[u8], room: &mut [u8], out: &mut [u8], line: Line) {
+fn finish(body: &Body, out: &mut Out, line: Line) -> bool {
     if line.reason != 0 {
-        print_reason(line.reason);
-        return;
+        return print_reason(line.reason);
     }
     if line.digits % 2 != 0 {
-        print_reason(1);
-        return;
+        return print_reason(1);
     }
-    let n = smaller(line.digits / 2, body.len());
-    let length = answer(&body[0..n], room, out);
-    print(out, length);
+    let length = answer(body, line.digits / 2, out);
+    print(out, length)
 }
 
 // Takes in one character, and hands back the line after it.
-fn next(body: &mut [u8], room: &mut [u8], out: &mut [u8], line: Line, ch: u8) -> Line {
+fn next(body: &mut Body, out: &mut Out, line: Line, ch: u8) -> Line {
     if ch != b'\n' {
         return with_char(body, line, ch);
     }
-    finish(body, room, out, line);
-    none()
+    start(finish(body, out, line))
 }
 
-// Takes in what was read, and hands back the line that it ends within.
-pub(crate) fn feed(
-    chunk: &[u8],
-    body: &mut [u8],
-    room: &mut [u8],
-    out: &mut [u8],
-    line: Line,
-) -> Line {
+// Takes in what was read, and hands back the line that it ends within; the rest is not looked at once nobody hears the answers.
+pub(crate) fn feed(chunk: &[u8], body: &mut Body, out: &mut Out, line: Line) -> Line {
     let mut now = line;
     for i in 0..chunk.len() {
-        now = next(body, room, out, now, chunk[i]);
+        now = next(body, out, now, chunk[i]);
+        if !now.is_heard {
+            return now;
+        }
     }
     now
 }

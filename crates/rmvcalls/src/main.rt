@@ -1,8 +1,13 @@
 // rmvcalls: makes the public calls that standard input asks for, a line each, and prints each answer whole. docs/CALLS.md
 // says what the lines are. Nothing is kept from one line to the next.
+use answers::Out;
+use args::Body;
+use layout::BODY;
+use layout::OUT;
 use libc::STDIN_FILENO;
 
 mod lines; // calls and answers as lines of hexadecimal digits
+mod layout; // how many bytes each type has, and where its fields stand
 mod args; // what a call's bytes stand for
 mod answers; // what an answer's bytes are
 mod calls; // which call a number is
@@ -14,15 +19,10 @@ mod table_calls; // 40 to 45
 
 const CHUNK: usize = 65536; // bytes read at once
 
-const BODY: usize = 135168; // bytes of the longest call
-
-const ROOM: usize = 65536; // bytes of the longest memory that a call may change
-
-const OUT: usize = 135168; // bytes of the longest answer: a part of a source
-
-// Answers line after line until the input ends. A proved loop has to end, so it counts down from more reads than any input takes.
-fn run(chunk: &mut [u8], body: &mut [u8], room: &mut [u8], out: &mut [u8]) {
-    let mut line = lines::none();
+// Answers line after line until the input ends, or an answer cannot be written. A proved loop has to end, so it counts down from
+// more reads than any input takes.
+fn run(chunk: &mut [u8], body: &mut Body, out: &mut Out) {
+    let mut line = lines::start(true);
     let mut turns = u64::MAX;
     while turns > 0 {
         let got = libc::read(STDIN_FILENO, chunk);
@@ -31,7 +31,10 @@ fn run(chunk: &mut [u8], body: &mut [u8], room: &mut [u8], out: &mut [u8]) {
             lines::end(line);
             return;
         }
-        line = lines::feed(&chunk[0..n], body, room, out, line);
+        line = lines::feed(&chunk[0..n], body, out, line);
+        if !line.is_heard {
+            return;
+        }
         turns -= 1;
     }
 }
@@ -39,7 +42,6 @@ fn run(chunk: &mut [u8], body: &mut [u8], room: &mut [u8], out: &mut [u8]) {
 fn main() {
     let mut chunk = [0u8; CHUNK];
     let mut body = [0u8; BODY];
-    let mut room = [0u8; ROOM];
     let mut out = [0u8; OUT];
-    run(&mut chunk, &mut body, &mut room, &mut out);
+    run(&mut chunk, &mut body, &mut out);
 }
