@@ -52,7 +52,7 @@ const ROW: usize = 256; // bytes printed by one write
 fn row(fd: i32, bytes: &[u8], is_last: bool)
     requires { ⌜ length (now bytes) ≤ 256 ⌝ }
 {
-    let mut text = [0u8; 768];
+    let mut text = [0u8; 3 * ROW];
     let n = bytes.len();
     for i in 0..n {
         text[3 * i] = digit(bytes[i] / 16);

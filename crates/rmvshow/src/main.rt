@@ -6,6 +6,10 @@ use plane::Fault;
 
 mod lines; // what is printed
 
+const SOURCE: usize = 16384; // bytes of the longest source
+
+const ROOM: usize = 32768; // bytes of the destination
+
 // The answer of the move that a record asks for, over zeros.
 fn moved(bytes: &[u8], source: &[u8], room: &mut [u8]) -> Answer {
     let r = record::read(bytes);
@@ -20,12 +24,12 @@ fn moved(bytes: &[u8], source: &[u8], room: &mut [u8]) -> Answer {
     mover::move_plane(t, c, source, room)
 }
 
-// What follows the record is the source, up to 16,384 bytes; the rest is not read. An input that ends within the record is
+// What follows the record is the source, up to SOURCE bytes; the rest is not read. An input that ends within the record is
 // refused as a record.
 fn main() {
     let mut bytes = [0u8; record::LENGTH];
-    let mut source = [0u8; 16384];
-    let mut room = [0u8; 32768];
+    let mut source = [0u8; SOURCE];
+    let mut room = [0u8; ROOM];
     let n = io::read_full(STDIN_FILENO, &mut bytes);
     let m = io::read_full(STDIN_FILENO, &mut source);
     let a = moved(&bytes[..n], &source[..m], &mut room);
