@@ -229,13 +229,13 @@ module _ (t : Tensor) (s : SubConfig) (src dst : List ℕ) (g : GoodSub t s (len
   both-accepted : Accepted (subOf t s) (copied (s .rank)) part dst ↔ Accepted t (sliced t s) src dst
   both-accepted = (
     λ e.
-    judged t (sliced t s) (length src) (length dst) ∙
-    move-clear t (sliced t s) (length src) (length dst)
-    (slice-too (rw (← needs g) (judged-good (subOf t s) (copied (s .rank)) (length part) (length dst) e .room))),
+        judged t (sliced t s) (length src) (length dst) ∙
+        move-clear t (sliced t s) (length src) (length dst)
+        (slice-too (rw (← needs g) (judged-good (subOf t s) (copied (s .rank)) (length part) (length dst) e .room))),
     λ e.
-    judged (subOf t s) (copied (s .rank)) (length part) (length dst) ∙
-    move-clear (subOf t s) (copied (s .rank)) (length part) (length dst)
-    (copy-too (judged-good t (sliced t s) (length src) (length dst) e .room)),
+        judged (subOf t s) (copied (s .rank)) (length part) (length dst) ∙
+        move-clear (subOf t s) (copied (s .rank)) (length part) (length dst)
+        (copy-too (judged-good t (sliced t s) (length src) (length dst) e .room)),
   )
 
 -- ---- the theorems, on what the calls answer
