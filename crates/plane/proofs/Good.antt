@@ -10,7 +10,7 @@ use Rattle.plane.specs.declared.Config.{Config}
 use Rattle.plane.specs.Arrays.{at, some}
 use Rattle.faults.specs.Faults.{lowest, outward}
 use Rattle.plane.specs.Planes.{badRank, badElement, badShape, shapeAt, strideAt, inner, resolved, badStrideAt, span, sourceFault}
-use Rattle.plane.specs.Moves.{extent, dstStrides, need, badPermAt, badOffset, badSize, badStep, badExtent, badDstOffset, configFault, dstFault, moveFault}
+use Rattle.plane.specs.Moves.{extent, dstStrides, need, badPermAt, badOffset, badSize, badStep, badExtent, badDstOffsetAt, configFault, dstFault, moveFault}
 use Rattle.plane.specs.Good.{GoodStrides, GoodSource, GoodConfig, GoodDst}
 use Rattle.plane.specs.Claims.{MoveGood, MoveClear}
 use Rattle.faults.proofs.Bools.{either-clear, neither, in-range}
@@ -106,19 +106,19 @@ module _ (t : Tensor) (c : Config) where
   -- ---- 11 and 12
 
   pub dst-good : dstFault t c .status ≡ 0 → GoodDst t c
-  unfolding dstFault
+  unfolding dstFault badDstOffsetAt
   dst-good z =
       let p = or-clear _ _ z in
       record {
         strides = strides-good 11 _ _ _ (omega arith) (p .0);
         offset = λ i h.
             let o = either-clear (leb (at (dstStrides t c) i) (at (c .«dst_offset») i)) _
-            (lowest-clear 12 (t .rank) (λ i. badDstOffset (at (dstStrides t c) i) (at (c .«dst_offset») i)) i (omega arith) (p .1) h) in
+            (lowest-clear 12 (t .rank) (badDstOffsetAt (at (dstStrides t c)) (at (c .«dst_offset»))) i (omega arith) (p .1) h) in
             (leb-false _ _ (o .0), ltb-false _ _ (o .1));
       }
 
   pub dst-clear : GoodDst t c → dstFault t c .status ≡ 0
-  unfolding dstFault
+  unfolding dstFault badDstOffsetAt
   dst-clear g =
       or-zero _ _ (strides-clear 11 _ _ _ (omega arith) (g .strides))
       (lowest-zero 12 _ _ (λ i h. neither _ _ (lt-leb _ _ (g .offset i h .0)) (le-ltb _ _ (g .offset i h .1))))

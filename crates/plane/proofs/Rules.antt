@@ -16,7 +16,7 @@ use Rattle.plane.specs.declared.strides.Strides.{Strides}
 use Rattle.plane.specs.Arrays.{at, zeros}
 use Rattle.faults.specs.Faults.{none, fault, when, _orElse_, lowest, ifFault}
 use Rattle.plane.specs.Planes.{badShape, shapeAt, srcStrides, span, sourceFault, sourceOf}
-use Rattle.plane.specs.Moves.{upward, taken, count, extent, dstExtents, dstStrides, need, badDstOffset, configFault, dstFault, moveFault, roomFault, refused, accepted, answerOf, judgeOf, roomOf}
+use Rattle.plane.specs.Moves.{upward, taken, count, extent, dstExtents, dstStrides, need, badDstOffsetAt, configFault, dstFault, moveFault, roomFault, refused, accepted, answerOf, judgeOf, roomOf}
 use Rattle.plane.specs.Private.{stridesOf, reach}
 use Rattle.faults.proofs.Bools.{either-clear, in-range}
 use Rattle.plane.proofs.Arrays.{zeros-at, sum-same, firsts-at}
@@ -157,17 +157,18 @@ module _ (t : Tensor) (c : Config) {e : List ℕ} {s : Strides} (ee : e ≡ dstE
     pub place-strides : s .stride ≡ dstStrides t c
     place-strides = strides-ok _ _ _ _ resolved-is z
 
-    pub place-offsets : {f : Fault} → f ≡ lowest 12 (t .rank) (λ i. badDstOffset (at (s .stride) i) (at (c .«dst_offset») i)) → dstFault t c ≡ f
+    pub place-offsets : {f : Fault} → f ≡ lowest 12 (t .rank) (badDstOffsetAt (at (s .stride)) (at (c .«dst_offset»))) → dstFault t c ≡ f
     unfolding dstFault
     place-offsets p =
         passed _ (strides-fault _ _ _ _ resolved-is) z ∙
-        sym (p ∙ ap (λ (l : List ℕ). lowest 12 (t .rank) (λ i. badDstOffset (at l i) (at (c .«dst_offset») i))) place-strides)
+        sym (p ∙ ap (λ (l : List ℕ). lowest 12 (t .rank) (badDstOffsetAt (at l) (at (c .«dst_offset»)))) place-strides)
 
-pub place-offset-small : (t : Tensor) (c : Config) (l : List ℕ) {f : Fault} → f ≡ lowest 12 (t .rank) (λ i. badDstOffset (at l i) (at (c .«dst_offset») i)) → f .status ≡ 0 → (i : ℕ) → i < t .rank → at (c .«dst_offset») i ≤ 65535
-place-offset-small t c l e z i h =
+pub place-offset-small : (t : Tensor) (c : Config) (l : List ℕ) {f : Fault} → f ≡ lowest 12 (t .rank) (badDstOffsetAt (at l) (at (c .«dst_offset»))) → f .status ≡ 0 → (i : ℕ) → i < t .rank → at (c .«dst_offset») i ≤ 65535
+unfolding badDstOffsetAt
+place-offset-small t c l p z i h =
     ltb-false _ _
     (either-clear (leb (at l i) (at (c .«dst_offset») i)) _
-    (lowest-clear 12 (t .rank) (λ i. badDstOffset (at l i) (at (c .«dst_offset») i)) i (omega arith) (sym (status e) ∙ z) h) .1)
+    (lowest-clear 12 (t .rank) (badDstOffsetAt (at l) (at (c .«dst_offset»))) i (omega arith) (sym (status p) ∙ z) h) .1)
 
 -- ---- the room question and the verdict on a move, from the judgements of the source, `s`, and of the destination, `a`
 

@@ -64,8 +64,8 @@ abbrev pub badExtent : ℕ → Bool
 badExtent e = ltb 65535 e
 
 -- 12: not below the resolved stride, or above 65,535
-abbrev pub badDstOffset : ℕ → ℕ → Bool
-badDstOffset stride offset = leb stride offset || ltb 65535 offset
+unfoldable pub badDstOffsetAt : (ℕ → ℕ) → (ℕ → ℕ) → ℕ → Bool
+badDstOffsetAt stride offset i = leb (stride i) (offset i) || ltb 65535 (offset i)
 
 -- 6 to 10
 unfoldable pub configFault : Tensor → Config → Fault
@@ -80,7 +80,7 @@ configFault t c =
 unfoldable pub dstFault : Tensor → Config → Fault
 dstFault t c =
     outward 11 (t .rank) (badStrideAt (t .rank) (at (dstExtents t c)) (at (c .«dst_stride»))) orElse
-    lowest 12 (t .rank) (λ i. badDstOffset (at (dstStrides t c) i) (at (c .«dst_offset») i))
+    lowest 12 (t .rank) (badDstOffsetAt (at (dstStrides t c)) (at (c .«dst_offset»)))
 
 -- a move is refused with 5 for a source shorter than the span, and with 13 for a destination shorter than need
 unfoldable pub moveFault : Tensor → Config → ℕ → ℕ → Fault

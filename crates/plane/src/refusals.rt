@@ -6,7 +6,7 @@ ghost use lib.Dec.{eqb};
 ghost use Rattle.plane.specs.Arrays.{at, some};
 ghost use Rattle.faults.specs.Faults.{none, lowest};
 ghost use Rattle.plane.specs.Planes.{badRank, badShape};
-ghost use Rattle.plane.specs.Moves.{badPermAt, badOffset, badSize, badStep, badDstOffset};
+ghost use Rattle.plane.specs.Moves.{badPermAt, badOffset, badSize, badStep, badDstOffsetAt};
 
 pub(crate) fn no_fault() -> Fault
     ensures { λ r. ⌜ r ≡ none ⌝ }
@@ -114,7 +114,7 @@ pub(crate) fn step_fault(n: u8, step: [u32; 4]) -> Fault
 // 12: strides are the resolved ones.
 pub(crate) fn dst_offset_fault(n: u8, stride: [u32; 4], offset: [u32; 4]) -> Fault
     requires { ⌜ n ≤ 4 ⌝ }
-    ensures { λ r. ⌜ r ≡ lowest 12 n (λ i. badDstOffset (at stride i) (at offset i)) ⌝ }
+    ensures { λ r. ⌜ r ≡ lowest 12 n (badDstOffsetAt (at stride) (at offset)) ⌝ }
 {
     for i in 0..n {
         let k = i as usize;

@@ -1,23 +1,25 @@
 -- `plane::refusals::dst_offset_fault` meets its contract. Assumes nothing.
-use Prim.Native.Nat.{ℕ, _-_}
+use Prim.Native.Nat.{_-_}
 use native.Mathlib.Omega.{arith}
 use borrow.Author.Needs.{needs}
 use Rattle.plane.specs.Arrays.{at}
-use Rattle.plane.specs.Moves.{badDstOffset}
+use Rattle.plane.specs.Moves.{badDstOffsetAt}
 use Rattle.faults.proofs.Faults.{Searched, searched-start, searched-more, searched-found, searched-end}
 use Rattle.plane.proofs.refusals.dst_offset_fault.Statement.{statement}
 use Rattle.plane.proofs.refusals.dst_offset_fault.Tie as tie
 
 abbrev Inv-loop : tie.InvT-loop
-Inv-loop n stride offset i₀ i = Searched 12 n (λ (k : ℕ). badDstOffset (at stride k) (at offset k)) i
+Inv-loop n stride offset i₀ i = Searched 12 n (badDstOffsetAt (at stride) (at offset)) i
 
 abbrev μ-loop : tie.MeasureT-loop
 μ-loop n stride offset i₀ i = n - i
 
 returns : tie.Need-returns Inv-loop μ-loop
+unfolding badDstOffsetAt
 returns c = searched-found (c .before .before .loop .inv) (omega arith) (c .before .loop-test .taken) (c .if1 .taken)
 
 loop-again : tie.Need-loop-again Inv-loop μ-loop
+unfolding badDstOffsetAt
 loop-again c = searched-more (c .before .before .loop .inv) (c .before .loop-test .taken) (c .if1 .left)
 
 returns-2 : tie.Need-returns-2 Inv-loop μ-loop
