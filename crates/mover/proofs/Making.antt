@@ -76,7 +76,7 @@ module _ {t : Tensor} {c : Config} (g : GoodSource t) (k : GoodConfig t c) where
     element = element-small (t .«element_size») (g .element) .1;
     dim = λ i h. omega (arith, k .perm i h, g .rank .1);
     offset = λ i h. omega (arith, k .offset (dimOf c i) (k .perm i h), g .shape (dimOf c i) (k .perm i h) .1);
-    dst-offset = λ i h. p .offset i h .1;
+    dst-offset = p .offset;
     extent = λ i h. dst-extent k i (g .rank .1) h .1;
     padding = λ i h. omega (arith, extent-is i h);
   }

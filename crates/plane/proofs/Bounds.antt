@@ -87,7 +87,7 @@ need-fits t c g k p =
     box-fits (t .rank) _ (t .«element_size») (g .rank .1) (element-small (t .«element_size») (g .element) .1)
     (λ i h.
     let e = firsts-at 0 (t .rank) (resolved (t .rank) (at (dstExtents t c)) (at (c .«dst_stride»))) i (g .rank .1) h in
-    let s : at (c .«dst_offset») i + at (dstExtents t c) i - 1 ≤ 131070 = omega (arith, p .offset i h .1, dst-extent k i (g .rank .1) h .1) in
+    let s : at (c .«dst_offset») i + at (dstExtents t c) i - 1 ≤ 131070 = omega (arith, p .offset i h, dst-extent k i (g .rank .1) h .1) in
     let m : at (dstStrides t c) i ≤ 2147483647 = rw e (p .strides .most i h) in
     mul-le-mul s m)
 

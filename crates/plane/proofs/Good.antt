@@ -1,16 +1,16 @@
 -- What acceptance tells: a stretch of the numbers of refusal gives none exactly if its conditions hold. Assumes nothing.
-use Prim.Native.Nat.{ℕ, zero, suc, _-_, _≤_, _<_}
+use Prim.Native.Nat.{ℕ, zero, suc, _+_, _-_, _*_, _≤_, _<_}
 use native.Mathlib.Omega.{arith}
-use mathlib.Core.Path.{_≡_, refl}
-use mathlib.Core.Bool.{false}
-use borrow.Author.Tests.{eqb-false, ne-eqb, leb-false, lt-leb, ltb-false, le-ltb}
+use mathlib.Core.Path.{_≡_, refl, sym, _∙_}
+use mathlib.Core.Bool.{Bool, true, false}
+use borrow.Author.Tests.{eqb-false, ne-eqb, leb-false, lt-leb, ltb-false, lt-ltb, le-ltb}
 use lib.Dec.{leb, ltb, eqb}
 use Rattle.plane.specs.declared.Tensor.{Tensor}
 use Rattle.plane.specs.declared.Config.{Config}
 use Rattle.plane.specs.Arrays.{at, some}
 use Rattle.faults.specs.Faults.{lowest, outward}
 use Rattle.plane.specs.Planes.{badRank, badElement, badShape, shapeAt, strideAt, inner, resolved, badStrideAt, span, sourceFault}
-use Rattle.plane.specs.Moves.{extent, dstStrides, need, badPermAt, badOffset, badSize, badStep, badExtent, badDstOffsetAt, configFault, dstFault, moveFault}
+use Rattle.plane.specs.Moves.{extent, dstExtents, dstStrides, need, badPermAt, badOffset, badSize, badStep, badExtent, badDstOffsetAt, configFault, dstFault, moveFault}
 use Rattle.plane.specs.Good.{GoodStrides, GoodSource, GoodConfig, GoodDst}
 use Rattle.plane.specs.Claims.{MoveGood, MoveClear}
 use Rattle.faults.proofs.Bools.{either-clear, neither, in-range}
@@ -34,6 +34,29 @@ module _ (num n : ℕ) (shape stride : ℕ → ℕ) (p : 0 < num) where
   strides-clear : GoodStrides n shape stride → outward num n (badStrideAt n shape stride) .status ≡ 0
   unfolding badStrideAt
   strides-clear g = outward-zero num n (badStrideAt n shape stride) (λ d h. neither _ _ (le-ltb _ _ (g .least d h)) (le-ltb _ _ (g .most d h)))
+
+-- ---- 12, in one dimension
+
+module _ (extent stride offset : ℕ → ℕ) where
+  pub too-far : (i : ℕ) → 65535 < offset i → badDstOffsetAt extent stride offset i ≡ true
+  unfolding badDstOffsetAt
+  too-far i h = simp (lt-ltb 65535 (offset i) h)
+
+  -- the first has no other bound
+  pub first-free : offset 0 ≤ 65535 → badDstOffsetAt extent stride offset 0 ≡ false
+  unfolding badDstOffsetAt
+  first-free h = simp (le-ltb 65535 (offset 0) h)
+
+  pub after-first : (i : ℕ) → 0 < i → offset i ≤ 65535 → badDstOffsetAt extent stride offset i ≡ ltb (stride (i - 1)) ((offset i + extent i) * stride i)
+  unfolding badDstOffsetAt
+  after-first i p h = simp (lt-ltb 0 i p, le-ltb 65535 (offset i) h)
+
+  pub offset-small : (i : ℕ) → badDstOffsetAt extent stride offset i ≡ false → offset i ≤ 65535
+  unfolding badDstOffsetAt
+  offset-small i e = ltb-false 65535 (offset i) (either-clear _ _ e .0)
+
+  row-within : (i : ℕ) → 0 < i → badDstOffsetAt extent stride offset i ≡ false → (offset i + extent i) * stride i ≤ stride (i - 1)
+  row-within i p e = ltb-false _ _ (sym (after-first i p (offset-small i e)) ∙ e)
 
 -- ---- 1 to 4
 
@@ -106,22 +129,30 @@ module _ (t : Tensor) (c : Config) where
   -- ---- 11 and 12
 
   pub dst-good : dstFault t c .status ≡ 0 → GoodDst t c
-  unfolding dstFault badDstOffsetAt
+  unfolding dstFault
   dst-good z =
       let p = or-clear _ _ z in
       record {
         strides = strides-good 11 _ _ _ (omega arith) (p .0);
-        offset = λ i h.
-            let o = either-clear (leb (at (dstStrides t c) i) (at (c .«dst_offset») i)) _
-            (lowest-clear 12 (t .rank) (badDstOffsetAt (at (dstStrides t c)) (at (c .«dst_offset»))) i (omega arith) (p .1) h) in
-            (leb-false _ _ (o .0), ltb-false _ _ (o .1));
+        offset = λ i h. offset-small _ _ _ i (clear i (p .1) h);
+        row = λ i l h. row-within _ _ _ i l (clear i (p .1) h);
       }
+    where
+      bad : ℕ → Bool
+      bad = badDstOffsetAt (at (dstExtents t c)) (at (dstStrides t c)) (at (c .«dst_offset»))
+
+      clear : (i : ℕ) → lowest 12 (t .rank) bad .status ≡ 0 → i < t .rank → bad i ≡ false
+      clear i z h = lowest-clear 12 (t .rank) bad i (omega arith) z h
 
   pub dst-clear : GoodDst t c → dstFault t c .status ≡ 0
-  unfolding dstFault badDstOffsetAt
+  unfolding dstFault
   dst-clear g =
       or-zero _ _ (strides-clear 11 _ _ _ (omega arith) (g .strides))
-      (lowest-zero 12 _ _ (λ i h. neither _ _ (lt-leb _ _ (g .offset i h .0)) (le-ltb _ _ (g .offset i h .1))))
+      (lowest-zero 12 _ _ clear)
+    where
+      clear : (i : ℕ) → i < t .rank → badDstOffsetAt (at (dstExtents t c)) (at (dstStrides t c)) (at (c .«dst_offset»)) i ≡ false
+      clear zero h = first-free _ _ _ (g .offset 0 h)
+      clear (suc i) h = after-first _ _ _ (suc i) (omega arith) (g .offset (suc i) h) ∙ le-ltb _ _ (g .row (suc i) (omega arith) h)
 
 -- ---- 1 to 13
 

@@ -23,7 +23,7 @@ use Rattle.plane.proofs.Arrays.{zeros-at, sum-same, firsts-at}
 use Rattle.faults.proofs.Faults.{status, or-none, or-found, or-assoc, passed, stopped, if-fault, if-none, given, spared, when-bad, when-good, lowest-clear}
 use Rattle.plane.proofs.Resolving.{strides-fault, strides-ok}
 use Rattle.plane.specs.Good.{GoodSource, GoodConfig}
-use Rattle.plane.proofs.Good.{positive, source-good}
+use Rattle.plane.proofs.Good.{positive, offset-small, source-good}
 
 -- ---- a tensor record by itself
 
@@ -157,18 +157,16 @@ module _ (t : Tensor) (c : Config) {e : List ℕ} {s : Strides} (ee : e ≡ dstE
     pub place-strides : s .stride ≡ dstStrides t c
     place-strides = strides-ok _ _ _ _ resolved-is z
 
-    pub place-offsets : {f : Fault} → f ≡ lowest 12 (t .rank) (badDstOffsetAt (at (s .stride)) (at (c .«dst_offset»))) → dstFault t c ≡ f
+    pub place-offsets : {f : Fault} → f ≡ lowest 12 (t .rank) (badDstOffsetAt (at e) (at (s .stride)) (at (c .«dst_offset»))) → dstFault t c ≡ f
     unfolding dstFault
     place-offsets p =
         passed _ (strides-fault _ _ _ _ resolved-is) z ∙
-        sym (p ∙ ap (λ (l : List ℕ). lowest 12 (t .rank) (badDstOffsetAt (at l) (at (c .«dst_offset»)))) place-strides)
+        sym (p ∙ ap₂ (λ (x l : List ℕ). lowest 12 (t .rank) (badDstOffsetAt (at x) (at l) (at (c .«dst_offset»)))) ee place-strides)
 
-pub place-offset-small : (t : Tensor) (c : Config) (l : List ℕ) {f : Fault} → f ≡ lowest 12 (t .rank) (badDstOffsetAt (at l) (at (c .«dst_offset»))) → f .status ≡ 0 → (i : ℕ) → i < t .rank → at (c .«dst_offset») i ≤ 65535
-unfolding badDstOffsetAt
-place-offset-small t c l p z i h =
-    ltb-false _ _
-    (either-clear (leb (at l i) (at (c .«dst_offset») i)) _
-    (lowest-clear 12 (t .rank) (badDstOffsetAt (at l) (at (c .«dst_offset»))) i (omega arith) (sym (status p) ∙ z) h) .1)
+pub place-offset-small : (t : Tensor) (c : Config) (e l : List ℕ) {f : Fault} → f ≡ lowest 12 (t .rank) (badDstOffsetAt (at e) (at l) (at (c .«dst_offset»))) → f .status ≡ 0 → (i : ℕ) → i < t .rank → at (c .«dst_offset») i ≤ 65535
+place-offset-small t c e l p z i h =
+    offset-small (at e) (at l) (at (c .«dst_offset»)) i
+    (lowest-clear 12 (t .rank) (badDstOffsetAt (at e) (at l) (at (c .«dst_offset»))) i (omega arith) (sym (status p) ∙ z) h)
 
 -- ---- the room question and the verdict on a move, from the judgements of the source, `s`, and of the destination, `a`
 

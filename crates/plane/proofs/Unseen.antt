@@ -115,10 +115,11 @@ module _ (n z : ℕ) (s s′ p p′ : List ℕ) (a : SameTensor (tensor n z s p)
       dst-strides-same : dstStrides T c ≡ dstStrides T′ c′
       dst-strides-same = strides-same n _ _ _ _ extent-at (b .dst-stride)
 
-      place-at : (i : ℕ) → i < n → badDstOffsetAt (at (dstStrides T c)) (at (c .«dst_offset»)) i ≡ badDstOffsetAt (at (dstStrides T′ c′)) (at (c′ .«dst_offset»)) i
+      place-at : (i : ℕ) → i < n → badDstOffsetAt (at (dstExtents T c)) (at (dstStrides T c)) (at (c .«dst_offset»)) i ≡ badDstOffsetAt (at (dstExtents T′ c′)) (at (dstStrides T′ c′)) (at (c′ .«dst_offset»)) i
       unfolding badDstOffsetAt
       place-at i h =
-          ap₂ (λ (o : ℕ) (l : List ℕ). leb (at l i) o || ltb 65535 o) (b .dst-offset i h) dst-strides-same
+          ap₂ (λ (x o : ℕ). ltb 65535 o || (ltb 0 i && ltb (at (dstStrides T c) (i - 1)) ((o + x) * at (dstStrides T c) i))) (extent-at i h) (b .dst-offset i h) ∙
+          ap (λ (l : List ℕ). badDstOffsetAt (at (dstExtents T′ c′)) (at l) (at (c′ .«dst_offset»)) i) dst-strides-same
 
       place-same : dstFault T c ≡ dstFault T′ c′
       unfolding dstFault

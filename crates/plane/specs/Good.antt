@@ -1,5 +1,5 @@
 -- What acceptance tells: the paper's conditions as plain inequalities, a record for each stretch of the numbers of refusal.
-use Prim.Native.Nat.{ℕ, suc, _+_, _-_, _≤_, _<_}
+use Prim.Native.Nat.{ℕ, suc, _+_, _-_, _*_, _≤_, _<_}
 use mathlib.Core.Path.{_≡_}
 use Rattle.plane.specs.declared.Tensor.{Tensor}
 use Rattle.plane.specs.declared.Config.{Config}
@@ -37,7 +37,9 @@ pub record GoodConfig (t : Tensor) (c : Config) : Type 0 where
 -- 11 and 12
 pub record GoodDst (t : Tensor) (c : Config) : Type 0 where
   pub strides : GoodStrides (t .rank) (at (dstExtents t c)) (at (c .«dst_stride»))
-  pub offset : (i : ℕ) → i < t .rank → (at (c .«dst_offset») i < at (dstStrides t c) i) × (at (c .«dst_offset») i ≤ 65535)
+  pub offset : (i : ℕ) → i < t .rank → at (c .«dst_offset») i ≤ 65535
+  pub row : (i : ℕ) → 0 < i → i < t .rank →
+      (at (c .«dst_offset») i + at (dstExtents t c) i) * at (dstStrides t c) i ≤ at (dstStrides t c) (i - 1)
 
 -- 1 to 13
 pub record GoodMove (t : Tensor) (c : Config) (srcLen dstLen : ℕ) : Type 0 where

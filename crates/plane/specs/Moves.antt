@@ -1,6 +1,6 @@
 -- The move: kept counts, extents, destination strides and need; the numbers of refusal 5 to 13; the answers.
 use Prim.Native.Nat.{ℕ, _+_, _-_, _*_, _/_}
-use mathlib.Core.Bool.{Bool, _||_}
+use mathlib.Core.Bool.{Bool, _||_, _&&_}
 use mathlib.Core.List.{List}
 use lib.Dec.{ltb, leb, eqb}
 use Rattle.plane.specs.declared.Tensor.{Tensor}
@@ -63,9 +63,11 @@ badStep step = eqb step 0 || ltb 65535 step
 abbrev pub badExtent : ℕ → Bool
 badExtent e = ltb 65535 e
 
--- 12: not below the resolved stride, or above 65,535
-unfoldable pub badDstOffsetAt : (ℕ → ℕ) → (ℕ → ℕ) → ℕ → Bool
-badDstOffsetAt stride offset i = leb (stride i) (offset i) || ltb 65535 (offset i)
+-- 12: above 65,535; or, in a dimension after the first, (offset + extent) x stride above the stride before it. The strides are the
+-- resolved ones
+unfoldable pub badDstOffsetAt : (ℕ → ℕ) → (ℕ → ℕ) → (ℕ → ℕ) → ℕ → Bool
+badDstOffsetAt extent stride offset i =
+    ltb 65535 (offset i) || (ltb 0 i && ltb (stride (i - 1)) ((offset i + extent i) * stride i))
 
 -- 6 to 10
 unfoldable pub configFault : Tensor → Config → Fault
@@ -80,7 +82,7 @@ configFault t c =
 unfoldable pub dstFault : Tensor → Config → Fault
 dstFault t c =
     outward 11 (t .rank) (badStrideAt (t .rank) (at (dstExtents t c)) (at (c .«dst_stride»))) orElse
-    lowest 12 (t .rank) (badDstOffsetAt (at (dstStrides t c)) (at (c .«dst_offset»)))
+    lowest 12 (t .rank) (badDstOffsetAt (at (dstExtents t c)) (at (dstStrides t c)) (at (c .«dst_offset»)))
 
 -- a move is refused with 5 for a source shorter than the span, and with 13 for a destination shorter than need
 unfoldable pub moveFault : Tensor → Config → ℕ → ℕ → Fault

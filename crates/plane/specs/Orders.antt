@@ -35,7 +35,7 @@ configRules t c =
 abbrev pub dstRules : Tensor → Config → List Rule
 dstRules t c =
     fromLast 11 (t .rank) (badStrideAt (t .rank) (at (dstExtents t c)) (at (c .«dst_stride»))) ∷
-    fromFirst 12 (t .rank) (badDstOffsetAt (at (dstStrides t c)) (at (c .«dst_offset»))) ∷
+    fromFirst 12 (t .rank) (badDstOffsetAt (at (dstExtents t c)) (at (dstStrides t c)) (at (c .«dst_offset»))) ∷
     []
 
 -- move: 1 to 13

@@ -62,7 +62,7 @@ fn placement(t: Tensor, c: Config, extent: [u32; 4]) -> Answer
     }
     let stride = s.stride;
     let offset = c.dst_offset;
-    let g = dst_offset_fault(n, stride, offset);
+    let g = dst_offset_fault(n, extent, stride, offset);
     if g.status != 0 {
         return Answer::refused(g);
     }

@@ -1,12 +1,14 @@
 // The rules that name the lowest dimension at fault, a function each. n is the rank; entries at or past it are not read.
 use crate::Fault;
+use crate::strides::times;
 ghost use mathlib.Core.Path.{_≡_};
-ghost use Prim.Native.Nat.{_+_, _≤_, _<_};
+ghost use Prim.Native.Nat.{ℕ, _+_, _≤_, _<_};
 ghost use lib.Dec.{eqb};
 ghost use Rattle.plane.specs.Arrays.{at, some};
 ghost use Rattle.faults.specs.Faults.{none, lowest};
 ghost use Rattle.plane.specs.Planes.{badRank, badShape};
 ghost use Rattle.plane.specs.Moves.{badPermAt, badOffset, badSize, badStep, badDstOffsetAt};
+ghost use Rattle.plane.specs.Private.{IsExtent};
 
 pub(crate) fn no_fault() -> Fault
     ensures { λ r. ⌜ r ≡ none ⌝ }
@@ -111,15 +113,28 @@ pub(crate) fn step_fault(n: u8, step: [u32; 4]) -> Fault
     no_fault()
 }
 
+// Whether dimension k refuses its offset: no stride stands before the first, which the room alone bounds. The product needs more
+// than 32 bits.
+fn dst_offset_is_bad(k: usize, extent: [u32; 4], stride: [u32; 4], offset: [u32; 4]) -> bool
+    requires { ⌜ (k < 4) × IsExtent extent k ⌝ }
+    ensures { λ r. ⌜ r ≡ badDstOffsetAt (at extent) (at stride) (at offset) k ⌝ }
+{
+    if 65535 < offset[k] {
+        return true;
+    }
+    if k == 0 {
+        return false;
+    }
+    (stride[k - 1] as u64) < times(offset[k] + extent[k], stride[k])
+}
+
 // 12: strides are the resolved ones.
-pub(crate) fn dst_offset_fault(n: u8, stride: [u32; 4], offset: [u32; 4]) -> Fault
-    requires { ⌜ n ≤ 4 ⌝ }
-    ensures { λ r. ⌜ r ≡ lowest 12 n (badDstOffsetAt (at stride) (at offset)) ⌝ }
+pub(crate) fn dst_offset_fault(n: u8, extent: [u32; 4], stride: [u32; 4], offset: [u32; 4]) -> Fault
+    requires { ⌜ (n ≤ 4) × ((i : ℕ) → i < n → IsExtent extent i) ⌝ }
+    ensures { λ r. ⌜ r ≡ lowest 12 n (badDstOffsetAt (at extent) (at stride) (at offset)) ⌝ }
 {
     for i in 0..n {
-        let k = i as usize;
-        let o = offset[k];
-        if (stride[k] <= o) | (65535 < o) {
+        if dst_offset_is_bad(i as usize, extent, stride, offset) {
             return Fault { status: 12, dim: i };
         }
     }

@@ -20,7 +20,7 @@ fn resolved(stride: u32, inner: u64) -> u64
 }
 
 // The whole product, which 64 bits hold.
-fn times(a: u32, b: u32) -> u64
+pub(crate) fn times(a: u32, b: u32) -> u64
     ensures { λ r. ⌜ (r ≡ a * b) × (r ≤ a * 4294967295) ⌝ }
 {
     (a as u64) * (b as u64)

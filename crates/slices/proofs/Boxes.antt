@@ -1,6 +1,6 @@
 -- Moves that take a box of the plane and neither pad, step nor permute; the copy among them. Assumes nothing.
 use Prim.Native.Nat.{ℕ, suc, _+_, _-_, _*_, _≤_, _<_}
-use native.Mathlib.Nat.{add-zero, zero-add, mul-one, div-one}
+use native.Mathlib.Nat.{add-zero, zero-add, mul-one, mul-comm, div-one}
 use native.Mathlib.Omega.{arith}
 use mathlib.Core.Path.{_≡_, sym, ap, ap₂, _∙_}
 use mathlib.Core.List.{List}
@@ -13,7 +13,7 @@ use Rattle.plane.specs.Moves.{taken, count, extent, dstExtents, dstStrides}
 use Rattle.ready_made.specs.ReadyMade.{defaults, cutTo, madeFor}
 use Rattle.plane.proofs.Arrays.{table-at, zeros-at, firsts-at, firsts-same, sum-same, product-same}
 use Rattle.plane.specs.Good.{GoodSource, GoodConfig, GoodDst}
-use Rattle.plane.proofs.Falling.{stride-positive}
+use Rattle.plane.proofs.Falling.{strides-fall}
 use Rattle.mover.specs.Element.{sourcePlace}
 use Rattle.slices.proofs.Compact.{compact-at, compact-good}
 use Rattle.mover.specs.Demand2.{IsCoordinate, KeptAt}
@@ -78,9 +78,13 @@ module _ {u : Tensor} {c : Config} {z : List ℕ} (b : Boxed u c z) where
       let s = compact-good (u .rank) (at (dstExtents u c)) (at (c .«dst_stride»)) p (shapeAt u) (strideAt u) (λ i h. rw (boxed-extent-at few i h) (w i h .1)) (g .strides) in
       record {
         strides = s;
-        offset = λ i h.
-            rw (o i h, firsts-at 0 (u .rank) (resolved (u .rank) (at (dstExtents u c)) (at (c .«dst_stride»))) i few h)
-            (stride-positive (u .rank) (at (dstExtents u c)) (at (c .«dst_stride»)) (λ j l. rw (boxed-extent-at few j l) (w j l .0)) s i h, omega arith);
+        offset = λ i h. omega (arith, o i h);
+        row = λ i l h.
+            let e = at (dstExtents u c) in
+            let k = at (c .«dst_stride») in
+            let r = firsts-at 0 (u .rank) (resolved (u .rank) e k) in
+            rw (o i h, zero-add, mul-comm (e i), r i few h, r (i - 1) few (omega arith))
+            (strides-fall (u .rank) e k (λ j q. rw (boxed-extent-at few j q) (w j q .0)) s (i - 1) i (omega arith) h);
       }
 
 -- size 0 from offset 0 on is the shape, and any other size is itself

@@ -33,7 +33,7 @@ bytes-requires c κs =
       a .pre .0,
       λ d h.
           let p = a .pre .2 d h in
-          let q = place-offset-small (a .args .t) (a .args .c) (r .resolve .result .stride) (o .dst-offset-fault .ensures) (c .if2 .left) d h in
+          let q = place-offset-small (a .args .t) (a .args .c) (a .args .extent) (r .resolve .result .stride) (o .dst-offset-fault .ensures) (c .if2 .left) d h in
           (p .0, omega arith),
     )
 
