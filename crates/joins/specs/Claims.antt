@@ -1,0 +1,142 @@
+-- What is claimed of a plane that is set into a larger one, and of two planes that are joined along a dimension by two moves, one after
+-- the other. The larger plane is written as a tensor record too: so its strides, its span and the bytes of its elements are those of
+-- any plane. Its shape may be above 65,535, since a joined plane may be.
+use Prim.Native.Nat.{ℕ, _+_, _-_, _≤_, _<_}
+use mathlib.Core.Path.{_≡_}
+use mathlib.Core.Bool.{cond}
+use mathlib.Core.Logic.{_⊎_}
+use mathlib.Core.List.{List}
+use lib.Dec.{eqb}
+use lib.ListN.{length, getD}
+use Rattle.plane.specs.declared.Tensor.{Tensor}
+use Rattle.plane.specs.declared.Config.{Config}
+use Rattle.plane.specs.Arrays.{at, table, zeros}
+use Rattle.plane.specs.Planes.{shapeAt, strideAt, srcStrides, span, sourceFault}
+use Rattle.plane.specs.Good.{GoodStrides}
+use Rattle.ready_made.specs.ReadyMade.{concatenateOf}
+use Rattle.mover.specs.Moved.{moveMemory}
+use Rattle.mover.specs.Demand2.{Accepted}
+use Rattle.slices.specs.Claims.{elementByte}
+
+-- ---- a plane
+
+-- y is a coordinate of it
+abbrev pub IsIn : Tensor → (ℕ → ℕ) → Type 0
+IsIn t y = (i : ℕ) → i < t .rank → y i < shapeAt t i
+
+-- byte k is none of the element's at y
+abbrev pub Misses : Tensor → (ℕ → ℕ) → ℕ → Type 0
+Misses t y k = (k < elementByte t y) ⊎ (elementByte t y + t .«element_size» ≤ k)
+
+-- strides that 4 takes
+abbrev pub Falls : Tensor → Type 0
+Falls t = GoodStrides (t .rank) (shapeAt t) (strideAt t)
+
+-- 1 to 5 take it from the source src
+abbrev pub Passes : Tensor → List ℕ → Type 0
+Passes t src = (sourceFault t .status ≡ 0) × (span t ≤ length src)
+
+-- its elements lie in its span
+abbrev pub ElementWithin : Type 0
+ElementWithin = (t : Tensor) (y : ℕ → ℕ) → IsIn t y → elementByte t y + t .«element_size» ≤ span t
+
+-- those of coordinates that differ have no byte in common
+abbrev pub ElementsApart : Type 0
+ElementsApart =
+    (t : Tensor) → t .rank ≤ 4 → Falls t → (x y : ℕ → ℕ) → IsIn t x → IsIn t y → (i : ℕ) → i < t .rank → (x i ≡ y i → ⊥) →
+    (elementByte t x + t .«element_size» ≤ elementByte t y) ⊎ (elementByte t y + t .«element_size» ≤ elementByte t x)
+
+-- ---- a plane t set into a larger plane w, from its coordinate o on
+
+-- the strides are w's, written; all but offset and strides is default
+abbrev pub setInto : Tensor → List ℕ → Config
+setInto w o = concatenateOf (w .rank) o (srcStrides w) .config
+
+abbrev pub afterSet : Tensor → Tensor → List ℕ → List ℕ → List ℕ → List ℕ
+afterSet w t o src dst = moveMemory t (setInto w o) src dst
+
+pub record Settable (w t : Tensor) (o src dst : List ℕ) : Type 0 where
+  pub rank : t .rank ≡ w .rank
+  pub element : t .«element_size» ≡ w .«element_size»
+  pub source : Passes t src
+  pub strides : Falls w
+  pub fits : (i : ℕ) → i < w .rank → at o i + shapeAt t i ≤ shapeAt w i
+  pub limit : (i : ℕ) → i < w .rank → at o i ≤ 65535
+  pub room : span w ≤ length dst
+
+pub record Set (w t : Tensor) (o src dst : List ℕ) : Type 0 where
+  pub accepted : Accepted t (setInto w o) src dst
+  pub long : length (afterSet w t o src dst) ≡ length dst
+  -- the element at x is w's at o + x
+  pub placed : (x : ℕ → ℕ) → IsIn t x → (b : ℕ) → b < t .«element_size» →
+      getD (afterSet w t o src dst) (elementByte w (λ i. at o i + x i) + b) 0 ≡ getD src (elementByte t x + b) 0
+  -- a byte of none of these is as it was
+  pub rest : (k : ℕ) → ((x : ℕ → ℕ) → IsIn t x → Misses w (λ i. at o i + x i) k) → getD (afterSet w t o src dst) k 0 ≡ getD dst k 0
+
+abbrev pub SetInto : Type 0
+SetInto = (w t : Tensor) (o src dst : List ℕ) → Settable w t o src dst → Set w t o src dst
+
+-- ---- two planes a and b joined along dimension d
+
+-- the joined plane: along d both shapes together. Its strides are those asked for, 0 for compact ones
+abbrev pub joined : Tensor → Tensor → ℕ → List ℕ → Tensor
+joined a b d stride = record {
+  rank = a .rank;
+  «element_size» = a .«element_size»;
+  shape = table (λ i. shapeAt a i + cond (eqb i d) (shapeAt b i) 0);
+  stride = stride;
+}
+
+-- b starts where a ends
+abbrev pub behind : Tensor → ℕ → List ℕ
+behind a d = table (λ i. cond (eqb i d) (shapeAt a i) 0)
+
+pub record Joinable (a b : Tensor) (d : ℕ) (stride srcA srcB dst : List ℕ) : Type 0 where
+  pub along : d < a .rank
+  -- the shapes agree but for d
+  pub rank : b .rank ≡ a .rank
+  pub element : b .«element_size» ≡ a .«element_size»
+  pub shape : (i : ℕ) → i < a .rank → (i ≡ d → ⊥) → shapeAt b i ≡ shapeAt a i
+  pub first : Passes a srcA
+  pub second : Passes b srcB
+  pub strides : Falls (joined a b d stride)
+  pub room : span (joined a b d stride) ≤ length dst
+
+-- the destination with a set in, and with both
+abbrev pub afterFirst : Tensor → Tensor → ℕ → List ℕ → List ℕ → List ℕ → List ℕ
+afterFirst a b d stride srcA dst = afterSet (joined a b d stride) a zeros srcA dst
+
+abbrev pub afterBoth : Tensor → Tensor → ℕ → List ℕ → List ℕ → List ℕ → List ℕ → List ℕ
+afterBoth a b d stride srcA srcB dst = afterSet (joined a b d stride) b (behind a d) srcB (afterFirst a b d stride srcA dst)
+
+pub record Joined (a b : Tensor) (d : ℕ) (stride srcA srcB dst : List ℕ) : Type 0 where
+  -- both moves are accepted
+  pub first : Accepted a (setInto (joined a b d stride) zeros) srcA dst
+  pub second : Accepted b (setInto (joined a b d stride) (behind a d)) srcB (afterFirst a b d stride srcA dst)
+  pub long : length (afterBoth a b d stride srcA srcB dst) ≡ length dst
+  -- the joined plane's element at y is a's at y, as far as a reaches along d
+  pub of-first : (y : ℕ → ℕ) → IsIn (joined a b d stride) y → y d < shapeAt a d → (k : ℕ) → k < a .«element_size» →
+      getD (afterBoth a b d stride srcA srcB dst) (elementByte (joined a b d stride) y + k) 0 ≡ getD srcA (elementByte a y + k) 0
+  -- and past it b's
+  pub of-second : (y : ℕ → ℕ) → IsIn (joined a b d stride) y → shapeAt a d ≤ y d → (k : ℕ) → k < a .«element_size» →
+      getD (afterBoth a b d stride srcA srcB dst) (elementByte (joined a b d stride) y + k) 0
+      ≡ getD srcB (elementByte b (λ i. y i - at (behind a d) i) + k) 0
+  -- a byte of no element of the joined plane is as it was
+  pub rest : (k : ℕ) → ((y : ℕ → ℕ) → IsIn (joined a b d stride) y → Misses (joined a b d stride) y k) →
+      getD (afterBoth a b d stride srcA srcB dst) k 0 ≡ getD dst k 0
+
+abbrev pub JoinedPlane : Type 0
+JoinedPlane =
+    (a b : Tensor) (d : ℕ) (stride srcA srcB dst : List ℕ) → Joinable a b d stride srcA srcB dst → Joined a b d stride srcA srcB dst
+
+-- where the strides asked for are 0, the limit alone is to be kept
+abbrev pub CompactFalls : Type 0
+CompactFalls =
+    (t : Tensor) → t .rank ≤ 4 → ((i : ℕ) → i < t .rank → strideAt t i ≡ 0) →
+    ((i : ℕ) → i < t .rank → at (srcStrides t) i ≤ 2147483647) → Falls t
+
+-- a joined plane of a shape within the limit can be moved on as a source: 1 to 5 take it from what the two moves left
+abbrev pub JoinedPasses : Type 0
+JoinedPasses =
+    (a b : Tensor) (d : ℕ) (stride srcA srcB dst : List ℕ) → Joinable a b d stride srcA srcB dst → shapeAt a d + shapeAt b d ≤ 65535 →
+    Passes (joined a b d stride) (afterBoth a b d stride srcA srcB dst)
