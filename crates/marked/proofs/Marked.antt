@@ -3,7 +3,7 @@ use mathlib.Core.Path.{refl}
 use Rattle.plane.specs.Arrays.{firstsOr, sum, product, howMany, some, every}
 use Rattle.faults.specs.Faults.{when, _orElse_, first, lowest, outward}
 use Rattle.plane.specs.Planes.{inner, resolved, badStrideAt, span, sourceFault}
-use Rattle.plane.specs.Moves.{count, extent, dstExtents, need, configFault, dstFault, moveFault, roomFault, answerOf, judgeOf, roomOf}
+use Rattle.plane.specs.Moves.{count, extent, dstExtents, need, badDstOffsetAt, configFault, dstFault, moveFault, roomFault, answerOf, judgeOf, roomOf}
 use Rattle.plane.specs.Helpers.{elements, countFault, countAnswer, countOf, staying, rankFault, subFault, subOf, subByte, subAnswer, subTensorOf}
 use Rattle.mover.specs.Element.{isKept, areKept, sourcePlace, place, element}
 use Rattle.mover.specs.Moved.{total, perStep, coordOf, stored, moved, moveMemory}
@@ -15,5 +15,5 @@ use Rattle.transfers.specs.Demand3.{begin, after}
 use Rattle.marked.specs.Examples.{AllRight, table}
 
 pub all-right : AllRight table
-unfolding judgeOf roomOf moveFault roomFault sourceFault configFault dstFault when _orElse_ lowest first outward answerOf span need sum product howMany some firstsOr badStrideAt resolved inner extent count dstExtents countOf countFault countAnswer elements subTensorOf subFault rankFault subAnswer subOf subByte staying moveMemory moved stored coordOf perStep total element place sourcePlace areKept isKept every subPart jobFault advancedBy freshOf openFault prepareFault callFault prepareOf changed startOf later stepOf stepMemory pollSlot pollOf withSlot lowestFree breaks clashes isZeroTensor isZeroConfig isZeroJob movedRight slotSound soundAt tableSound begin after
+unfolding judgeOf roomOf moveFault roomFault sourceFault configFault dstFault when _orElse_ lowest first outward answerOf span need sum product howMany some firstsOr badStrideAt badDstOffsetAt resolved inner extent count dstExtents countOf countFault countAnswer elements subTensorOf subFault rankFault subAnswer subOf subByte staying moveMemory moved stored coordOf perStep total element place sourcePlace areKept isKept every subPart jobFault advancedBy freshOf openFault prepareFault callFault prepareOf changed startOf later stepOf stepMemory pollSlot pollOf withSlot lowestFree breaks clashes isZeroTensor isZeroConfig isZeroJob movedRight slotSound soundAt tableSound begin after
 all-right = refl

@@ -231,4 +231,39 @@ table =
     -- a sub-tensor of (3,4) keeps the resolved stride 4 of the whole plane: 0 would be resolved again, from its own shape, to 2
     besides shows sub (compact 2 1 (two 3 4)) (cut (two 1 1) (two 2 2) 2) (upTo 12)
     (acceptedSub 2 1 (2 ∷ 2 ∷ 0 ∷ 0 ∷ []) (4 ∷ 1 ∷ 0 ∷ 0 ∷ []) 5) (6 ∷ 7 ∷ 8 ∷ 9 ∷ 10 ∷ 11 ∷ 12 ∷ []) ∷
+    -- ---- planes joined, and what 12 refuses
+    -- (2,2) 1..4, then 5..8, into (2,4) by strides (4,1), offsets (0,0) and (0,2), over eight 9s: 1 2 5 6 3 4 7 8
+    besides shows move (compact 2 1 (two 2 2)) (withDstStride (withDstOffset defaults (two 0 0)) (two 4 1)) (upTo 4)
+    (9 ∷ 9 ∷ 9 ∷ 9 ∷ 9 ∷ 9 ∷ 9 ∷ 9 ∷ [])
+    (acceptedMove 2 1 (2 ∷ 2 ∷ 0 ∷ 0 ∷ []) (4 ∷ 1 ∷ 0 ∷ 0 ∷ []) 6) (1 ∷ 2 ∷ 9 ∷ 9 ∷ 3 ∷ 4 ∷ 9 ∷ 9 ∷ []) ∷
+    besides shows move (compact 2 1 (two 2 2)) (withDstStride (withDstOffset defaults (two 0 2)) (two 4 1)) (5 ∷ 6 ∷ 7 ∷ 8 ∷ [])
+    (1 ∷ 2 ∷ 9 ∷ 9 ∷ 3 ∷ 4 ∷ 9 ∷ 9 ∷ [])
+    (acceptedMove 2 1 (2 ∷ 2 ∷ 0 ∷ 0 ∷ []) (4 ∷ 1 ∷ 0 ∷ 0 ∷ []) 8) (1 ∷ 2 ∷ 5 ∷ 6 ∷ 3 ∷ 4 ∷ 7 ∷ 8 ∷ []) ∷
+    -- with offset (0,3) its rows would run past their ends: 12 at dimension 1
+    besides shows move (compact 2 1 (two 2 2)) (withDstStride (withDstOffset defaults (two 0 3)) (two 4 1)) (5 ∷ 6 ∷ 7 ∷ 8 ∷ []) (over 9)
+    (refused (fault 12 1)) (over 9) ∷
+    -- (1,2,3) and (1,2,1) into (1,2,4), along channels: 11 12 13, 21 22 23 and 14, 24 give 11 12 13 14 21 22 23 24
+    besides shows move (compact 3 1 (three 1 2 3)) (withDstStride (withDstOffset defaults (three 0 0 0)) (three 8 4 1))
+    (11 ∷ 12 ∷ 13 ∷ 21 ∷ 22 ∷ 23 ∷ []) (over 8)
+    (acceptedMove 3 1 (1 ∷ 2 ∷ 3 ∷ 0 ∷ []) (8 ∷ 4 ∷ 1 ∷ 0 ∷ []) 7) (11 ∷ 12 ∷ 13 ∷ 99 ∷ 21 ∷ 22 ∷ 23 ∷ 99 ∷ []) ∷
+    besides shows move (compact 3 1 (three 1 2 1)) (withDstStride (withDstOffset defaults (three 0 0 3)) (three 8 4 1)) (14 ∷ 24 ∷ [])
+    (11 ∷ 12 ∷ 13 ∷ 99 ∷ 21 ∷ 22 ∷ 23 ∷ 99 ∷ [])
+    (acceptedMove 3 1 (1 ∷ 2 ∷ 1 ∷ 0 ∷ []) (8 ∷ 4 ∷ 1 ∷ 0 ∷ []) 8) (11 ∷ 12 ∷ 13 ∷ 14 ∷ 21 ∷ 22 ∷ 23 ∷ 24 ∷ []) ∷
+    -- the room alone bounds the first dimension: one byte at 65,535 needs 65,536 bytes, at 65,536 it is 12 at dimension 0
+    besides shows room (compact 1 1 (one 1)) (withDstOffset defaults (one 65535))
+    (record { answer = acceptedMove 1 1 (1 ∷ 0 ∷ 0 ∷ 0 ∷ []) (1 ∷ 0 ∷ 0 ∷ 0 ∷ []) 65536; span = 1 }) ∷
+    besides shows room (compact 1 1 (one 1)) (withDstOffset defaults (one 65536))
+    (record { answer = refused (fault 12 0); span = 0 }) ∷
+    -- so (1,2) 8 9 goes to row 3 of rows of two
+    besides shows move (compact 2 1 (two 1 2)) (withDstStride (withDstOffset defaults (two 3 0)) (two 2 1)) (8 ∷ 9 ∷ []) (over 8)
+    (acceptedMove 2 1 (1 ∷ 2 ∷ 0 ∷ 0 ∷ []) (2 ∷ 1 ∷ 0 ∷ 0 ∷ []) 8) (99 ∷ 99 ∷ 99 ∷ 99 ∷ 99 ∷ 99 ∷ 8 ∷ 9 ∷ []) ∷
+    -- (2,2) at offset (0,1): what stride 0 stands for is resolved from the extents alone, to 2, and 1 + 2 is above it
+    besides shows room (compact 2 1 (two 2 2)) (withDstOffset defaults (two 0 1))
+    (record { answer = refused (fault 12 1); span = 0 }) ∷
+    -- (3 + 1) x 1,073,741,824 is 2 to the 32: 32 bits would make it 0
+    besides shows room (compact 2 1 (two 1 1)) (withDstStride (withDstOffset defaults (two 0 3)) (two 2147483647 1073741824))
+    (record { answer = refused (fault 12 1); span = 0 }) ∷
+    -- dimension 1 runs past its row, dimension 2 has too large an offset: the lowest is named, whichever case it is
+    besides shows room (compact 3 1 (three 2 2 2)) (withDstOffset defaults (three 0 1 65536))
+    (record { answer = refused (fault 12 1); span = 0 }) ∷
     []
