@@ -1,5 +1,5 @@
-// preview: a small picture becomes a thumbnail and a turned picture. A program to copy from: first a whole move between two lent
-// slices, then two transfers that take turns over one memory.
+// preview: a small picture becomes a thumbnail and a turned picture, and colour and alpha become one plane. A program to copy from:
+// first a whole move between two lent slices, then two planes joined by two moves, then two transfers that take turns over one memory.
 use libc::STDOUT_FILENO;
 use plane::Config;
 use plane::Tensor;
@@ -28,6 +28,13 @@ const BUDGET: u64 = 4; // elements that one step may move
 // The bytes of the picture: their digits are row and column.
 const PIXELS: [u8; PICTURE] =
     *b"\x11\x12\x13\x14\x15\x16\x21\x22\x23\x24\x25\x26\x31\x32\x33\x34\x35\x36\x41\x42\x43\x44\x45\x46";
+
+// Colour and alpha of two rows of two pixels: their digits are pixel and channel.
+const COLOUR: [u8; 12] = *b"\x11\x12\x13\x21\x22\x23\x31\x32\x33\x41\x42\x43";
+
+const ALPHA: [u8; 4] = *b"\x1a\x2a\x3a\x4a";
+
+const JOINED: usize = 16; // bytes of the two joined: four channels a pixel
 
 // The tensor record of the picture. Stride 0: its rows follow one another without gaps.
 fn picture() -> Tensor {
@@ -109,6 +116,33 @@ fn move_into(t: Tensor, c: Config, source: &[u8], buffer: &mut [u8]) {
     move_and_print(t, c, source, &mut buffer[0..n]);
 }
 
+// Two rows of two pixels, of this many channels each.
+fn pixels_of(channels: u32) -> Tensor {
+    Tensor {
+        rank: 3,
+        element_size: 1,
+        shape: [2, 2, channels, 0],
+        stride: [0; 4],
+    }
+}
+
+// Sets a plane into one of four channels a pixel, from this channel on. The strides are those of the joined plane.
+fn from_channel(channel: u32) -> Config {
+    let set = ready_made::concatenate(3, [0, 0, channel, 0], [8, 4, 1, 0]);
+    set.config
+}
+
+// Joins colour and alpha along channels. Neither move touches a byte of the other's.
+fn join(room: &mut [u8]) {
+    let colour = COLOUR;
+    let alpha = ALPHA;
+    let first = mover::move_plane(pixels_of(3), from_channel(0), &colour, room);
+    let second = mover::move_plane(pixels_of(1), from_channel(3), &alpha, room);
+    print_status(b"joined", first.status);
+    print_status(b"joined", second.status);
+    print_plane(room, 8);
+}
+
 // A transfer within the memory: it reads the picture, and writes length bytes from byte start on.
 fn job(config: Config, start: usize, length: usize) -> Job {
     Job {
@@ -178,6 +212,8 @@ fn main() {
     let pixels = PIXELS;
     let mut mem = [0u8; MEMORY];
     move_into(picture(), thumbnail(), &pixels, &mut mem);
+    let mut joined = [0u8; JOINED];
+    join(&mut joined);
     // The picture itself, at the memory's start: the transfers read it there.
     let copy = ready_made::copy(2);
     move_into(picture(), copy.config, &pixels, &mut mem);
