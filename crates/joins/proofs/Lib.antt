@@ -1,2 +1,3 @@
--- Theorems to read: Elements (a plane's elements lie in its span, and apart).
+-- Theorems to read: Elements (a plane's elements lie in its span, and apart), Setting (a plane set into a larger one).
 pub mod Elements
+pub mod Setting
