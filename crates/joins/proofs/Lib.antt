@@ -1,0 +1,5 @@
+-- Theorems to read: Elements (a plane's elements lie in its span, and apart), Setting (a plane set into a larger one), Joins (two planes
+-- joined along a dimension).
+pub mod Elements
+pub mod Setting
+pub mod Joins

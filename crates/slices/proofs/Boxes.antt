@@ -88,7 +88,7 @@ module _ {u : Tensor} {c : Config} {z : List ℕ} (b : Boxed u c z) where
       }
 
 -- size 0 from offset 0 on is the shape, and any other size is itself
-taken-all : (u : Tensor) (c : Config) (i : ℕ) → at (c .size) i ≡ 0 → at (c .offset) i ≡ 0 → taken u c i ≡ shapeAt u i
+pub taken-all : (u : Tensor) (c : Config) (i : ℕ) → at (c .size) i ≡ 0 → at (c .offset) i ≡ 0 → taken u c i ≡ shapeAt u i
 taken-all u c i e o = rw (eq-eqb (at (c .size) i) 0 e) (omega arith)
 
 pub taken-some : (u : Tensor) (c : Config) (i : ℕ) → 1 ≤ at (c .size) i → taken u c i ≡ at (c .size) i

@@ -9,7 +9,7 @@ use Rattle.plane.specs.Planes.{inner, resolved}
 use Rattle.plane.specs.Good.{GoodStrides}
 
 module _ (n : ℕ) (extent asked : ℕ → ℕ) (none : (d : ℕ) → d < n → asked d ≡ 0) where
-  resolved-inner : (d : ℕ) → d < n → resolved n extent asked d ≡ inner n extent asked (n - suc d)
+  pub resolved-inner : (d : ℕ) → d < n → resolved n extent asked d ≡ inner n extent asked (n - suc d)
   unfolding resolved
   resolved-inner d h = simp (eq-eqb (asked d) 0 (none d h))
 

@@ -1,0 +1,169 @@
+-- Two planes joined along a dimension: set side by side into one destination, they leave the joined plane. Assumes nothing.
+use Prim.Native.Nat.{ℕ, _+_, _-_, _≤_, _<_}
+use native.Mathlib.Decide.{ℕ-discrete}
+use native.Mathlib.Omega.{arith}
+use mathlib.Core.Path.{_≡_, refl, sym, subst, _∙_}
+use mathlib.Core.Logic.{⊎-elim, inl, inr}
+use mathlib.Core.Bool.{cond}
+use mathlib.Core.List.{List}
+use borrow.Author.Tests.{eq-eqb, ne-eqb}
+use lib.Dec.{eqb}
+use Rattle.plane.specs.declared.Tensor.{Tensor}
+use Rattle.plane.specs.Arrays.{at, zeros}
+use Rattle.plane.specs.Planes.{shapeAt, strideAt}
+use Rattle.plane.proofs.Arrays.{table-at, zeros-at}
+use Rattle.plane.specs.Good.{FromTo, GoodSource}
+use Rattle.plane.proofs.Good.{source-good, source-clear}
+use Rattle.slices.specs.Claims.{elementByte}
+use Rattle.slices.proofs.Compact.{resolved-inner}
+use Rattle.joins.specs.Claims.{IsIn, Misses, Settable, Set, joined, behind, Joinable, afterFirst, Joined, JoinedPlane, CompactFalls, JoinedPasses}
+use Rattle.joins.proofs.Elements.{resolved-at, byte-same, elements-apart}
+use Rattle.joins.proofs.Setting.{set-into, set-inside}
+
+module _ {a b : Tensor} {d : ℕ} {stride srcA srcB dst : List ℕ} (p : Joinable a b d stride srcA srcB dst) where
+  abbrev w : Tensor
+  w = joined a b d stride
+
+  good : GoodSource a
+  good = source-good a (p .first .0)
+
+  few : a .rank ≤ 4
+  few = good .rank .1
+
+  -- ---- the shapes of the joined plane, and where b starts: along d, and in the other dimensions
+
+  shape-along : shapeAt w d ≡ shapeAt a d + shapeAt b d
+  shape-along =
+      table-at (λ i. shapeAt a i + cond (eqb i d) (shapeAt b i) 0) 0 d (omega (arith, p .along, few)) ∙
+      rw (eq-eqb d d refl)
+
+  behind-along : at (behind a d) d ≡ shapeAt a d
+  behind-along = table-at (λ i. cond (eqb i d) (shapeAt a i) 0) 0 d (omega (arith, p .along, few)) ∙ rw (eq-eqb d d refl)
+
+  module _ (i : ℕ) (h : i < a .rank) (n : i ≡ d → ⊥) where
+    shape-aside : shapeAt w i ≡ shapeAt a i
+    shape-aside =
+        table-at (λ i. shapeAt a i + cond (eqb i d) (shapeAt b i) 0) 0 i (omega (arith, few)) ∙
+        rw (ne-eqb i d n) (omega arith)
+
+    behind-aside : at (behind a d) i ≡ 0
+    behind-aside = table-at (λ i. cond (eqb i d) (shapeAt a i) 0) 0 i (omega (arith, few)) ∙ rw (ne-eqb i d n)
+
+  -- what holds along d, and in any other dimension, holds in all
+  each : (P : ℕ → Type 0) → P d → ((i : ℕ) → i < a .rank → (i ≡ d → ⊥) → P i) → (i : ℕ) → i < a .rank → P i
+  each P z f i h = elim (ℕ-discrete i d) [
+    | yes e ↦ subst P (sym e) z
+    | no e ↦ f i h e
+  ]
+
+  -- ---- a is set in from coordinate 0 on, and then b behind it
+
+  first-settable : Settable w a zeros srcA dst
+  first-settable = record {
+    rank = refl;
+    element = refl;
+    source = p .first;
+    strides = p .strides;
+    fits = each (λ i. at zeros i + shapeAt a i ≤ shapeAt w i)
+        (omega (arith, zeros-at d, shape-along))
+        (λ i h n. omega (arith, zeros-at i, shape-aside i h n));
+    limit = λ i h. omega (arith, zeros-at i);
+    room = p .room;
+  }
+
+  first : Set w a zeros srcA dst
+  first = set-into w a zeros srcA dst first-settable
+
+  abbrev half : List ℕ
+  half = afterFirst a b d stride srcA dst
+
+  second-settable : Settable w b (behind a d) srcB half
+  second-settable = record {
+    rank = p .rank;
+    element = p .element;
+    source = p .second;
+    strides = p .strides;
+    fits = each (λ i. at (behind a d) i + shapeAt b i ≤ shapeAt w i)
+        (omega (arith, behind-along, shape-along))
+        (λ i h n. omega (arith, behind-aside i h n, shape-aside i h n, p .shape i h n));
+    limit = each (λ i. at (behind a d) i ≤ 65535)
+        (omega (arith, behind-along, good .shape d (p .along) .1))
+        (λ i h n. omega (arith, behind-aside i h n));
+    room = rw (first .long) (p .room);
+  }
+
+  second : Set w b (behind a d) srcB half
+  second = set-into w b (behind a d) srcB half second-settable
+
+  -- ---- the joined plane's elements
+
+  module _ (y : ℕ → ℕ) (v : IsIn w y) where
+    -- as far as a reaches along d: a's coordinate, and no element of b meets it
+    module _ (l : y d < shapeAt a d) where
+      in-first : IsIn a y
+      in-first = each (λ i. y i < shapeAt a i) l (λ i h n. omega (arith, v i h, shape-aside i h n))
+
+      spared : (k : ℕ) → k < a .«element_size» → (x : ℕ → ℕ) → IsIn b x → Misses w (λ i. at (behind a d) i + x i) (elementByte w y + k)
+      spared k h x u =
+          ⊎-elim
+          (λ q. inl (omega arith))
+          (λ q. inr (omega arith))
+          (elements-apart w few (p .strides) y (λ i. at (behind a d) i + x i) v (set-inside second-settable x u) d (p .along) (λ e. omega (arith, behind-along)))
+
+    -- past it: b's coordinate
+    module _ (l : shapeAt a d ≤ y d) where
+      abbrev back : ℕ → ℕ
+      back i = y i - at (behind a d) i
+
+      back-there : (i : ℕ) → i < a .rank → at (behind a d) i + back i ≡ y i
+      back-there =
+          each (λ i. at (behind a d) i + back i ≡ y i)
+          (omega (arith, behind-along))
+          (λ i h n. omega (arith, behind-aside i h n))
+
+      in-second : IsIn b back
+      in-second i h =
+          each (λ i. back i < shapeAt b i)
+          (omega (arith, behind-along, v d (p .along), shape-along))
+          (λ i h n. omega (arith, v i h, shape-aside i h n, p .shape i h n))
+          i (rw (← p .rank) h)
+
+  both : Joined a b d stride srcA srcB dst
+  both = record {
+    first = first .accepted;
+    second = second .accepted;
+    long = second .long ∙ first .long;
+    of-first = λ y v l k h.
+        second .rest (elementByte w y + k) (spared y v l k h) ∙
+        rw (byte-same w (λ i. at zeros i + y i) y (λ i q. omega (arith, zeros-at i))) at (first .placed y (in-first y v l) k h);
+    of-second = λ y v l k h.
+        rw (byte-same w (λ i. at (behind a d) i + back y v l i) y (back-there y v l)) at
+        (second .placed (back y v l) (in-second y v l) k (rw (p .element) h));
+    rest = λ k m.
+        second .rest k (λ x u. m (λ i. at (behind a d) i + x i) (set-inside second-settable x u)) ∙
+        first .rest k (λ x u. m (λ i. at zeros i + x i) (set-inside first-settable x u));
+  }
+
+  joined-good : shapeAt a d + shapeAt b d ≤ 65535 → GoodSource w
+  joined-good l = record {
+    rank = good .rank;
+    element = good .element;
+    shape = each (λ i. FromTo 1 65535 (shapeAt w i))
+        (rw shape-along (omega (arith, good .shape d (p .along) .0), l))
+        (λ i h n. rw (shape-aside i h n) (good .shape i h));
+    strides = p .strides;
+  }
+
+-- ---- the theorems
+
+pub joined-plane : JoinedPlane
+joined-plane a b d stride srcA srcB dst p = both p
+
+pub compact-falls : CompactFalls
+compact-falls t few none most = record {
+  least = λ i h. rw (resolved-inner (t .rank) (shapeAt t) (strideAt t) none i h) (omega arith);
+  most = λ i h. rw (← resolved-at t few i h) (most i h);
+}
+
+pub joined-passes : JoinedPasses
+joined-passes a b d stride srcA srcB dst p l = (source-clear (joined a b d stride) (joined-good p l), rw (both p .long) (p .room))
