@@ -1,45 +1,18 @@
 -- The elements of a plane lie in its span, and no two have a byte in common, because its strides fall inward. Assumes nothing.
 use Prim.Native.Nat.{ℕ, suc, _+_, _-_, _*_, _≤_, _<_}
 use native.Mathlib.Nat.{suc-mul, mul-le-mul-right}
-use native.Mathlib.Decide.{decLt}
 use native.Mathlib.Omega.{arith}
-use mathlib.Core.Path.{_≡_, sym, ap, _∙_}
-use mathlib.Core.Logic.{_⊎_, ⊎-elim, inl, inr}
+use mathlib.Core.Path.{_≡_, ap}
+use mathlib.Core.Logic.{⊎-elim, inl, inr}
 use Rattle.plane.specs.declared.Tensor.{Tensor}
 use Rattle.plane.specs.Arrays.{at, sum}
 use Rattle.plane.specs.Planes.{shapeAt, strideAt, resolved, srcStrides, sourceAt, span}
 use Rattle.plane.proofs.Arrays.{firsts-at, sum-same}
 use Rattle.plane.proofs.Falling.{stride-positive, strides-fall}
 use Rattle.mover.proofs.Sums.{sum-least}
-use Rattle.mover.proofs.Numbers.{digit, number, number-lt, number-digit, spots-apart}
+use Rattle.mover.proofs.Numbers.{spots-differ}
 use Rattle.slices.specs.Claims.{elementByte}
 use Rattle.joins.specs.Claims.{Falls, ElementWithin, ElementsApart}
-
--- ---- places of coordinates below the extents e, where the strides s fall inward
-
-module _ (n : ℕ) (e s : ℕ → ℕ) (some : (i : ℕ) → i < n → 1 ≤ s i) (falls : (i : ℕ) → suc i < n → s (suc i) * e (suc i) ≤ s i) where
-  -- the coordinates are those of their number
-  spot-number : (x : ℕ → ℕ) → ((i : ℕ) → i < n → x i < e i) → sum n (λ i. digit n e (number n e x) i * s i) ≡ sum n (λ i. x i * s i)
-  spot-number x a = sum-same n _ _ (λ i h. ap (λ (k : ℕ). k * s i) (number-digit e x n a i h))
-
-  module _ (x y : ℕ → ℕ) (a : (i : ℕ) → i < n → x i < e i) (b : (i : ℕ) → i < n → y i < e i) (i : ℕ) (h : i < n) where
-    -- a lower number stands further in front
-    spots-rise : number n e x < number n e y → sum n (λ j. x j * s j) < sum n (λ j. y j * s j)
-    spots-rise l =
-        rw (spot-number x a, spot-number y b) at
-        (spots-apart e s n (omega arith) (λ j k. omega (arith, a j k)) some falls (number n e x) (number n e y) l (number-lt e y n b))
-
-    -- coordinates that differ have numbers that differ
-    number-differs : (x i ≡ y i → ⊥) → number n e x ≡ number n e y → ⊥
-    number-differs d q = d (sym (number-digit e x n a i h) ∙ ap (λ (k : ℕ). digit n e k i) q ∙ number-digit e y n b i h)
-
-  -- and so places that differ
-  spots-differ : (x y : ℕ → ℕ) → ((i : ℕ) → i < n → x i < e i) → ((i : ℕ) → i < n → y i < e i) → (i : ℕ) → i < n → (x i ≡ y i → ⊥) →
-      (sum n (λ j. x j * s j) < sum n (λ j. y j * s j)) ⊎ (sum n (λ j. y j * s j) < sum n (λ j. x j * s j))
-  spots-differ x y a b i h d = elim (decLt (number n e x) (number n e y)) [
-    | yes l ↦ inl (spots-rise x y a b i h l)
-    | no l ↦ inr (spots-rise y x b a i h (omega (arith, number-differs x y a b i h d)))
-  ]
 
 -- ---- the strides of a plane
 

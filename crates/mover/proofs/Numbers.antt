@@ -2,9 +2,10 @@
 -- are placed in the order of their numbers. Assumes nothing.
 use Prim.Native.Nat.{ℕ, zero, suc, _+_, _-_, _*_, _/_, _%_, _≤_, _<_}
 use native.Mathlib.Nat.{mul-comm, suc-mul, div-one, mod-lt, mod-eq-of-lt, div-add-mod', div-div-eq-div-mul, div-lt-iff-lt-mul, le-div-iff-mul-le, mul-le-mul-right, one-mul, not-suc-le-zero, le-of-suc-le-suc, eq-or-lt-of-le}
+use native.Mathlib.Decide.{decLt}
 use native.Mathlib.Omega.{arith}
-use mathlib.Core.Path.{_≡_, ap, ap₂}
-use mathlib.Core.Logic.{⊎-elim}
+use mathlib.Core.Path.{_≡_, sym, ap, ap₂, _∙_}
+use mathlib.Core.Logic.{_⊎_, ⊎-elim, inl, inr}
 use lib.Arith.{digits-lt, digits-div, digits-mod}
 use Rattle.plane.specs.Arrays.{sum, product}
 use Rattle.plane.proofs.Arrays.{sum-same}
@@ -99,3 +100,29 @@ module _ (e s : ℕ → ℕ) where
   spots-apart zero z h g f q r l m = absurd (not-suc-le-zero z)
   spots-apart (suc n) z h g f q r l m =
       omega (arith, g n (omega arith), spots-rise n h (λ i k. f i (omega arith)) q r l m)
+
+-- ---- the places of coordinates below the extents
+
+module _ (n : ℕ) (e s : ℕ → ℕ) (some : (i : ℕ) → i < n → 1 ≤ s i) (falls : (i : ℕ) → suc i < n → s (suc i) * e (suc i) ≤ s i) where
+  -- the coordinates are those of their number
+  spot-number : (x : ℕ → ℕ) → ((i : ℕ) → i < n → x i < e i) → sum n (λ i. digit n e (number n e x) i * s i) ≡ sum n (λ i. x i * s i)
+  spot-number x a = sum-same n _ _ (λ i h. ap (λ (k : ℕ). k * s i) (number-digit e x n a i h))
+
+  module _ (x y : ℕ → ℕ) (a : (i : ℕ) → i < n → x i < e i) (b : (i : ℕ) → i < n → y i < e i) (i : ℕ) (h : i < n) where
+    -- a lower number stands further in front
+    spot-before : number n e x < number n e y → sum n (λ j. x j * s j) < sum n (λ j. y j * s j)
+    spot-before l =
+        rw (spot-number x a, spot-number y b) at
+        (spots-apart e s n (omega arith) (λ j k. omega (arith, a j k)) some falls (number n e x) (number n e y) l (number-lt e y n b))
+
+    -- coordinates that differ have numbers that differ
+    number-differs : (x i ≡ y i → ⊥) → number n e x ≡ number n e y → ⊥
+    number-differs d q = d (sym (number-digit e x n a i h) ∙ ap (λ (k : ℕ). digit n e k i) q ∙ number-digit e y n b i h)
+
+  -- and so places that differ
+  pub spots-differ : (x y : ℕ → ℕ) → ((i : ℕ) → i < n → x i < e i) → ((i : ℕ) → i < n → y i < e i) → (i : ℕ) → i < n → (x i ≡ y i → ⊥) →
+      (sum n (λ j. x j * s j) < sum n (λ j. y j * s j)) ⊎ (sum n (λ j. y j * s j) < sum n (λ j. x j * s j))
+  spots-differ x y a b i h d = elim (decLt (number n e x) (number n e y)) [
+    | yes l ↦ inl (spot-before x y a b i h l)
+    | no l ↦ inr (spot-before y x b a i h (omega (arith, number-differs x y a b i h d)))
+  ]

@@ -1,10 +1,9 @@
 -- The elements of an accepted move stand apart, in the order of their numbers, because its strides fall inward. Assumes nothing.
 use Prim.Native.Nat.{ℕ, suc, _+_, _*_, _≤_, _<_}
 use native.Mathlib.Nat.{add-mul, suc-mul, mul-le-mul-right, mod-lt}
-use native.Mathlib.Decide.{decLt}
 use native.Mathlib.Omega.{arith}
-use mathlib.Core.Path.{_≡_, sym, ap, _∙_}
-use mathlib.Core.Logic.{_⊎_, inl, inr}
+use mathlib.Core.Path.{_≡_, sym}
+use mathlib.Core.Logic.{_⊎_, ⊎-elim, inl, inr}
 use Rattle.plane.specs.declared.Tensor.{Tensor}
 use Rattle.plane.specs.declared.Config.{Config}
 use Rattle.plane.specs.Arrays.{at, sum}
@@ -16,9 +15,8 @@ use Rattle.plane.proofs.Falling.{stride-positive, strides-fall}
 use Rattle.plane.proofs.Rules.{dst-extent}
 use Rattle.mover.specs.Element.{place}
 use Rattle.mover.specs.Moved.{extentAt, total, perStep, coordOf}
-use Rattle.mover.proofs.Keeping.{place-same}
 use Rattle.mover.proofs.Sums.{sum-add}
-use Rattle.mover.proofs.Numbers.{number, number-lt, number-digit, spots-apart}
+use Rattle.mover.proofs.Numbers.{number, number-lt, number-digit, spots-apart, spots-differ}
 
 -- the number of the element at coordinates x
 unfoldable pub numberAt : Tensor → Config → (ℕ → ℕ) → ℕ
@@ -72,20 +70,17 @@ module _ {t : Tensor} {c : Config} (g : GoodSource t) (k : GoodConfig t c) (p : 
   pub bytes-rise : (q r : ℕ) → q < r → r < total t c → place t c (coordOf t c q) * t .«element_size» + t .«element_size» ≤ place t c (coordOf t c r) * t .«element_size»
   bytes-rise q r l m = rw suc-mul at (mul-le-mul-right (t .«element_size») (places-rise q r l m))
 
-  module _ (x y : ℕ → ℕ) (a : (i : ℕ) → i < t .rank → x i < extentAt t c i) (b : (i : ℕ) → i < t .rank → y i < extentAt t c i) where
-    -- different coordinates have different numbers
-    number-differs : (i : ℕ) → i < t .rank → (x i ≡ y i → ⊥) → numberAt t c x ≡ numberAt t c y → ⊥
-    number-differs i h d e =
-        d (sym (numberAt-coord t c x a i h) ∙ ap (λ (q : ℕ). coordOf t c q i) e ∙ numberAt-coord t c y b i h)
+  -- a place further in front ends before the other begins
+  bytes-before : (x y : ℕ → ℕ) → sum (t .rank) (λ i. x i * at (dstStrides t c) i) < sum (t .rank) (λ i. y i * at (dstStrides t c) i) → place t c x * t .«element_size» + t .«element_size» ≤ place t c y * t .«element_size»
+  bytes-before x y l =
+      let k : place t c x < place t c y = omega (arith, place-parts x, place-parts y) in
+      rw suc-mul at (mul-le-mul-right (t .«element_size») k)
 
-    -- so their bytes do not overlap
-    pub bytes-apart : (i : ℕ) → i < t .rank → (x i ≡ y i → ⊥) → (place t c x * t .«element_size» + t .«element_size» ≤ place t c y * t .«element_size») ⊎ (place t c y * t .«element_size» + t .«element_size» ≤ place t c x * t .«element_size»)
-    bytes-apart i h d =
-        let p = place-same t c (coordOf t c (numberAt t c x)) x (numberAt-coord t c x a) in
-        let q = place-same t c (coordOf t c (numberAt t c y)) y (numberAt-coord t c y b) in
-        elim (decLt (numberAt t c x) (numberAt t c y)) [
-          | yes l ↦ inl (rw (p, q) at (bytes-rise (numberAt t c x) (numberAt t c y) l (numberAt-lt t c y b)))
-          | no l ↦
-              inr
-              (rw (p, q) at (bytes-rise (numberAt t c y) (numberAt t c x) (omega (arith, number-differs i h d)) (numberAt-lt t c x a)))
-        ]
+  -- the bytes of coordinates that differ do not overlap
+  pub bytes-apart : (x y : ℕ → ℕ) → ((i : ℕ) → i < t .rank → x i < extentAt t c i) → ((i : ℕ) → i < t .rank → y i < extentAt t c i) → (i : ℕ) → i < t .rank → (x i ≡ y i → ⊥) →
+      (place t c x * t .«element_size» + t .«element_size» ≤ place t c y * t .«element_size») ⊎ (place t c y * t .«element_size» + t .«element_size» ≤ place t c x * t .«element_size»)
+  bytes-apart x y a b i h d =
+      ⊎-elim
+      (λ l. inl (bytes-before x y l))
+      (λ l. inr (bytes-before y x l))
+      (spots-differ (t .rank) (extentAt t c) (at (dstStrides t c)) stride-some stride-falls x y a b i h d)
