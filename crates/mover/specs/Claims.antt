@@ -1,6 +1,6 @@
--- What the theorems claim besides demand 2 and the work: refusals of a job, which bytes a part has, which jobs agree, and what the layer
--- above may use.
-use Prim.Native.Nat.{ℕ, _+_, _≤_, _<_}
+-- What the theorems claim besides demand 2 and the work: refusals of a job, where rows end, which bytes a part has, which jobs agree,
+-- and what the layer above may use.
+use Prim.Native.Nat.{ℕ, _+_, _-_, _*_, _≤_, _<_}
 use mathlib.Core.Path.{_≡_}
 use mathlib.Core.Bool.{true, false}
 use mathlib.Core.List.{List}
@@ -9,6 +9,8 @@ use lib.ListN.{length, getD}
 use Rattle.faults.specs.Exactness.{Exact}
 use Rattle.plane.specs.declared.Tensor.{Tensor}
 use Rattle.plane.specs.declared.Config.{Config}
+use Rattle.plane.specs.Arrays.{at, sum}
+use Rattle.plane.specs.Moves.{dstStrides}
 use Rattle.plane.specs.Unseen.{SameTensor, SameConfig, UnseenConfig, UnseenSub}
 use Rattle.mover.specs.declared.Part.{Part}
 use Rattle.mover.specs.declared.Job.{Job}
@@ -16,7 +18,7 @@ use Rattle.mover.specs.Moved.{total, moved, moveMemory}
 use Rattle.mover.specs.Within.{leaves, meets, jobFault, totalOf, verdictOf, bytesOf, advancedBy, advanceOf, advanceMemory}
 use Rattle.mover.specs.SubPart.{subPart}
 use Rattle.mover.specs.Orders.{jobRules}
-use Rattle.mover.specs.Demand2.{Accepted}
+use Rattle.mover.specs.Demand2.{IsCoordinate, Accepted}
 
 -- ---- Refusals of a move inside one memory
 
@@ -41,6 +43,16 @@ AdvanceZeros =
 abbrev pub AdvanceKept : Type 0
 AdvanceKept =
     (j : Job) (from budget : ℕ) (m : List ℕ) → (advanceOf j from budget m .status ≡ 0 → ⊥) → advanceMemory j from budget m ≡ m
+
+-- ---- Rows of the destination
+
+-- no row runs past its end: from a dimension after the first on, offsets and coordinates lead less far than one step of the dimension
+-- before it
+abbrev pub RowsEnd : Type 0
+RowsEnd =
+    (t : Tensor) (c : Config) (src dst : List ℕ) → Accepted t c src dst → (x : ℕ → ℕ) → IsCoordinate t c x →
+    (i : ℕ) → 0 < i → i < t .rank →
+    sum (t .rank - i) (λ k. (at (c .«dst_offset») (i + k) + x (i + k)) * at (dstStrides t c) (i + k)) < at (dstStrides t c) (i - 1)
 
 -- ---- Parts
 
