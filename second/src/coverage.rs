@@ -1,9 +1,10 @@
 //! What a long comparison has to meet: each call with everything that it can give and with arguments of a wrong length,
-//! each state of a slot in each call that takes a table, each reason for which a line is no call, and each number of
-//! `rmvshow`.
+//! each state of a slot in each call that takes a table, each case of a destination offset, each reason for which a
+//! line is no call, and each number of `rmvshow`.
 
 use crate::calls::{Call, Calls, Gives};
 use crate::lines::{unhex, NO_CALL, NO_DIGITS, NO_NEWLINE, TOO_LONG, WRONG_LENGTH};
+use crate::offset_cases;
 use crate::show;
 use crate::transfers::{DONE, FREE, PREPARED, RUNNING};
 
@@ -69,6 +70,11 @@ impl Coverage {
                 for place in call.state_places() {
                     self.meet(&name(call), state(byte_at(line, 1 + place)));
                 }
+                if offset_cases::counted(call.number) {
+                    for case in offset_cases::met(&unhex(line).expect("it is a call"), expected) {
+                        self.meet(&name(call), &case);
+                    }
+                }
             }
             _ => self.meet("no call", reason(line, expected)),
         }
@@ -127,6 +133,9 @@ fn cases(calls: &Calls, call: &Call) -> Vec<String> {
     }
     if !call.state_places().is_empty() {
         cases.extend(STATES.map(String::from));
+    }
+    if offset_cases::counted(call.number) {
+        cases.extend(offset_cases::cases());
     }
     cases
 }

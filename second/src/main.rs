@@ -11,6 +11,7 @@ mod helpers;
 mod job;
 mod lines;
 mod moves;
+mod offset_cases;
 mod random;
 mod ready_made;
 mod record;

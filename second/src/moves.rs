@@ -60,11 +60,8 @@ pub fn plan(tensor: &Tensor, config: &Config, lengths: Lengths) -> Result<Plan, 
     let count = kept_counts(rank, tensor, config);
     let extent = extents(rank, config, &count)?;
     let stride = resolve_strides(11, rank, &extent, &config.dst_stride)?;
-    // 12: "Each destination offset is smaller than that dimension's resolved stride (MLI, to the letter) and at
-    // most 65,535."
-    refuse_lowest(12, rank, |i| {
-        config.dst_offset[i] as u64 >= stride[i] || config.dst_offset[i] as u64 > EXTENT_LIMIT
-    })?;
+    // 12: "a destination offset", one rule with two cases, the lowest destination dimension being named
+    refuse_lowest(12, rank, |i| offset_too_large(config, i) || runs_past_row(config, &extent, &stride, i))?;
     let element_size = tensor.element_size as usize;
     let need = need(rank, element_size, config, &extent, &stride);
     // 13: "destination shorter than need"
@@ -115,6 +112,18 @@ pub fn extents(rank: usize, config: &Config, count: &[u64; 4]) -> Result<[u64; 4
         extent[i] = by_source(source_dimension(config, i));
     }
     Ok(extent)
+}
+
+/// 12, one case: destination offsets are "at most 65,535", that of the first dimension too.
+pub fn offset_too_large(config: &Config, i: usize) -> bool {
+    config.dst_offset[i] as u64 > EXTENT_LIMIT
+}
+
+/// 12, the other case: "for each dimension after the first, (destination offset + extent) x stride is at most the
+/// stride before it; the first dimension is bounded by the room alone". Both strides are resolved ones. Nothing wraps:
+/// an offset below 2^32, an extent and a stride within their limits have a product below 2^64.
+pub fn runs_past_row(config: &Config, extent: &[u64; 4], stride: &[u64; 4], i: usize) -> bool {
+    i > 0 && (config.dst_offset[i] as u64 + extent[i]) * stride[i] > stride[i - 1]
 }
 
 /// "Need: (1 + sum of (destination offset + extent - 1) x stride) x element size."

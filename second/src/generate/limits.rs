@@ -1,5 +1,6 @@
 //! Moves in which one number stands just at its limit or beside it, and moves with the largest numbers there are.
 
+use super::joins::{put_offset, Bound};
 use super::planes::Drawn;
 use crate::moves::room;
 use crate::random::Random;
@@ -14,9 +15,8 @@ fn beside(random: &mut Random, limit: u64) -> u64 {
 /// More than any move needs.
 const ENOUGH: u64 = 1 << 56;
 
-/// A plain copy of a small plane, but for one number.
-pub fn at_limit(random: &mut Random) -> Drawn {
-    let rank = random.between(1, 4) as usize;
+/// A plain copy of a small plane, turned or not.
+pub fn small_copy(random: &mut Random, rank: usize) -> Drawn {
     let mut tensor = Tensor { rank: rank as u8, element_size: random.pick(&[1, 2, 4]), ..Tensor::default() };
     for d in 0..rank {
         tensor.shape[d] = random.between(1, 3) as u32;
@@ -25,6 +25,13 @@ pub fn at_limit(random: &mut Random) -> Drawn {
     if random.chance(50) {
         drawn.config.perm[..rank].reverse();
     }
+    drawn
+}
+
+/// A plain copy of a small plane, but for one number.
+pub fn at_limit(random: &mut Random) -> Drawn {
+    let rank = random.between(1, 4) as usize;
+    let mut drawn = small_copy(random, rank);
     let d = random.index(rank);
     match random.below(4) {
         0 => source_at_limit(random, &mut drawn, d),
@@ -72,25 +79,31 @@ fn cut_at_limit(random: &mut Random, drawn: &mut Drawn, d: usize) {
 }
 
 fn destination_at_limit(random: &mut Random, drawn: &mut Drawn, i: usize) {
-    let inner_product = room(&drawn.tensor, &drawn.config).answer.stride[i] as u64;
+    let answer = room(&drawn.tensor, &drawn.config).answer;
+    let inner_product = answer.stride[i] as u64;
     let config = &mut drawn.config;
-    match random.below(4) {
+    match random.below(6) {
         0 => config.dst_stride[i] = beside(random, LIMIT) as u32,
         1 => config.dst_stride[i] = beside(random, inner_product) as u32,
-        2 => {
-            let stride = inner_product + random.below(3);
-            config.dst_stride[i] = stride as u32;
-            config.dst_offset[i] = beside(random, stride) as u32;
-        }
-        _ => {
+        // Its own stride is no bound of an offset.
+        2 => config.dst_offset[0] = beside(random, answer.stride[0] as u64) as u32,
+        3 => {
             config.dst_stride[i] = random.pick(&[65_535, 65_536, 65_537, 1 << 20, LIMIT as u32]);
             config.dst_offset[i] = beside(random, EXTENT_LIMIT) as u32;
+        }
+        _ => {
+            let bound = random.pick(&[Bound::Limit, Bound::TooLarge, Bound::Full, Bound::Full, Bound::Short]);
+            put_offset(random, drawn, i, bound);
         }
     }
 }
 
-/// The largest span and need there are, or nearly: every stride at its limit, which only unit dimensions allow.
+/// The largest span and need there are, or nearly: every stride at its limit, which only unit dimensions without
+/// offsets allow; or a row that is nearly as long as the limit.
 pub fn extreme(random: &mut Random) -> Drawn {
+    if random.chance(30) {
+        return extreme_row(random);
+    }
     let rank = random.between(1, 4) as usize;
     let mut tensor = Tensor { rank: rank as u8, element_size: random.pick(&[1, 2, 4]), ..Tensor::default() };
     let mut config = copy(rank as u8).config;
@@ -98,8 +111,23 @@ pub fn extreme(random: &mut Random) -> Drawn {
         tensor.shape[d] = if d == 0 { random.pick(&[65_280, 65_534, 65_535]) } else { 1 };
         tensor.stride[d] = LIMIT as u32;
         config.dst_stride[d] = LIMIT as u32;
-        config.dst_offset[d] = random.pick(&[0, EXTENT_LIMIT, EXTENT_LIMIT, EXTENT_LIMIT - 1]) as u32;
+        if d == 0 || random.chance(15) {
+            config.dst_offset[d] = random.pick(&[0, 1, EXTENT_LIMIT, EXTENT_LIMIT, EXTENT_LIMIT - 1]) as u32;
+        }
     }
+    with_lengths(random, tensor, config)
+}
+
+/// The largest offset and extent in a row: (65,535 + 65,535) x 16,384 is just within the limit of strides.
+fn extreme_row(random: &mut Random) -> Drawn {
+    let tensor = Tensor { rank: 2, element_size: random.pick(&[1, 2, 4]), shape: [65_535; 4], stride: [0; 4] };
+    let mut config = copy(2).config;
+    let offset = random.pick(&[EXTENT_LIMIT, EXTENT_LIMIT, EXTENT_LIMIT - 1, EXTENT_LIMIT + 1]);
+    let stride = random.pick(&[16_384, 16_384, 16_385]);
+    let row = (offset + EXTENT_LIMIT) * stride;
+    let outer = random.pick(&[row, row - 1, LIMIT]).min(LIMIT);
+    config.dst_offset = [EXTENT_LIMIT as u32, offset as u32, 0, 0];
+    config.dst_stride = [outer as u32, stride as u32, 0, 0];
     with_lengths(random, tensor, config)
 }
 

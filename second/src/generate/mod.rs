@@ -4,6 +4,7 @@ mod broken;
 mod frames;
 mod histories;
 mod jobs;
+mod joins;
 mod limits;
 mod moving;
 mod numbers;
@@ -67,6 +68,8 @@ const KINDS: &[Kind] = &[
     (16, jobs::prepare),
     (64, moving::move_plane),
     (4, moving::move_sub_tensor),
+    (24, joins::at_bound),
+    (6, joins::join),
     (22, records::read),
     (16, records::write),
     (2, histories::fresh_table),
@@ -113,6 +116,7 @@ fn once(work: &mut Work) {
     frames::wrong_lengths(work);
     frames::longest(work);
     moving::above_extent_limit(work);
+    joins::largest_offset(work);
     jobs::above_extent_limit(work);
     histories::beyond_steps(work);
 }

@@ -27,7 +27,7 @@ pub fn large(work: &mut Work) {
     move_drawn(work, &drawn);
 }
 
-fn move_drawn(work: &mut Work, drawn: &Drawn) {
+pub fn move_drawn(work: &mut Work, drawn: &Drawn) {
     let source = work.random.bytes(drawn.source.min(SOURCE_LIMIT) as usize);
     let destination = work.random.bytes(drawn.destination.min(MEMORY_LIMIT as u64) as usize);
     work.call(0x20, &(drawn.tensor, drawn.config, Counted(source), Memory(destination)));

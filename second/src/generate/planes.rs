@@ -99,8 +99,9 @@ fn draw_shape(random: &mut Random, rank: usize, scale: Scale) -> u32 {
     shape.max(1) as u32
 }
 
-/// Strides below the rank: 0, the inner product, or more.
-pub fn draw_strides(random: &mut Random, rank: usize, shape: &[u64; 4], scale: Scale, into: &mut [u32; 4]) {
+/// Strides below the rank: 0, the inner product, or more. Hands back what each stands for.
+pub fn draw_strides(random: &mut Random, rank: usize, shape: &[u64; 4], scale: Scale, into: &mut [u32; 4]) -> [u32; 4] {
+    let mut meant = [0; 4];
     let mut inner_product: u64 = 1;
     for d in (0..rank).rev() {
         let widest = match scale {
@@ -110,9 +111,11 @@ pub fn draw_strides(random: &mut Random, rank: usize, shape: &[u64; 4], scale: S
         };
         let gap = if random.chance(20) { random.between(1, widest) } else { 0 };
         let stride = (inner_product + gap).min(u32::MAX as u64);
-        into[d] = if gap == 0 && random.chance(50) { 0 } else { stride as u32 };
+        meant[d] = stride as u32;
+        into[d] = if gap == 0 && random.chance(50) { 0 } else { meant[d] };
         inner_product = stride * shape[d];
     }
+    meant
 }
 
 fn draw_config(random: &mut Random, tensor: &Tensor, scale: Scale) -> Config {
@@ -187,22 +190,48 @@ fn shuffle(random: &mut Random, entries: &mut [u8]) {
     }
 }
 
-/// Destination strides and offsets that fit the extents.
+/// Destination offsets, and strides that leave room for them: mostly just enough.
 fn draw_destination(random: &mut Random, tensor: &Tensor, scale: Scale, config: &mut Config) {
     let rank = tensor.rank as usize;
     let Ok(extent) = extents(rank, config, &kept_counts(rank, tensor, config)) else {
         return;
     };
-    draw_strides(random, rank, &extent, scale, &mut config.dst_stride);
-    let plain = Config { dst_offset: [0; 4], ..*config };
-    let stride = room(tensor, &plain).answer.stride;
     for i in 0..rank {
-        let most = (stride[i].max(1) as u64 - 1).min(EXTENT_LIMIT);
-        config.dst_offset[i] = match random.below(20) {
-            0..=2 => random.below(most + 1) as u32,
-            3..=4 => random.below(most.min(3) + 1) as u32,
-            5 => most as u32,
-            _ => 0,
-        };
+        config.dst_offset[i] = draw_destination_offset(random, scale);
+    }
+    draw_destination_strides(random, rank, &extent, scale, config);
+}
+
+fn draw_destination_offset(random: &mut Random, scale: Scale) -> u32 {
+    if random.chance(75) {
+        return 0;
+    }
+    let most = match scale {
+        Scale::Small => 3,
+        Scale::Large => random.pick(&[3, 40]),
+        Scale::Wide => random.pick(&[3, 300, EXTENT_LIMIT]),
+    };
+    let some = random.between(1, most);
+    random.pick(&[1, most, some, some]) as u32
+}
+
+/// Destination strides for these extents and the offsets that are there.
+pub fn draw_destination_strides(
+    random: &mut Random,
+    rank: usize,
+    extent: &[u64; 4],
+    scale: Scale,
+    config: &mut Config,
+) {
+    let mut reach = *extent;
+    for i in 0..rank {
+        reach[i] += config.dst_offset[i] as u64;
+    }
+    let meant = draw_strides(random, rank, &reach, scale, &mut config.dst_stride);
+    // "an inner offset needs a written stride"
+    for i in 1..rank {
+        if config.dst_offset[i] > 0 {
+            config.dst_stride[i - 1] = meant[i - 1];
+        }
     }
 }

@@ -1,8 +1,9 @@
 //! Puts faults into a move that would be accepted: every number of refusal, alone and in pairs, at any dimension.
 
+use super::joins::{put_offset, Bound};
 use super::planes::Drawn;
 use super::values::{any_u32, any_u64, any_u8, around, WRONG_RANKS};
-use crate::moves::room;
+use crate::offset_cases::without_offsets;
 use crate::random::Random;
 use crate::tensor::{check_tensor, inner_product, wide, EXTENT_LIMIT, LIMIT};
 
@@ -68,7 +69,7 @@ fn spoil_crosswise(random: &mut Random, drawn: &mut Drawn, lent: Lent) {
 }
 
 /// Puts in the fault that this number is given for, at this dimension, as far as this move can have it.
-fn spoil(random: &mut Random, drawn: &mut Drawn, number: u64, d: usize, lent: Lent) {
+pub fn spoil(random: &mut Random, drawn: &mut Drawn, number: u64, d: usize, lent: Lent) {
     let shape = drawn.tensor.shape[d];
     let config = &mut drawn.config;
     match number {
@@ -174,7 +175,7 @@ fn spoil_extent(random: &mut Random, drawn: &mut Drawn, d: usize, lent: Lent) {
 }
 
 fn spoil_destination_stride(random: &mut Random, drawn: &mut Drawn, i: usize) {
-    let answer = room(&drawn.tensor, &drawn.config).answer;
+    let answer = without_offsets(&drawn.tensor, &drawn.config);
     if answer.status != 0 {
         drawn.config.dst_stride[i] = any_u32(random);
         return;
@@ -183,15 +184,13 @@ fn spoil_destination_stride(random: &mut Random, drawn: &mut Drawn, i: usize) {
     spoil_stride(random, inner_product, i, &mut drawn.config.dst_stride);
 }
 
-/// At the stride or above it, and at 65,535 and above it under a wide stride.
+/// Past the row, or above 65,535, in a row with room or without; the first dimension has no row around it.
 fn spoil_destination_offset(random: &mut Random, drawn: &mut Drawn, i: usize) {
-    let stride = room(&drawn.tensor, &drawn.config).answer.stride[i];
-    drawn.config.dst_offset[i] = random.pick(&[stride, stride, stride.saturating_add(1), u32::MAX]);
-    if random.chance(30) {
-        drawn.config.dst_stride[..=i].fill(0);
-        drawn.config.dst_stride[i] = random.pick(&[65_535, 65_536, 65_537, 1 << 20]);
-        drawn.config.dst_offset[i] = random.pick(&[65_534, 65_535, 65_536, 65_537]);
-        drawn.destination = drawn.destination.saturating_mul(2);
+    match random.below(8) {
+        0 => drawn.config.dst_offset[i] = random.pick(&[65_536, 65_537, 1 << 31, u32::MAX]),
+        1..=4 if i > 0 => put_offset(random, drawn, i, Bound::Short),
+        5 if i > 0 => put_offset(random, drawn, i, Bound::Wraps),
+        _ => put_offset(random, drawn, i, Bound::TooLarge),
     }
 }
 

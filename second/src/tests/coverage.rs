@@ -1,11 +1,14 @@
 //! What a long comparison has to meet.
 
+use super::{default, plane};
 use crate::calls::{Calls, Gives};
 use crate::coverage::Coverage;
 use crate::generate;
 use crate::lines::answers;
+use crate::offset_cases;
 use crate::report::ENOUGH;
 use crate::show::show;
+use crate::wire::bytes_of;
 
 /// What a run of so many comparisons meets.
 fn drawn(count: usize, seed: u64) -> Coverage {
@@ -38,6 +41,8 @@ fn what_was_not_met_is_named() {
     for case in [
         "00 version: made",
         "02 room: 12",
+        "03 judge: 12 too large at 0",
+        "20 move_plane: 12 past the row at 3",
         "24 sub_part: 15",
         "41 prepare: 22",
         "41 prepare: ff04",
@@ -68,6 +73,28 @@ fn a_number_that_a_call_can_not_give_is_named() {
     coverage.show("status 10 dim 0\n");
     coverage.show("status 10 dim 0\n");
     assert_eq!(coverage.unlisted(), ["02 room: 5", "04 element_size: 3", "30 record::read: ff04", "rmvshow: 10"]);
+}
+
+#[test]
+fn cases_of_destination_offsets_are_told_apart() {
+    let tensor = plane(&[2, 2]);
+    let met = |stride: [u32; 2], offset: [u32; 2], room: u64| {
+        let config = default(&tensor).with_dst_stride([stride[0], stride[1], 0, 0]);
+        let config = config.with_dst_offset([offset[0], offset[1], 0, 0]);
+        let line = [vec![0x03], bytes_of(&(tensor, config, 4u64, room))].concat();
+        let answer = (Calls::all().find(0x03).unwrap().answer)(&line[1..]).unwrap();
+        offset_cases::met(&line, &answer).join("; ")
+    };
+    assert_eq!(met([0, 0], [0, 0], 4), "");
+    assert_eq!(met([4, 1], [0, 2], 8), "row full at 1; inner offset; wider stride");
+    assert_eq!(met([5, 1], [0, 2], 9), "inner offset; wider stride");
+    assert_eq!(met([0, 1], [2, 0], 8), "first offset at its stride or above");
+    assert_eq!(met([4, 1], [0, 3], 8), "12 past the row at 1");
+    assert_eq!(met([0, 0], [0, 1], 3), "12 past the row at 1; 12 under stride 0; 12 and 13");
+    assert_eq!(met([70_000, 1], [0, 65_536], 70_002), "12 too large at 1");
+    assert_eq!(met([0, 0], [65_536, 1], 4), "12 too large at 0; 12 too large, past the row farther in");
+    assert_eq!(met([1, 1], [65_536, 0], 4), "11 and 12");
+    assert_eq!(met([4, 1], [0, 2], 7), "");
 }
 
 /// An answer that starts with a number of refusal is told apart by it; only `Answer::refused` hands back the number

@@ -138,17 +138,6 @@ fn a_zero_stride_may_come_out_above_the_limit() {
 }
 
 #[test]
-fn a_destination_offset_is_below_its_stride_and_at_most_65_535() {
-    let tensor = plane(&[1, 1]);
-    let at = |offset: u32, stride: u32| {
-        let config = default(&tensor).with_dst_offset([offset, 0, 0, 0]).with_dst_stride([stride, 0, 0, 0]);
-        judge(&tensor, &config, 1, u64::MAX).status
-    };
-    assert_eq!((at(4, 5), at(5, 5)), (0, 12));
-    assert_eq!((at(65_535, 65_536), at(65_536, 70_000)), (0, 12));
-}
-
-#[test]
 fn entries_past_the_rank_are_not_looked_at() {
     let mut tensor = plane(&[2, 3]);
     (tensor.shape[3], tensor.stride[2]) = (0, u32::MAX);
