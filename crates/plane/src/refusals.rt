@@ -113,8 +113,8 @@ pub(crate) fn step_fault(n: u8, step: [u32; 4]) -> Fault
     no_fault()
 }
 
-// Whether dimension k refuses its offset: no stride stands before the first, which the room alone bounds. The product needs more
-// than 32 bits.
+// Whether the offset of dimension k is bad. No stride stands before the first dimension: besides 65,535 the room alone bounds it.
+// The product needs more than 32 bits.
 fn dst_offset_is_bad(k: usize, extent: [u32; 4], stride: [u32; 4], offset: [u32; 4]) -> bool
     requires { ⌜ (k < 4) × IsExtent extent k ⌝ }
     ensures { λ r. ⌜ r ≡ badDstOffsetAt (at extent) (at stride) (at offset) k ⌝ }

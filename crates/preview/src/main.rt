@@ -29,12 +29,23 @@ const BUDGET: u64 = 4; // elements that one step may move
 const PIXELS: [u8; PICTURE] =
     *b"\x11\x12\x13\x14\x15\x16\x21\x22\x23\x24\x25\x26\x31\x32\x33\x34\x35\x36\x41\x42\x43\x44\x45\x46";
 
-// Colour and alpha of two rows of two pixels: their digits are pixel and channel.
-const COLOUR: [u8; 12] = *b"\x11\x12\x13\x21\x22\x23\x31\x32\x33\x41\x42\x43";
+// A picture in two planes, colour and alpha.
+const ROWS: usize = 2;
 
-const ALPHA: [u8; 4] = *b"\x1a\x2a\x3a\x4a";
+const COLUMNS: usize = 2;
 
-const JOINED: usize = 16; // bytes of the two joined: four channels a pixel
+const COLOURS: usize = 3; // channels of colour; alpha has one
+
+const CHANNELS: usize = COLOURS + 1; // of the joined plane
+
+const JOINED_ROW: usize = COLUMNS * CHANNELS; // bytes of one of its rows
+
+const JOINED: usize = ROWS * JOINED_ROW; // bytes of all
+
+// The bytes of the two: their digits are pixel and channel.
+const COLOUR: [u8; ROWS * COLUMNS * COLOURS] = *b"\x11\x12\x13\x21\x22\x23\x31\x32\x33\x41\x42\x43";
+
+const ALPHA: [u8; ROWS * COLUMNS] = *b"\x1a\x2a\x3a\x4a";
 
 // The tensor record of the picture. Stride 0: its rows follow one another without gaps.
 fn picture() -> Tensor {
@@ -116,19 +127,19 @@ fn move_into(t: Tensor, c: Config, source: &[u8], buffer: &mut [u8]) {
     move_and_print(t, c, source, &mut buffer[0..n]);
 }
 
-// Two rows of two pixels, of this many channels each.
-fn pixels_of(channels: u32) -> Tensor {
+// A plane of the picture in two planes, with so many channels.
+fn plane_of(channels: u32) -> Tensor {
     Tensor {
         rank: 3,
         element_size: 1,
-        shape: [2, 2, channels, 0],
+        shape: [ROWS as u32, COLUMNS as u32, channels, 0],
         stride: [0; 4],
     }
 }
 
-// Sets a plane into one of four channels a pixel, from this channel on. The strides are those of the joined plane.
-fn from_channel(channel: u32) -> Config {
-    let set = ready_made::concatenate(3, [0, 0, channel, 0], [8, 4, 1, 0]);
+// Sets a plane into the joined one, behind so many channels. The strides are those of the joined plane.
+fn behind(channels: u32) -> Config {
+    let set = ready_made::concatenate(3, [0, 0, channels, 0], [JOINED_ROW as u32, CHANNELS as u32, 1, 0]);
     set.config
 }
 
@@ -136,11 +147,11 @@ fn from_channel(channel: u32) -> Config {
 fn join(room: &mut [u8]) {
     let colour = COLOUR;
     let alpha = ALPHA;
-    let first = mover::move_plane(pixels_of(3), from_channel(0), &colour, room);
-    let second = mover::move_plane(pixels_of(1), from_channel(3), &alpha, room);
-    print_status(b"joined", first.status);
-    print_status(b"joined", second.status);
-    print_plane(room, 8);
+    let first = mover::move_plane(plane_of(COLOURS as u32), behind(0), &colour, room);
+    let second = mover::move_plane(plane_of(1), behind(COLOURS as u32), &alpha, room);
+    print_status(b"colour", first.status);
+    print_status(b"alpha", second.status);
+    print_plane(room, JOINED_ROW as u32);
 }
 
 // A transfer within the memory: it reads the picture, and writes length bytes from byte start on.
