@@ -1,6 +1,6 @@
 -- The elements of a plane lie in its span, and no two have a byte in common, because its strides fall inward. Assumes nothing.
 use Prim.Native.Nat.{ℕ, suc, _+_, _-_, _*_, _≤_, _<_}
-use native.Mathlib.Nat.{suc-mul, mul-le-mul-right}
+use native.Mathlib.Nat.{mul-le-mul-right}
 use native.Mathlib.Omega.{arith}
 use mathlib.Core.Path.{_≡_, ap}
 use mathlib.Core.Logic.{⊎-elim, inl, inr}
@@ -9,7 +9,7 @@ use Rattle.plane.specs.Arrays.{at, sum}
 use Rattle.plane.specs.Planes.{shapeAt, strideAt, resolved, srcStrides, sourceAt, span}
 use Rattle.plane.proofs.Arrays.{firsts-at, sum-same}
 use Rattle.plane.proofs.Falling.{stride-positive, strides-fall}
-use Rattle.mover.proofs.Sums.{sum-least}
+use Rattle.mover.proofs.Sums.{sum-least, before-in-bytes}
 use Rattle.mover.proofs.Numbers.{spots-differ}
 use Rattle.slices.specs.Claims.{elementByte}
 use Rattle.joins.specs.Claims.{Falls, ElementWithin, ElementsApart}
@@ -34,10 +34,6 @@ pub byte-same : (t : Tensor) (x y : ℕ → ℕ) → ((i : ℕ) → i < t .rank 
 byte-same t x y e =
     ap (λ (k : ℕ). k * t .«element_size») (sum-same (t .rank) _ _ (λ i h. ap (λ (k : ℕ). sourceAt t i k) (e i h)))
 
--- of two places, in bytes
-after : (z : ℕ) {p q : ℕ} → p < q → p * z + z ≤ q * z
-after z l = rw suc-mul at (mul-le-mul-right z l)
-
 -- ---- the theorems
 
 pub element-within : ElementWithin
@@ -45,7 +41,7 @@ unfolding span
 element-within t y w =
     let f : ℕ → ℕ = λ i. sourceAt t i (shapeAt t i - 1) in
     let l = sum-least (t .rank) (λ i. sourceAt t i (y i)) f (λ i h. mul-le-mul-right (at (srcStrides t) i) (omega (arith, w i h))) in
-    after (t .«element_size») {q = 1 + sum (t .rank) f} (omega arith)
+    before-in-bytes (t .«element_size») {q = 1 + sum (t .rank) f} (omega arith)
 
 pub elements-apart : ElementsApart
 elements-apart t few f x y a b i h d =
@@ -53,6 +49,6 @@ elements-apart t few f x y a b i h d =
     let within = stride-within t few some f in
     let falls = stride-falls t few some f in
     ⊎-elim
-    (λ l. inl (after (t .«element_size») l))
-    (λ l. inr (after (t .«element_size») l))
+    (λ l. inl (before-in-bytes (t .«element_size») l))
+    (λ l. inr (before-in-bytes (t .«element_size») l))
     (spots-differ (t .rank) (shapeAt t) (at (srcStrides t)) (λ j k. within j k .0) (λ j k. falls j (suc j) (omega arith) k) x y a b i h d)

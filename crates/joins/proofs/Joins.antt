@@ -1,28 +1,31 @@
 -- Two planes joined along a dimension: set side by side into one destination, they leave the joined plane. Assumes nothing.
 use Prim.Native.Nat.{ℕ, _+_, _-_, _≤_, _<_}
-use native.Mathlib.Decide.{ℕ-discrete}
+use native.Mathlib.Nat.{le-trans}
+use native.Mathlib.Decide.{ℕ-discrete, decLt}
 use native.Mathlib.Omega.{arith}
 use mathlib.Core.Path.{_≡_, refl, sym, subst, _∙_}
-use mathlib.Core.Logic.{⊎-elim, inl, inr}
+use mathlib.Core.Logic.{_⊎_, ⊎-elim, inl, inr}
 use mathlib.Core.Bool.{cond}
 use mathlib.Core.List.{List}
 use borrow.Author.Tests.{eq-eqb, ne-eqb}
 use lib.Dec.{eqb}
+use lib.ListN.{length}
 use Rattle.plane.specs.declared.Tensor.{Tensor}
 use Rattle.plane.specs.Arrays.{at, zeros}
 use Rattle.plane.specs.Planes.{shapeAt, strideAt}
 use Rattle.plane.proofs.Arrays.{table-at, zeros-at}
 use Rattle.plane.specs.Good.{FromTo, GoodSource}
 use Rattle.plane.proofs.Good.{source-good, source-clear}
+use Rattle.mover.specs.Demand2.{Accepted}
 use Rattle.slices.specs.Claims.{elementByte}
 use Rattle.slices.proofs.Compact.{resolved-inner}
-use Rattle.joins.specs.Claims.{IsIn, Misses, Settable, Set, joined, behind, Joinable, afterFirst, Joined, JoinedPlane, CompactFalls, JoinedPasses}
-use Rattle.joins.proofs.Elements.{resolved-at, byte-same, elements-apart}
+use Rattle.joins.specs.Claims.{IsIn, Misses, setConfig, Settable, IsSet, joinedOf, behind, Joinable, IsJoined, afterFirst, afterBoth, JoinedPlane, JoinedCoordinates, CompactFalls, JoinedTaken}
+use Rattle.joins.proofs.Elements.{resolved-at, byte-same, element-within, elements-apart}
 use Rattle.joins.proofs.Setting.{set-into, set-inside}
 
 module _ {a b : Tensor} {d : ℕ} {stride srcA srcB dst : List ℕ} (p : Joinable a b d stride srcA srcB dst) where
   abbrev w : Tensor
-  w = joined a b d stride
+  w = joinedOf a b d stride
 
   good : GoodSource a
   good = source-good a (p .first .0)
@@ -71,11 +74,11 @@ module _ {a b : Tensor} {d : ℕ} {stride srcA srcB dst : List ℕ} (p : Joinabl
     room = p .room;
   }
 
-  first : Set w a zeros srcA dst
-  first = set-into w a zeros srcA dst first-settable
-
   abbrev half : List ℕ
   half = afterFirst a b d stride srcA dst
+
+  first : Accepted a (setConfig w zeros) srcA dst × IsSet w a zeros srcA dst half
+  first = set-into w a zeros srcA dst first-settable
 
   second-settable : Settable w b (behind a d) srcB half
   second-settable = record {
@@ -89,10 +92,13 @@ module _ {a b : Tensor} {d : ℕ} {stride srcA srcB dst : List ℕ} (p : Joinabl
     limit = each (λ i. at (behind a d) i ≤ 65535)
         (omega (arith, behind-along, good .shape d (p .along) .1))
         (λ i h n. omega (arith, behind-aside i h n));
-    room = rw (first .long) (p .room);
+    room = rw (first .1 .long) (p .room);
   }
 
-  second : Set w b (behind a d) srcB half
+  abbrev whole : List ℕ
+  whole = afterBoth a b d stride srcA srcB dst
+
+  second : Accepted b (setConfig w (behind a d)) srcB half × IsSet w b (behind a d) srcB half whole
   second = set-into w b (behind a d) srcB half second-settable
 
   -- ---- the joined plane's elements
@@ -128,21 +134,43 @@ module _ {a b : Tensor} {d : ℕ} {stride srcA srcB dst : List ℕ} (p : Joinabl
           (λ i h n. omega (arith, v i h, shape-aside i h n, p .shape i h n))
           i (rw (← p .rank) h)
 
-  both : Joined a b d stride srcA srcB dst
+  long : length whole ≡ length dst
+  long = second .1 .long ∙ first .1 .long
+
+  both : IsJoined w a b d srcA srcB dst whole
   both = record {
-    first = first .accepted;
-    second = second .accepted;
-    long = second .long ∙ first .long;
+    long = long;
+    inside = λ y v. rw long (le-trans (element-within w y v) (p .room));
     of-first = λ y v l k h.
-        second .rest (elementByte w y + k) (spared y v l k h) ∙
-        rw (byte-same w (λ i. at zeros i + y i) y (λ i q. omega (arith, zeros-at i))) at (first .placed y (in-first y v l) k h);
+        second .1 .rest (elementByte w y + k) (spared y v l k h) ∙
+        rw (byte-same w (λ i. at zeros i + y i) y (λ i q. omega (arith, zeros-at i))) at (first .1 .placed y (in-first y v l) k h);
     of-second = λ y v l k h.
         rw (byte-same w (λ i. at (behind a d) i + back y v l i) y (back-there y v l)) at
-        (second .placed (back y v l) (in-second y v l) k (rw (p .element) h));
+        (second .1 .placed (back y v l) (in-second y v l) k h);
     rest = λ k m.
-        second .rest k (λ x u. m (λ i. at (behind a d) i + x i) (set-inside second-settable x u)) ∙
-        first .rest k (λ x u. m (λ i. at zeros i + x i) (set-inside first-settable x u));
+        second .1 .rest k (λ x u. m (λ i. at (behind a d) i + x i) (set-inside second-settable x u)) ∙
+        first .1 .rest k (λ x u. m (λ i. at zeros i + x i) (set-inside first-settable x u));
   }
+
+  -- ---- its coordinates
+
+  split : (y : ℕ → ℕ) → IsIn w y → IsIn a y ⊎ ((shapeAt a d ≤ y d) × IsIn b (λ i. y i - at (behind a d) i))
+  split y v = elim (decLt (y d) (shapeAt a d)) [
+    | yes l ↦ inl (in-first y v l)
+    | no l ↦ let m : shapeAt a d ≤ y d = omega arith in inr (m, in-second y v m)
+  ]
+
+  -- b's, from a's end on, and a's are w's
+  from-second : (y : ℕ → ℕ) → shapeAt a d ≤ y d → IsIn b (λ i. y i - at (behind a d) i) → IsIn w y
+  from-second y l u i h =
+      let k = set-inside second-settable (λ i. y i - at (behind a d) i) u i h in
+      each (λ i. at (behind a d) i + (y i - at (behind a d) i) < shapeAt w i → y i < shapeAt w i)
+      (λ q. omega (arith, behind-along))
+      (λ i h n q. omega (arith, behind-aside i h n))
+      i h k
+
+  from-first : (y : ℕ → ℕ) → IsIn a y → IsIn w y
+  from-first y u i h = let k = set-inside first-settable y u i h in omega (arith, zeros-at i)
 
   joined-good : shapeAt a d + shapeAt b d ≤ 65535 → GoodSource w
   joined-good l = record {
@@ -157,7 +185,10 @@ module _ {a b : Tensor} {d : ℕ} {stride srcA srcB dst : List ℕ} (p : Joinabl
 -- ---- the theorems
 
 pub joined-plane : JoinedPlane
-joined-plane a b d stride srcA srcB dst p = both p
+joined-plane a b d stride srcA srcB dst p = (first p .0, second p .0, both p)
+
+pub joined-coordinates : JoinedCoordinates
+joined-coordinates a b d stride srcA srcB dst p y = (split p y, ⊎-elim (from-first p y) (λ u. from-second p y (u .0) (u .1)))
 
 pub compact-falls : CompactFalls
 compact-falls t few none most = record {
@@ -165,5 +196,5 @@ compact-falls t few none most = record {
   most = λ i h. rw (← resolved-at t few i h) (most i h);
 }
 
-pub joined-passes : JoinedPasses
-joined-passes a b d stride srcA srcB dst p l = (source-clear (joined a b d stride) (joined-good p l), rw (both p .long) (p .room))
+pub joined-taken : JoinedTaken
+joined-taken a b d stride srcA srcB dst p l = (source-clear (joinedOf a b d stride) (joined-good p l), rw (long p) (p .room))

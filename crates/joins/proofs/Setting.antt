@@ -24,17 +24,13 @@ use Rattle.mover.proofs.Sums.{sum-least}
 use Rattle.mover.specs.Demand2.{IsCoordinate, byteAt, sourceByte, Meant, Accepted}
 use Rattle.mover.proofs.Demand2.{demand-2}
 use Rattle.slices.specs.Claims.{elementByte}
-use Rattle.slices.proofs.Boxes.{Boxed, boxed-source, boxed-config, boxed-extent-at, boxed-kept, taken-all, cut-at, cut-zero, cut-table, made}
-use Rattle.joins.specs.Claims.{IsIn, setInto, Settable, Set, SetInto}
+use Rattle.slices.proofs.Boxes.{Boxed, boxed-extent-at, boxed-kept, cut-at, made, placing, placing-whole, placing-place, placing-config}
+use Rattle.joins.specs.Claims.{IsIn, setConfig, Settable, IsSet, SetInto}
 use Rattle.joins.proofs.Elements.{stride-within, stride-falls}
-
--- the configuration, cut to the rank of the plane that is set in
-abbrev placing : Tensor → Tensor → List ℕ → Config
-placing w t o = cutTo (t .rank) (withDstStride (withDstOffset defaults o) (srcStrides w))
 
 module _ {w t : Tensor} {o src dst : List ℕ} (p : Settable w t o src dst) where
   abbrev c : Config
-  c = placing w t o
+  c = placing (t .rank) o (srcStrides w)
 
   good : GoodSource t
   good = source-good t (p .source .0)
@@ -47,7 +43,7 @@ module _ {w t : Tensor} {o src dst : List ℕ} (p : Settable w t o src dst) wher
   there i h = rw (← p .rank) h
 
   -- the ready-made configuration is this one, since t's rank is w's
-  it-is : setInto w o ≡ c
+  it-is : setConfig w o ≡ c
   it-is =
       ap (λ (n : ℕ). madeFor n (withDstStride (withDstOffset defaults o) (srcStrides w)) .config) (sym (p .rank)) ∙
       made (t .rank) (withDstStride (withDstOffset defaults o) (srcStrides w)) (good .rank .0) few
@@ -55,22 +51,7 @@ module _ {w t : Tensor} {o src dst : List ℕ} (p : Settable w t o src dst) wher
   -- ---- the whole of t is taken
 
   boxed : Boxed t c (t .shape)
-  unfolding cutTo
-  boxed = record {
-    perm = cut-table (t .rank) few (λ d. d);
-    pre = cut-zero (t .rank) few;
-    post = cut-zero (t .rank) few;
-    step = cut-table (t .rank) few (λ d. 1);
-    size = λ i h. taken-all t c i (cut-zero (t .rank) few i h) (cut-zero (t .rank) few i h);
-  }
-
-  config-good : GoodConfig t c
-  unfolding cutTo
-  config-good =
-      boxed-config boxed
-      (λ i h. good .shape i h .1)
-      (λ i h. omega (arith, cut-zero (t .rank) few i h, good .shape i h .0))
-      (λ i h. omega (arith, cut-zero (t .rank) few i h))
+  boxed = placing-whole t few o (srcStrides w)
 
   extent-at : (i : ℕ) → i < t .rank → at (dstExtents t c) i ≡ shapeAt t i
   extent-at = boxed-extent-at boxed few
@@ -152,7 +133,7 @@ module _ {w t : Tensor} {o src dst : List ℕ} (p : Settable w t o src dst) wher
       move-clear t c (length src) (length dst) (record {
         source = good;
         long = p .source .1;
-        config = config-good;
+        config = placing-config t few o (srcStrides w) good;
         destination = dst-good;
         room = le-trans need-most (p .room);
       })
@@ -168,23 +149,19 @@ module _ {w t : Tensor} {o src dst : List ℕ} (p : Settable w t o src dst) wher
       (p .element)
 
   source-here : (x : ℕ → ℕ) → sourceByte t c x ≡ elementByte t x
-  unfolding cutTo
-  source-here x =
-      ap (λ (k : ℕ). k * t .«element_size»)
-      (boxed-source boxed x ∙
-      sum-same (t .rank) _ _ (λ i h. ap (λ (k : ℕ). (k + x i) * at (srcStrides t) i) (cut-zero (t .rank) few i h) ∙ simp zero-add))
+  source-here x = ap (λ (k : ℕ). k * t .«element_size») (placing-place t few o (srcStrides w) x)
 
   meant : Meant t c src dst (moveMemory t c src dst)
   meant = demand-2 t c src dst accepted
 
-  set : Set w t o src dst
+  set : IsSet w t o src dst (moveMemory t c src dst)
   set = record {
-    accepted = rw it-is accepted;
-    long = rw it-is (meant .long);
-    placed = λ x a b h.
-        let k = inside x a in
-        rw (it-is, ← byte-here x, ← source-here x) (meant .placed x k .source (boxed-kept boxed few x k) b h .1);
-    rest = λ k a. rw it-is (meant .rest k (λ x v. rw (byte-here x, p .element) (a x (outside x v))));
+    long = meant .long;
+    inside = λ x a. rw (← byte-here x, ← p .element) (meant .placed x (inside x a) .inside);
+    placed = λ x a k h.
+        let v = inside x a in
+        rw (← byte-here x, ← source-here x) (meant .placed x v .source (boxed-kept boxed few x v) k (rw (p .element) h) .1);
+    rest = λ k a. meant .rest k (λ x v. rw (byte-here x, p .element) (a x (outside x v)));
   }
 
   -- t's coordinates are w's, from o on
@@ -194,4 +171,4 @@ module _ {w t : Tensor} {o src dst : List ℕ} (p : Settable w t o src dst) wher
 -- ---- the theorem
 
 pub set-into : SetInto
-set-into w t o src dst p = set p
+set-into w t o src dst p = rw (it-is p) (accepted p, set p)

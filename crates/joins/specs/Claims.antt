@@ -4,7 +4,7 @@
 use Prim.Native.Nat.{ℕ, _+_, _-_, _≤_, _<_}
 use mathlib.Core.Path.{_≡_}
 use mathlib.Core.Bool.{cond}
-use mathlib.Core.Logic.{_⊎_}
+use mathlib.Core.Logic.{_⊎_, _↔_}
 use mathlib.Core.List.{List}
 use lib.Dec.{eqb}
 use lib.ListN.{length, getD}
@@ -28,13 +28,13 @@ IsIn t y = (i : ℕ) → i < t .rank → y i < shapeAt t i
 abbrev pub Misses : Tensor → (ℕ → ℕ) → ℕ → Type 0
 Misses t y k = (k < elementByte t y) ⊎ (elementByte t y + t .«element_size» ≤ k)
 
--- strides that 4 takes
+-- its strides are such that 4 takes them
 abbrev pub Falls : Tensor → Type 0
 Falls t = GoodStrides (t .rank) (shapeAt t) (strideAt t)
 
 -- 1 to 5 take it from the source src
-abbrev pub Passes : Tensor → List ℕ → Type 0
-Passes t src = (sourceFault t .status ≡ 0) × (span t ≤ length src)
+abbrev pub TakenFrom : Tensor → List ℕ → Type 0
+TakenFrom t src = (sourceFault t .status ≡ 0) × (span t ≤ length src)
 
 -- its elements lie in its span
 abbrev pub ElementWithin : Type 0
@@ -49,85 +49,101 @@ ElementsApart =
 -- ---- a plane t set into a larger plane w, from its coordinate o on
 
 -- the strides are w's, written; all but offset and strides is default
-abbrev pub setInto : Tensor → List ℕ → Config
-setInto w o = concatenateOf (w .rank) o (srcStrides w) .config
+abbrev pub setConfig : Tensor → List ℕ → Config
+setConfig w o = concatenateOf (w .rank) o (srcStrides w) .config
 
-abbrev pub afterSet : Tensor → Tensor → List ℕ → List ℕ → List ℕ → List ℕ
-afterSet w t o src dst = moveMemory t (setInto w o) src dst
-
+-- what is asked for
 pub record Settable (w t : Tensor) (o src dst : List ℕ) : Type 0 where
   pub rank : t .rank ≡ w .rank
   pub element : t .«element_size» ≡ w .«element_size»
-  pub source : Passes t src
+  pub source : TakenFrom t src
   pub strides : Falls w
+  -- t lies in w, and no offset is too large
   pub fits : (i : ℕ) → i < w .rank → at o i + shapeAt t i ≤ shapeAt w i
   pub limit : (i : ℕ) → i < w .rank → at o i ≤ 65535
+  -- the room holds w
   pub room : span w ≤ length dst
 
-pub record Set (w t : Tensor) (o src dst : List ℕ) : Type 0 where
-  pub accepted : Accepted t (setInto w o) src dst
-  pub long : length (afterSet w t o src dst) ≡ length dst
-  -- the element at x is w's at o + x
-  pub placed : (x : ℕ → ℕ) → IsIn t x → (b : ℕ) → b < t .«element_size» →
-      getD (afterSet w t o src dst) (elementByte w (λ i. at o i + x i) + b) 0 ≡ getD src (elementByte t x + b) 0
+-- the destination dst has become e: t's elements are in it, and nothing else is changed
+pub record IsSet (w t : Tensor) (o src dst e : List ℕ) : Type 0 where
+  pub long : length e ≡ length dst
+  -- t's element at x is w's at o + x, which lies in the destination
+  pub inside : (x : ℕ → ℕ) → IsIn t x → elementByte w (λ i. at o i + x i) + w .«element_size» ≤ length e
+  pub placed : (x : ℕ → ℕ) → IsIn t x → (k : ℕ) → k < w .«element_size» →
+      getD e (elementByte w (λ i. at o i + x i) + k) 0 ≡ getD src (elementByte t x + k) 0
   -- a byte of none of these is as it was
-  pub rest : (k : ℕ) → ((x : ℕ → ℕ) → IsIn t x → Misses w (λ i. at o i + x i) k) → getD (afterSet w t o src dst) k 0 ≡ getD dst k 0
+  pub rest : (k : ℕ) → ((x : ℕ → ℕ) → IsIn t x → Misses w (λ i. at o i + x i) k) → getD e k 0 ≡ getD dst k 0
 
+-- the move is accepted, and leaves that
 abbrev pub SetInto : Type 0
-SetInto = (w t : Tensor) (o src dst : List ℕ) → Settable w t o src dst → Set w t o src dst
+SetInto =
+    (w t : Tensor) (o src dst : List ℕ) → Settable w t o src dst →
+    Accepted t (setConfig w o) src dst × IsSet w t o src dst (moveMemory t (setConfig w o) src dst)
 
 -- ---- two planes a and b joined along dimension d
 
 -- the joined plane: along d both shapes together. Its strides are those asked for, 0 for compact ones
-abbrev pub joined : Tensor → Tensor → ℕ → List ℕ → Tensor
-joined a b d stride = record {
+abbrev pub joinedOf : Tensor → Tensor → ℕ → List ℕ → Tensor
+joinedOf a b d stride = record {
   rank = a .rank;
   «element_size» = a .«element_size»;
   shape = table (λ i. shapeAt a i + cond (eqb i d) (shapeAt b i) 0);
   stride = stride;
 }
 
--- b starts where a ends
+-- b starts where a ends: along d at a's shape, which is its extent, since all else is default
 abbrev pub behind : Tensor → ℕ → List ℕ
 behind a d = table (λ i. cond (eqb i d) (shapeAt a i) 0)
 
+-- what is asked for
 pub record Joinable (a b : Tensor) (d : ℕ) (stride srcA srcB dst : List ℕ) : Type 0 where
+  -- rank, element size and, but for d, the shapes agree
   pub along : d < a .rank
-  -- the shapes agree but for d
   pub rank : b .rank ≡ a .rank
   pub element : b .«element_size» ≡ a .«element_size»
   pub shape : (i : ℕ) → i < a .rank → (i ≡ d → ⊥) → shapeAt b i ≡ shapeAt a i
-  pub first : Passes a srcA
-  pub second : Passes b srcB
-  pub strides : Falls (joined a b d stride)
-  pub room : span (joined a b d stride) ≤ length dst
+  pub first : TakenFrom a srcA
+  pub second : TakenFrom b srcB
+  -- compact strides are such if they are within the limit (`CompactFalls`)
+  pub strides : Falls (joinedOf a b d stride)
+  -- the room holds the joined plane
+  pub room : span (joinedOf a b d stride) ≤ length dst
+
+-- the destination dst has become e: the joined plane w is in it, and nothing else is changed
+pub record IsJoined (w a b : Tensor) (d : ℕ) (srcA srcB dst e : List ℕ) : Type 0 where
+  pub long : length e ≡ length dst
+  -- w's elements lie in it
+  pub inside : (y : ℕ → ℕ) → IsIn w y → elementByte w y + w .«element_size» ≤ length e
+  -- w's element at y is a's at y, as far as a reaches along d: none of a is overwritten
+  pub of-first : (y : ℕ → ℕ) → IsIn w y → y d < shapeAt a d → (k : ℕ) → k < w .«element_size» →
+      getD e (elementByte w y + k) 0 ≡ getD srcA (elementByte a y + k) 0
+  -- and past it b's
+  pub of-second : (y : ℕ → ℕ) → IsIn w y → shapeAt a d ≤ y d → (k : ℕ) → k < w .«element_size» →
+      getD e (elementByte w y + k) 0 ≡ getD srcB (elementByte b (λ i. y i - at (behind a d) i) + k) 0
+  -- a byte of none of w's elements is as it was
+  pub rest : (k : ℕ) → ((y : ℕ → ℕ) → IsIn w y → Misses w y k) → getD e k 0 ≡ getD dst k 0
 
 -- the destination with a set in, and with both
 abbrev pub afterFirst : Tensor → Tensor → ℕ → List ℕ → List ℕ → List ℕ → List ℕ
-afterFirst a b d stride srcA dst = afterSet (joined a b d stride) a zeros srcA dst
+afterFirst a b d stride srcA dst = moveMemory a (setConfig (joinedOf a b d stride) zeros) srcA dst
 
 abbrev pub afterBoth : Tensor → Tensor → ℕ → List ℕ → List ℕ → List ℕ → List ℕ → List ℕ
-afterBoth a b d stride srcA srcB dst = afterSet (joined a b d stride) b (behind a d) srcB (afterFirst a b d stride srcA dst)
+afterBoth a b d stride srcA srcB dst =
+    moveMemory b (setConfig (joinedOf a b d stride) (behind a d)) srcB (afterFirst a b d stride srcA dst)
 
-pub record Joined (a b : Tensor) (d : ℕ) (stride srcA srcB dst : List ℕ) : Type 0 where
-  -- both moves are accepted
-  pub first : Accepted a (setInto (joined a b d stride) zeros) srcA dst
-  pub second : Accepted b (setInto (joined a b d stride) (behind a d)) srcB (afterFirst a b d stride srcA dst)
-  pub long : length (afterBoth a b d stride srcA srcB dst) ≡ length dst
-  -- the joined plane's element at y is a's at y, as far as a reaches along d
-  pub of-first : (y : ℕ → ℕ) → IsIn (joined a b d stride) y → y d < shapeAt a d → (k : ℕ) → k < a .«element_size» →
-      getD (afterBoth a b d stride srcA srcB dst) (elementByte (joined a b d stride) y + k) 0 ≡ getD srcA (elementByte a y + k) 0
-  -- and past it b's
-  pub of-second : (y : ℕ → ℕ) → IsIn (joined a b d stride) y → shapeAt a d ≤ y d → (k : ℕ) → k < a .«element_size» →
-      getD (afterBoth a b d stride srcA srcB dst) (elementByte (joined a b d stride) y + k) 0
-      ≡ getD srcB (elementByte b (λ i. y i - at (behind a d) i) + k) 0
-  -- a byte of no element of the joined plane is as it was
-  pub rest : (k : ℕ) → ((y : ℕ → ℕ) → IsIn (joined a b d stride) y → Misses (joined a b d stride) y k) →
-      getD (afterBoth a b d stride srcA srcB dst) k 0 ≡ getD dst k 0
-
+-- both moves are accepted, the second over what the first left, and they leave the joined plane
 abbrev pub JoinedPlane : Type 0
 JoinedPlane =
-    (a b : Tensor) (d : ℕ) (stride srcA srcB dst : List ℕ) → Joinable a b d stride srcA srcB dst → Joined a b d stride srcA srcB dst
+    (a b : Tensor) (d : ℕ) (stride srcA srcB dst : List ℕ) → Joinable a b d stride srcA srcB dst →
+    Accepted a (setConfig (joinedOf a b d stride) zeros) srcA dst ×
+    Accepted b (setConfig (joinedOf a b d stride) (behind a d)) srcB (afterFirst a b d stride srcA dst) ×
+    IsJoined (joinedOf a b d stride) a b d srcA srcB dst (afterBoth a b d stride srcA srcB dst)
+
+-- every coordinate of the joined plane is one of a's or, behind a, one of b's; and each of these is one of its own
+abbrev pub JoinedCoordinates : Type 0
+JoinedCoordinates =
+    (a b : Tensor) (d : ℕ) (stride srcA srcB dst : List ℕ) → Joinable a b d stride srcA srcB dst → (y : ℕ → ℕ) →
+    IsIn (joinedOf a b d stride) y ↔ (IsIn a y ⊎ ((shapeAt a d ≤ y d) × IsIn b (λ i. y i - at (behind a d) i)))
 
 -- where the strides asked for are 0, the limit alone is to be kept
 abbrev pub CompactFalls : Type 0
@@ -136,7 +152,7 @@ CompactFalls =
     ((i : ℕ) → i < t .rank → at (srcStrides t) i ≤ 2147483647) → Falls t
 
 -- a joined plane of a shape within the limit can be moved on as a source: 1 to 5 take it from what the two moves left
-abbrev pub JoinedPasses : Type 0
-JoinedPasses =
+abbrev pub JoinedTaken : Type 0
+JoinedTaken =
     (a b : Tensor) (d : ℕ) (stride srcA srcB dst : List ℕ) → Joinable a b d stride srcA srcB dst → shapeAt a d + shapeAt b d ≤ 65535 →
-    Passes (joined a b d stride) (afterBoth a b d stride srcA srcB dst)
+    TakenFrom (joinedOf a b d stride) (afterBoth a b d stride srcA srcB dst)

@@ -249,7 +249,7 @@ table =
     besides shows move (compact 3 1 (three 1 2 1)) (withDstStride (withDstOffset defaults (three 0 0 3)) (three 8 4 1)) (14 ∷ 24 ∷ [])
     (11 ∷ 12 ∷ 13 ∷ 99 ∷ 21 ∷ 22 ∷ 23 ∷ 99 ∷ [])
     (acceptedMove 3 1 (1 ∷ 2 ∷ 1 ∷ 0 ∷ []) (8 ∷ 4 ∷ 1 ∷ 0 ∷ []) 8) (11 ∷ 12 ∷ 13 ∷ 14 ∷ 21 ∷ 22 ∷ 23 ∷ 24 ∷ []) ∷
-    -- the room alone bounds the first dimension: one byte at 65,535 needs 65,536 bytes, at 65,536 it is 12 at dimension 0
+    -- the first dimension has no row around it, only the limit: one byte at 65,535 needs 65,536 bytes, at 65,536 it is 12 at dimension 0
     besides shows room (compact 1 1 (one 1)) (withDstOffset defaults (one 65535))
     (record { answer = acceptedMove 1 1 (1 ∷ 0 ∷ 0 ∷ 0 ∷ []) (1 ∷ 0 ∷ 0 ∷ 0 ∷ []) 65536; span = 1 }) ∷
     besides shows room (compact 1 1 (one 1)) (withDstOffset defaults (one 65536))
@@ -257,6 +257,9 @@ table =
     -- so (1,2) 8 9 goes to row 3 of rows of two
     besides shows move (compact 2 1 (two 1 2)) (withDstStride (withDstOffset defaults (two 3 0)) (two 2 1)) (8 ∷ 9 ∷ []) (over 8)
     (acceptedMove 2 1 (1 ∷ 2 ∷ 0 ∷ 0 ∷ []) (2 ∷ 1 ∷ 0 ∷ 0 ∷ []) 8) (99 ∷ 99 ∷ 99 ∷ 99 ∷ 99 ∷ 99 ∷ 8 ∷ 9 ∷ []) ∷
+    -- (2,2) at offset (0,1) by strides (4,2): 1 is below the stride 2, but (1 + 2) x 2 is above 4, and the first row would end in the second
+    besides shows room (compact 2 1 (two 2 2)) (withDstStride (withDstOffset defaults (two 0 1)) (two 4 2))
+    (record { answer = refused (fault 12 1); span = 0 }) ∷
     -- (2,2) at offset (0,1): what stride 0 stands for is resolved from the extents alone, to 2, and 1 + 2 is above it
     besides shows room (compact 2 1 (two 2 2)) (withDstOffset defaults (two 0 1))
     (record { answer = refused (fault 12 1); span = 0 }) ∷
@@ -266,4 +269,7 @@ table =
     -- dimension 1 runs past its row, dimension 2 has too large an offset: the lowest is named, whichever case it is
     besides shows room (compact 3 1 (three 2 2 2)) (withDstOffset defaults (three 0 1 65536))
     (record { answer = refused (fault 12 1); span = 0 }) ∷
+    -- and the other way round
+    besides shows room (compact 2 1 (two 2 2)) (withDstOffset defaults (two 65536 1))
+    (record { answer = refused (fault 12 0); span = 0 }) ∷
     []

@@ -1,12 +1,12 @@
 -- Theorems to read first: Demand2 (what an accepted move leaves), Decided (no two outcomes), Exact (refusals), Unseen (entries past
--- the rank are not looked at), Rows (no row runs past its end), Meeting (parts that share a byte, or leave the memory), Work (how much
+-- the rank are not looked at), Reaching (how far it reaches), Meeting (parts that share a byte, or leave the memory), Work (how much
 -- is moved), Laws (what the layer above may use).
 pub mod Demand2
 pub mod Work
 pub mod Decided
 pub mod Exact
 pub mod Unseen
-pub mod Rows
+pub mod Reaching
 pub mod Meeting
 pub mod Laws
 -- Laws over plain values, which the functions' proofs cite.

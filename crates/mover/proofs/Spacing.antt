@@ -1,6 +1,6 @@
 -- The elements of an accepted move stand apart, in the order of their numbers, because its strides fall inward. Assumes nothing.
 use Prim.Native.Nat.{ℕ, suc, _+_, _*_, _≤_, _<_}
-use native.Mathlib.Nat.{add-mul, suc-mul, mul-le-mul-right, mod-lt}
+use native.Mathlib.Nat.{add-mul, mod-lt}
 use native.Mathlib.Omega.{arith}
 use mathlib.Core.Path.{_≡_, sym}
 use mathlib.Core.Logic.{_⊎_, ⊎-elim, inl, inr}
@@ -15,7 +15,7 @@ use Rattle.plane.proofs.Falling.{stride-positive, strides-fall}
 use Rattle.plane.proofs.Rules.{dst-extent}
 use Rattle.mover.specs.Element.{place}
 use Rattle.mover.specs.Moved.{extentAt, total, perStep, coordOf}
-use Rattle.mover.proofs.Sums.{sum-add}
+use Rattle.mover.proofs.Sums.{sum-add, before-in-bytes}
 use Rattle.mover.proofs.Numbers.{number, number-lt, number-digit, spots-apart, spots-differ}
 
 -- the number of the element at coordinates x
@@ -68,13 +68,11 @@ module _ {t : Tensor} {c : Config} (g : GoodSource t) (k : GoodConfig t c) (p : 
       )
 
   pub bytes-rise : (q r : ℕ) → q < r → r < total t c → place t c (coordOf t c q) * t .«element_size» + t .«element_size» ≤ place t c (coordOf t c r) * t .«element_size»
-  bytes-rise q r l m = rw suc-mul at (mul-le-mul-right (t .«element_size») (places-rise q r l m))
+  bytes-rise q r l m = before-in-bytes (t .«element_size») (places-rise q r l m)
 
   -- a place further in front ends before the other begins
   bytes-before : (x y : ℕ → ℕ) → sum (t .rank) (λ i. x i * at (dstStrides t c) i) < sum (t .rank) (λ i. y i * at (dstStrides t c) i) → place t c x * t .«element_size» + t .«element_size» ≤ place t c y * t .«element_size»
-  bytes-before x y l =
-      let k : place t c x < place t c y = omega (arith, place-parts x, place-parts y) in
-      rw suc-mul at (mul-le-mul-right (t .«element_size») k)
+  bytes-before x y l = before-in-bytes (t .«element_size») (omega (arith, place-parts x, place-parts y))
 
   -- the bytes of coordinates that differ do not overlap
   pub bytes-apart : (x y : ℕ → ℕ) → ((i : ℕ) → i < t .rank → x i < extentAt t c i) → ((i : ℕ) → i < t .rank → y i < extentAt t c i) → (i : ℕ) → i < t .rank → (x i ≡ y i → ⊥) →

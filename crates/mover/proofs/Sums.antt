@@ -1,6 +1,7 @@
--- Laws of sums over the dimensions: two sums joined, terms compared, and terms taken in the order of a permutation. Assumes nothing.
+-- Laws of sums over the dimensions: two sums joined, terms compared, the first term apart, and terms taken in the order of a permutation.
+-- Assumes nothing.
 use Prim.Native.Nat.{ℕ, zero, suc, _+_, _*_, _≤_, _<_}
-use native.Mathlib.Nat.{add-mul, not-suc-le-zero, le-of-suc-le-suc, eq-or-lt-of-le}
+use native.Mathlib.Nat.{add-mul, suc-mul, mul-le-mul-right, not-suc-le-zero, le-of-suc-le-suc, eq-or-lt-of-le}
 use native.Mathlib.Decide.{ℕ-discrete}
 use native.Mathlib.Omega.{arith}
 use mathlib.Core.Path.{_≡_, refl, sym, ap, subst, _∙_}
@@ -23,6 +24,16 @@ pub sum-least : (n : ℕ) (f g : ℕ → ℕ) → ((i : ℕ) → i < n → f i �
 unfolding sum
 sum-least zero f g e = omega arith
 sum-least (suc n) f g e = omega (arith, sum-least n f g (λ i l. e i (omega arith)), e n (omega arith))
+
+-- the first term, and the others
+pub sum-head : (m : ℕ) (f : ℕ → ℕ) → sum (suc m) f ≡ f 0 + sum m (λ k. f (suc k))
+unfolding sum
+sum-head zero f = omega arith
+sum-head (suc m) f = omega (arith, sum-head m f)
+
+-- of two places, each of z bytes: one in front of the other ends before it begins
+pub before-in-bytes : (z : ℕ) {p q : ℕ} → p < q → p * z + z ≤ q * z
+before-in-bytes z l = rw suc-mul at (mul-le-mul-right z l)
 
 -- ---- in the order of a permutation
 

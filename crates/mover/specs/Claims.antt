@@ -1,5 +1,5 @@
--- What the theorems claim besides demand 2 and the work: refusals of a job, where rows end, which bytes a part has, which jobs agree,
--- and what the layer above may use.
+-- What the theorems claim besides demand 2 and the work: refusals of a job, how far a move reaches, which bytes a part has, which jobs
+-- agree, and what the layer above may use.
 use Prim.Native.Nat.{ℕ, _+_, _-_, _*_, _≤_, _<_}
 use mathlib.Core.Path.{_≡_}
 use mathlib.Core.Bool.{true, false}
@@ -10,7 +10,7 @@ use Rattle.faults.specs.Exactness.{Exact}
 use Rattle.plane.specs.declared.Tensor.{Tensor}
 use Rattle.plane.specs.declared.Config.{Config}
 use Rattle.plane.specs.Arrays.{at, sum}
-use Rattle.plane.specs.Moves.{dstStrides}
+use Rattle.plane.specs.Moves.{dstStrides, need}
 use Rattle.plane.specs.Unseen.{SameTensor, SameConfig, UnseenConfig, UnseenSub}
 use Rattle.mover.specs.declared.Part.{Part}
 use Rattle.mover.specs.declared.Job.{Job}
@@ -18,7 +18,7 @@ use Rattle.mover.specs.Moved.{total, moved, moveMemory}
 use Rattle.mover.specs.Within.{leaves, meets, jobFault, totalOf, verdictOf, bytesOf, advancedBy, advanceOf, advanceMemory}
 use Rattle.mover.specs.SubPart.{subPart}
 use Rattle.mover.specs.Orders.{jobRules}
-use Rattle.mover.specs.Demand2.{IsCoordinate, Accepted}
+use Rattle.mover.specs.Demand2.{IsCoordinate, endAt, Accepted}
 
 -- ---- Refusals of a move inside one memory
 
@@ -44,10 +44,15 @@ abbrev pub AdvanceKept : Type 0
 AdvanceKept =
     (j : Job) (from budget : ℕ) (m : List ℕ) → (advanceOf j from budget m .status ≡ 0 → ⊥) → advanceMemory j from budget m ≡ m
 
--- ---- Rows of the destination
+-- ---- How far an accepted move reaches
 
--- no row runs past its end: from a dimension after the first on, offsets and coordinates lead less far than one step of the dimension
--- before it
+-- each element ends within the need
+abbrev pub NeedBounds : Type 0
+NeedBounds =
+    (t : Tensor) (c : Config) (src dst : List ℕ) → Accepted t c src dst → (x : ℕ → ℕ) → IsCoordinate t c x → endAt t c x ≤ need t c
+
+-- no row runs past its end: what offsets and coordinates come to, in dimension i and those after it, is less than one step of the
+-- dimension before i
 abbrev pub RowsEnd : Type 0
 RowsEnd =
     (t : Tensor) (c : Config) (src dst : List ℕ) → Accepted t c src dst → (x : ℕ → ℕ) → IsCoordinate t c x →

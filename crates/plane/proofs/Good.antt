@@ -38,9 +38,9 @@ module _ (num n : ℕ) (shape stride : ℕ → ℕ) (p : 0 < num) where
 -- ---- 12, in one dimension
 
 module _ (extent stride offset : ℕ → ℕ) where
-  pub too-far : (i : ℕ) → 65535 < offset i → badDstOffsetAt extent stride offset i ≡ true
+  pub too-large : (i : ℕ) → 65535 < offset i → badDstOffsetAt extent stride offset i ≡ true
   unfolding badDstOffsetAt
-  too-far i h = simp (lt-ltb 65535 (offset i) h)
+  too-large i h = simp (lt-ltb 65535 (offset i) h)
 
   -- the first has no other bound
   pub first-free : offset 0 ≤ 65535 → badDstOffsetAt extent stride offset 0 ≡ false
@@ -51,12 +51,12 @@ module _ (extent stride offset : ℕ → ℕ) where
   unfolding badDstOffsetAt
   after-first i p h = simp (lt-ltb 0 i p, le-ltb 65535 (offset i) h)
 
-  pub offset-small : (i : ℕ) → badDstOffsetAt extent stride offset i ≡ false → offset i ≤ 65535
+  pub dst-offset-small : (i : ℕ) → badDstOffsetAt extent stride offset i ≡ false → offset i ≤ 65535
   unfolding badDstOffsetAt
-  offset-small i e = ltb-false 65535 (offset i) (either-clear _ _ e .0)
+  dst-offset-small i e = ltb-false 65535 (offset i) (either-clear _ _ e .0)
 
   row-within : (i : ℕ) → 0 < i → badDstOffsetAt extent stride offset i ≡ false → (offset i + extent i) * stride i ≤ stride (i - 1)
-  row-within i p e = ltb-false _ _ (sym (after-first i p (offset-small i e)) ∙ e)
+  row-within i p e = ltb-false _ _ (sym (after-first i p (dst-offset-small i e)) ∙ e)
 
 -- ---- 1 to 4
 
@@ -134,7 +134,7 @@ module _ (t : Tensor) (c : Config) where
       let p = or-clear _ _ z in
       record {
         strides = strides-good 11 _ _ _ (omega arith) (p .0);
-        offset = λ i h. offset-small _ _ _ i (clear i (p .1) h);
+        offset = λ i h. dst-offset-small _ _ _ i (clear i (p .1) h);
         row = λ i l h. row-within _ _ _ i l (clear i (p .1) h);
       }
     where

@@ -5,8 +5,8 @@ use native.Mathlib.Decide.{ℕ-discrete}
 use native.Mathlib.Omega.{arith}
 use mathlib.Core.Path.{_≡_, refl, sym, ap, ap₂, _∙_}
 use mathlib.Core.List.{List}
-use borrow.Author.Tests.{eq-eqb, ne-eqb, lt-ltb, le-ltb, ltb-false}
-use lib.Dec.{ltb, leb}
+use borrow.Author.Tests.{eq-eqb, ne-eqb, lt-ltb, le-ltb}
+use lib.Dec.{ltb}
 use Rattle.plane.specs.declared.Tensor.{Tensor}
 use Rattle.plane.specs.declared.Config.{Config}
 use Rattle.faults.specs.declared.Fault.{Fault}
@@ -18,12 +18,12 @@ use Rattle.faults.specs.Faults.{none, fault, when, _orElse_, lowest, ifFault}
 use Rattle.plane.specs.Planes.{badShape, shapeAt, srcStrides, span, sourceFault, sourceOf}
 use Rattle.plane.specs.Moves.{upward, taken, count, extent, dstExtents, dstStrides, need, badDstOffsetAt, configFault, dstFault, moveFault, roomFault, refused, accepted, answerOf, judgeOf, roomOf}
 use Rattle.plane.specs.Private.{stridesOf, reach}
-use Rattle.faults.proofs.Bools.{either-clear, in-range}
+use Rattle.faults.proofs.Bools.{in-range}
 use Rattle.plane.proofs.Arrays.{zeros-at, sum-same, firsts-at}
 use Rattle.faults.proofs.Faults.{status, or-none, or-found, or-assoc, passed, stopped, if-fault, if-none, given, spared, when-bad, when-good, lowest-clear}
 use Rattle.plane.proofs.Resolving.{strides-fault, strides-ok}
 use Rattle.plane.specs.Good.{GoodSource, GoodConfig}
-use Rattle.plane.proofs.Good.{positive, offset-small, source-good}
+use Rattle.plane.proofs.Good.{positive, dst-offset-small, source-good}
 
 -- ---- a tensor record by itself
 
@@ -165,7 +165,7 @@ module _ (t : Tensor) (c : Config) {e : List ℕ} {s : Strides} (ee : e ≡ dstE
 
 pub place-offset-small : (t : Tensor) (c : Config) (e l : List ℕ) {f : Fault} → f ≡ lowest 12 (t .rank) (badDstOffsetAt (at e) (at l) (at (c .«dst_offset»))) → f .status ≡ 0 → (i : ℕ) → i < t .rank → at (c .«dst_offset») i ≤ 65535
 place-offset-small t c e l p z i h =
-    offset-small (at e) (at l) (at (c .«dst_offset»)) i
+    dst-offset-small (at e) (at l) (at (c .«dst_offset»)) i
     (lowest-clear 12 (t .rank) (badDstOffsetAt (at e) (at l) (at (c .«dst_offset»))) i (omega arith) (sym (status p) ∙ z) h)
 
 -- ---- the room question and the verdict on a move, from the judgements of the source, `s`, and of the destination, `a`

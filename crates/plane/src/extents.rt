@@ -2,7 +2,7 @@
 use crate::Config;
 use crate::Fault;
 use crate::Tensor;
-use crate::refusals::no_fault;
+use crate::zeros::no_fault;
 ghost use mathlib.Core.Path.{_≡_};
 ghost use Prim.Native.Nat.{ℕ, _+_, _-_, _≤_, _<_};
 ghost use Rattle.plane.specs.Arrays.{at, or0};

@@ -1,20 +1,15 @@
 // The rules that name the lowest dimension at fault, a function each. n is the rank; entries at or past it are not read.
 use crate::Fault;
 use crate::strides::times;
+use crate::zeros::no_fault;
 ghost use mathlib.Core.Path.{_≡_};
 ghost use Prim.Native.Nat.{ℕ, _+_, _≤_, _<_};
 ghost use lib.Dec.{eqb};
 ghost use Rattle.plane.specs.Arrays.{at, some};
-ghost use Rattle.faults.specs.Faults.{none, lowest};
+ghost use Rattle.faults.specs.Faults.{lowest};
 ghost use Rattle.plane.specs.Planes.{badRank, badShape};
 ghost use Rattle.plane.specs.Moves.{badPermAt, badOffset, badSize, badStep, badDstOffsetAt};
 ghost use Rattle.plane.specs.Private.{IsExtent};
-
-pub(crate) fn no_fault() -> Fault
-    ensures { λ r. ⌜ r ≡ none ⌝ }
-{
-    Fault { status: 0, dim: 0 }
-}
 
 // 1: whether a rank is refused.
 pub fn rank_is_bad(n: u8) -> bool

@@ -1,6 +1,6 @@
 // Strides resolved outward, and the bytes that a box of elements reaches over.
 use crate::Fault;
-use crate::refusals::no_fault;
+use crate::zeros::no_fault;
 ghost use mathlib.Core.Path.{_≡_};
 ghost use Prim.Native.Nat.{ℕ, _+_, _-_, _*_, _≤_, _<_};
 ghost use Rattle.plane.specs.Arrays.{at, firsts, sum, or0};

@@ -1,12 +1,19 @@
-// All zero: a tensor record, a configuration, and a refused answer besides its number and dimension.
+// All zero: a tensor record, a configuration, the number and dimension where nothing is refused, and a refused answer besides these.
 use crate::Answer;
 use crate::Config;
 use crate::Fault;
 use crate::Tensor;
 ghost use mathlib.Core.Path.{_≡_};
+ghost use Rattle.faults.specs.Faults.{none};
 ghost use Rattle.plane.specs.Planes.{zeroTensor};
 ghost use Rattle.plane.specs.Settings.{zeroConfig};
 ghost use Rattle.plane.specs.Moves.{refused};
+
+pub(crate) fn no_fault() -> Fault
+    ensures { λ r. ⌜ r ≡ none ⌝ }
+{
+    Fault { status: 0, dim: 0 }
+}
 
 impl Tensor {
     // A tensor record that is all zero.

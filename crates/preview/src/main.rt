@@ -139,7 +139,11 @@ fn plane_of(channels: u32) -> Tensor {
 
 // Sets a plane into the joined one, behind so many channels. The strides are those of the joined plane.
 fn behind(channels: u32) -> Config {
-    let set = ready_made::concatenate(3, [0, 0, channels, 0], [JOINED_ROW as u32, CHANNELS as u32, 1, 0]);
+    let set = ready_made::concatenate(
+        3,
+        [0, 0, channels, 0],
+        [JOINED_ROW as u32, CHANNELS as u32, 1, 0],
+    );
     set.config
 }
 

@@ -10,6 +10,7 @@ use Rattle.plane.specs.declared.Config.{Config}
 use Rattle.plane.specs.Arrays.{at, table, firsts, zeros, sum, product}
 use Rattle.plane.specs.Planes.{shapeAt, strideAt, resolved, srcStrides, sourceAt}
 use Rattle.plane.specs.Moves.{taken, count, extent, dstExtents, dstStrides}
+use Rattle.plane.specs.Settings.{withDstOffset, withDstStride}
 use Rattle.ready_made.specs.ReadyMade.{defaults, cutTo, madeFor}
 use Rattle.plane.proofs.Arrays.{table-at, zeros-at, firsts-at, firsts-same, sum-same, product-same}
 use Rattle.plane.specs.Good.{GoodSource, GoodConfig, GoodDst}
@@ -88,7 +89,7 @@ module _ {u : Tensor} {c : Config} {z : List ℕ} (b : Boxed u c z) where
       }
 
 -- size 0 from offset 0 on is the shape, and any other size is itself
-pub taken-all : (u : Tensor) (c : Config) (i : ℕ) → at (c .size) i ≡ 0 → at (c .offset) i ≡ 0 → taken u c i ≡ shapeAt u i
+taken-all : (u : Tensor) (c : Config) (i : ℕ) → at (c .size) i ≡ 0 → at (c .offset) i ≡ 0 → taken u c i ≡ shapeAt u i
 taken-all u c i e o = rw (eq-eqb (at (c .size) i) 0 e) (omega arith)
 
 pub taken-some : (u : Tensor) (c : Config) (i : ℕ) → 1 ≤ at (c .size) i → taken u c i ≡ at (c .size) i
@@ -111,24 +112,48 @@ pub made : (n : ℕ) (c : Config) → 1 ≤ n → n ≤ 4 → madeFor n c .confi
 unfolding madeFor
 made n c l m = rw (le-ltb n 1 l, le-ltb 4 n m)
 
--- the copy takes the whole shape
+-- all but offsets o and strides s of the destination is default
+abbrev pub placing : ℕ → List ℕ → List ℕ → Config
+placing n o s = cutTo n (withDstStride (withDstOffset defaults o) s)
+
+-- it takes the whole shape
+module _ (u : Tensor) (few : u .rank ≤ 4) (o s : List ℕ) where
+  pub placing-whole : Boxed u (placing (u .rank) o s) (u .shape)
+  unfolding cutTo
+  placing-whole = record {
+    perm = cut-table (u .rank) few (λ d. d);
+    pre = cut-zero (u .rank) few;
+    post = cut-zero (u .rank) few;
+    step = cut-table (u .rank) few (λ d. 1);
+    size = λ i h. taken-all u (placing (u .rank) o s) i (cut-zero (u .rank) few i h) (cut-zero (u .rank) few i h);
+  }
+
+  -- and reads at each coordinate the element of that coordinate
+  pub placing-place : (x : ℕ → ℕ) → sourcePlace u (placing (u .rank) o s) x ≡ sum (u .rank) (λ i. sourceAt u i (x i))
+  unfolding cutTo
+  placing-place x =
+      boxed-source placing-whole x ∙
+      sum-same (u .rank) _ _ (λ i h. ap (λ (o : ℕ). (o + x i) * at (srcStrides u) i) (cut-zero (u .rank) few i h) ∙ simp zero-add)
+
+  -- so it is accepted as far as the source's dimensions go
+  pub placing-config : GoodSource u → GoodConfig u (placing (u .rank) o s)
+  unfolding cutTo
+  placing-config g =
+      boxed-config placing-whole
+      (λ i h. g .shape i h .1)
+      (λ i h. omega (arith, cut-zero (u .rank) few i h, g .shape i h .0))
+      (λ i h. omega (arith, cut-zero (u .rank) few i h))
+
+-- the copy is one of these
 abbrev pub copied : ℕ → Config
 copied n = cutTo n defaults
 
 module _ (u : Tensor) (few : u .rank ≤ 4) where
   pub copy-whole : Boxed u (copied (u .rank)) (u .shape)
-  unfolding cutTo
-  copy-whole = record {
-    perm = cut-table (u .rank) few (λ d. d);
-    pre = cut-zero (u .rank) few;
-    post = cut-zero (u .rank) few;
-    step = cut-table (u .rank) few (λ d. 1);
-    size = λ i h. taken-all u (copied (u .rank)) i (cut-zero (u .rank) few i h) (cut-zero (u .rank) few i h);
-  }
+  copy-whole = placing-whole u few zeros zeros
 
-  -- and reads at each coordinate the element of that coordinate
   pub copy-place : (x : ℕ → ℕ) → sourcePlace u (copied (u .rank)) x ≡ sum (u .rank) (λ i. sourceAt u i (x i))
-  unfolding cutTo
-  copy-place x =
-      boxed-source copy-whole x ∙
-      sum-same (u .rank) _ _ (λ i h. ap (λ (o : ℕ). (o + x i) * at (srcStrides u) i) (cut-zero (u .rank) few i h) ∙ simp zero-add)
+  copy-place = placing-place u few zeros zeros
+
+  pub copy-config : GoodSource u → GoodConfig u (copied (u .rank))
+  copy-config = placing-config u few zeros zeros

@@ -29,7 +29,7 @@ use Rattle.mover.specs.Moved.{extentAt, moveMemory}
 use Rattle.mover.proofs.Keeping.{place-same}
 use Rattle.slices.specs.Claims.{SubIsSlice, SubSliceAccepted}
 use Rattle.slices.proofs.Spread.{staying-product, staying-heads, spread, spread-at, spread-below, spread-sum, spread-back}
-use Rattle.slices.proofs.Boxes.{Boxed, boxed-extent-at, boxed-kept, boxed-stride, boxed-source, boxed-config, boxed-place, taken-some, cut-at, cut-zero, cut-table, made, copied, copy-whole, copy-place}
+use Rattle.slices.proofs.Boxes.{Boxed, boxed-extent-at, boxed-kept, boxed-stride, boxed-source, boxed-config, boxed-place, taken-some, cut-at, cut-zero, cut-table, made, copied, copy-whole, copy-place, copy-config}
 use Rattle.mover.proofs.SubParts.{part-here}
 use Rattle.slices.proofs.SubElements.{place-whole, its-byte, its-tensor}
 use Rattle.mover.proofs.Laws.{judged, judged-good, moved-refused}
@@ -130,13 +130,9 @@ module _ {t : Tensor} {s : SubConfig} {srcLen : ℕ} (g : GoodSub t s srcLen) wh
 
   -- ---- both are accepted but for the need
 
-  copy-config : GoodConfig (subOf t s) (copied (s .rank))
-  unfolding cutTo subOf
-  copy-config =
-      boxed-config copy-boxed
-      (λ i h. sub-source g .shape i h .1)
-      (λ i h. omega (arith, cut-zero (s .rank) few-stay i h, sub-source g .shape i h .0))
-      (λ i h. omega (arith, cut-zero (s .rank) few-stay i h))
+  copy-taken : GoodConfig (subOf t s) (copied (s .rank))
+  unfolding subOf
+  copy-taken = copy-config (subOf t s) few-stay (sub-source g)
 
   copy-good : GoodDst (subOf t s) (copied (s .rank))
   unfolding cutTo subOf
@@ -205,7 +201,7 @@ module _ (t : Tensor) (s : SubConfig) (src dst : List ℕ) (g : GoodSub t s (len
   copy-too h = record {
     source = sub-source g;
     long = rw length-drop (omega (arith, sub-within g, g .long));
-    config = copy-config g;
+    config = copy-taken g;
     destination = copy-good g;
     room = rw (needs g) h;
   }

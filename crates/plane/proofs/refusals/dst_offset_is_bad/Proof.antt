@@ -1,17 +1,16 @@
 -- `plane::refusals::dst_offset_is_bad` meets its contract. Assumes nothing.
-use Prim.Native.Nat.{ℕ, _-_, _<_, _≤_}
-use mathlib.Core.Path.{_≡_, sym, ap, _∙_}
-use native.Mathlib.Omega.{arith}
+use Prim.Native.Nat.{ℕ, _-_}
+use mathlib.Core.Path.{sym, ap, _∙_}
 use borrow.Author.Needs.{needs}
 use lib.Dec.{ltb}
 use Rattle.plane.specs.Arrays.{at}
 use Rattle.plane.specs.Moves.{badDstOffsetAt}
-use Rattle.plane.proofs.Good.{positive, too-far, first-free, after-first}
+use Rattle.plane.proofs.Good.{positive, too-large, first-free, after-first}
 use Rattle.plane.proofs.refusals.dst_offset_is_bad.Statement.{statement}
 use Rattle.plane.proofs.refusals.dst_offset_is_bad.Tie as tie
 
 returns : tie.Need-returns
-returns c = sym (too-far _ _ _ _ (c .if1 .taken))
+returns c = sym (too-large _ _ _ _ (c .if1 .taken))
 
 returns-2 : tie.Need-returns-2
 returns-2 c =
