@@ -94,7 +94,7 @@ pub fn at_bound(work: &mut Work) {
     if work.random.chance(50) {
         work.call(0x03, &(drawn.tensor, drawn.config, drawn.source, drawn.destination));
     } else {
-        // Lines stay short: a move that needs more gives 13 here, and `largest_offset` makes some that do.
+        // Lines stay short: a move that needs more gives 13; `largest_offset` draws two with all the room they need.
         move_drawn(work, &Drawn { destination: drawn.destination.min(2_000), ..drawn });
     }
 }

@@ -85,7 +85,7 @@ fn destination_at_limit(random: &mut Random, drawn: &mut Drawn, i: usize) {
     match random.below(6) {
         0 => config.dst_stride[i] = beside(random, LIMIT) as u32,
         1 => config.dst_stride[i] = beside(random, inner_product) as u32,
-        // Its own stride is no bound of an offset.
+        // The first dimension's own stride is no bound of its offset.
         2 => config.dst_offset[0] = beside(random, answer.stride[0] as u64) as u32,
         3 => {
             config.dst_stride[i] = random.pick(&[65_535, 65_536, 65_537, 1 << 20, LIMIT as u32]);
