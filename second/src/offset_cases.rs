@@ -102,7 +102,7 @@ fn accepted(asked: &Asked) -> Vec<String> {
     met
 }
 
-/// 11, where 12 would have been met too.
+/// 11, where an offset is too large besides; rows are not known where strides are refused.
 fn eleven(asked: &Asked) -> Vec<String> {
     let rank = asked.tensor.rank as usize;
     let both = (0..rank).any(|i| offset_too_large(&asked.config, i));

@@ -1,8 +1,11 @@
-//! Moves in which one number stands just at its limit or beside it, and moves with the largest numbers there are.
+//! Moves in which a number stands just at its limit or beside it, and moves with the largest numbers there are.
 
-use super::joins::{put_offset, Bound};
+use super::offsets::{put_offset, Bound};
 use super::planes::Drawn;
+use super::spoil::{spoil, Lent};
+use super::values::around;
 use crate::moves::room;
+use crate::offset_cases::without_offsets;
 use crate::random::Random;
 use crate::ready_made::copy;
 use crate::tensor::{source_of, Tensor, EXTENT_LIMIT, LIMIT};
@@ -16,7 +19,7 @@ fn beside(random: &mut Random, limit: u64) -> u64 {
 const ENOUGH: u64 = 1 << 56;
 
 /// A plain copy of a small plane, turned or not.
-pub fn small_copy(random: &mut Random, rank: usize) -> Drawn {
+fn small_copy(random: &mut Random, rank: usize) -> Drawn {
     let mut tensor = Tensor { rank: rank as u8, element_size: random.pick(&[1, 2, 4]), ..Tensor::default() };
     for d in 0..rank {
         tensor.shape[d] = random.between(1, 3) as u32;
@@ -85,7 +88,7 @@ fn destination_at_limit(random: &mut Random, drawn: &mut Drawn, i: usize) {
     match random.below(6) {
         0 => config.dst_stride[i] = beside(random, LIMIT) as u32,
         1 => config.dst_stride[i] = beside(random, inner_product) as u32,
-        // Its own stride is no bound of an offset.
+        // The first dimension's own stride is no bound of its offset.
         2 => config.dst_offset[0] = beside(random, answer.stride[0] as u64) as u32,
         3 => {
             config.dst_stride[i] = random.pick(&[65_535, 65_536, 65_537, 1 << 20, LIMIT as u32]);
@@ -96,6 +99,42 @@ fn destination_at_limit(random: &mut Random, drawn: &mut Drawn, i: usize) {
             put_offset(random, drawn, i, bound);
         }
     }
+}
+
+/// A small plane with an offset at a bound, or with two.
+pub fn offset_at_bound(random: &mut Random) -> Drawn {
+    let two = random.chance(30);
+    let i = if two { 2 + random.index(2) } else { random.pick(&[0, 1, 2, 3, 3]) };
+    let rank = random.between(i as u64 + 1, 4) as usize;
+    let mut drawn = small_copy(random, rank);
+    // A row can end between two elements where the stride is more than 1.
+    drawn.config.dst_stride[rank - 1] = random.pick(&[0, 1, 2, 3]);
+    if two {
+        let (inner, outer) = random.pick(&[(Bound::Short, Bound::TooLarge), (Bound::TooLarge, Bound::Short)]);
+        put_offset(random, &mut drawn, i, inner);
+        let farther_out = 1 + random.index(i - 1);
+        put_offset(random, &mut drawn, farther_out, outer);
+    } else {
+        let bounds =
+            [Bound::Limit, Bound::TooLarge, Bound::TooLarge, Bound::Full, Bound::Full, Bound::Short, Bound::Wraps];
+        let bound = random.pick(&bounds);
+        put_offset(random, &mut drawn, i, bound);
+    }
+    lend_around_need(random, &mut drawn);
+    if random.chance(15) {
+        let d = random.index(rank);
+        spoil(random, &mut drawn, 11, d, Lent::NumbersOnly);
+    }
+    drawn
+}
+
+/// A source that is long enough, and a destination around the need; where the move is refused, around the need without
+/// offsets.
+fn lend_around_need(random: &mut Random, drawn: &mut Drawn) {
+    let answer = room(&drawn.tensor, &drawn.config).answer;
+    let plain = without_offsets(&drawn.tensor, &drawn.config);
+    drawn.source = source_of(&drawn.tensor).span;
+    drawn.destination = around(random, if answer.status == 0 { answer.need } else { plain.need });
 }
 
 /// The largest span and need there are, or nearly: every stride at its limit, which only unit dimensions without

@@ -8,6 +8,7 @@ mod joins;
 mod limits;
 mod moving;
 mod numbers;
+mod offsets;
 mod planes;
 mod records;
 mod shows;
@@ -68,7 +69,7 @@ const KINDS: &[Kind] = &[
     (16, jobs::prepare),
     (64, moving::move_plane),
     (4, moving::move_sub_tensor),
-    (24, joins::at_bound),
+    (24, moving::at_offset_bound),
     (6, joins::join),
     (22, records::read),
     (16, records::write),
@@ -116,7 +117,7 @@ fn once(work: &mut Work) {
     frames::wrong_lengths(work);
     frames::longest(work);
     moving::above_extent_limit(work);
-    joins::largest_offset(work);
+    moving::largest_offset(work);
     jobs::above_extent_limit(work);
     histories::beyond_steps(work);
 }

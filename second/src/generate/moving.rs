@@ -1,5 +1,6 @@
 //! Whole moves over lent bytes.
 
+use super::limits::offset_at_bound;
 use super::numbers::draw_sub_config;
 use super::planes::{good, Drawn, Scale};
 use super::spoil::{vary, Lent};
@@ -7,7 +8,7 @@ use super::Work;
 use crate::helpers::{sub_part, sub_tensor};
 use crate::moves::Config;
 use crate::random::Random;
-use crate::ready_made::copy;
+use crate::ready_made::{concatenate, copy};
 use crate::tensor::Tensor;
 use crate::wire::{Counted, Memory, Rest, MEMORY_LIMIT};
 
@@ -75,6 +76,26 @@ fn draw_extent(random: &mut Random, more: u32) -> Drawn {
     drawn.source = tensor.shape[d] as u64;
     drawn.destination = random.pick(&[65_534, 65_535, 65_535, 65_536, 65_536, 100]);
     drawn
+}
+
+/// A small plane with an offset at a bound, judged or moved.
+pub fn at_offset_bound(work: &mut Work) {
+    let drawn = offset_at_bound(&mut work.random);
+    if work.random.chance(50) {
+        work.call(0x03, &(drawn.tensor, drawn.config, drawn.source, drawn.destination));
+    } else {
+        // Lines stay short: a move that needs more gives 13; `largest_offset` draws two with all the room they need.
+        move_drawn(work, &Drawn { destination: drawn.destination.min(2_000), ..drawn });
+    }
+}
+
+/// The largest offset of one byte: in the first dimension, and in the second in a row that it fills.
+pub fn largest_offset(work: &mut Work) {
+    for (rank, stride, offset) in [(1, [0; 4], [65_535, 0, 0, 0]), (2, [65_536, 1, 0, 0], [0, 65_535, 0, 0])] {
+        let tensor = Tensor { rank, element_size: 1, shape: [1; 4], stride: [0; 4] };
+        let config = concatenate(rank, offset, stride).config;
+        move_drawn(work, &Drawn::of(tensor, config));
+    }
 }
 
 /// "A move reads a sub-tensor from a part that starts inside the plane."

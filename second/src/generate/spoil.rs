@@ -1,6 +1,6 @@
 //! Puts faults into a move that would be accepted: every number of refusal, alone and in pairs, at any dimension.
 
-use super::joins::{put_offset, Bound};
+use super::offsets::{put_offset, Bound};
 use super::planes::Drawn;
 use super::values::{any_u32, any_u64, any_u8, around, WRONG_RANKS};
 use crate::offset_cases::without_offsets;

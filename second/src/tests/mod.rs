@@ -1,4 +1,4 @@
-//! The examples of the paper and how it is read, with the values typed in from the paper.
+//! The examples of the paper and how it is read, with values typed in from the paper or worked out by hand.
 
 mod coverage;
 mod errors;

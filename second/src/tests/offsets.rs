@@ -113,7 +113,7 @@ fn the_product_does_not_wrap() {
     assert_eq!(judged(&[1, 1], [100_000, 65_536, 0, 0], [0, 65_535, 0, 0]), refused(12, 1));
     // (3 + 1) x 2^30 is 2^32 too.
     assert_eq!(judged(&[1, 1], [2_147_483_647, 1 << 30, 0, 0], [0, 3, 0, 0]), refused(12, 1));
-    // The largest offset, extent and stride that can meet.
+    // The largest stride, with the largest offset and with the smallest that runs past the row.
     assert_eq!(judged(&[1, 1], [2_147_483_647, 2_147_483_647, 0, 0], [0, u32::MAX, 0, 0]), refused(12, 1));
     assert_eq!(judged(&[1, 1], [2_147_483_647, 2_147_483_647, 0, 0], [0, 1, 0, 0]), refused(12, 1));
 }
