@@ -1,7 +1,7 @@
 -- A plane set into a larger one: the move is accepted, the plane's elements lie where the larger plane's lie, and nothing else is changed.
 -- Assumes nothing.
 use Prim.Native.Nat.{ℕ, suc, _+_, _-_, _*_, _≤_, _<_}
-use native.Mathlib.Nat.{zero-add, mul-comm, le-trans, mul-le-mul, mul-le-mul-right}
+use native.Mathlib.Nat.{mul-comm, le-trans, mul-le-mul, mul-le-mul-right}
 use native.Mathlib.Omega.{arith}
 use mathlib.Core.Path.{_≡_, sym, ap, ap₂, _∙_}
 use mathlib.Core.List.{List}
@@ -15,7 +15,7 @@ use Rattle.plane.specs.Settings.{withDstOffset, withDstStride}
 use Rattle.ready_made.specs.ReadyMade.{defaults, cutTo, madeFor}
 use Rattle.plane.proofs.Arrays.{firsts-at, sum-same}
 use Rattle.plane.proofs.Falling.{written-stays, written-good}
-use Rattle.plane.specs.Good.{GoodStrides, GoodSource, GoodConfig, GoodDst}
+use Rattle.plane.specs.Good.{GoodStrides, GoodSource, GoodDst}
 use Rattle.plane.proofs.Good.{source-good, move-clear}
 use Rattle.mover.specs.Element.{place}
 use Rattle.mover.specs.Moved.{moveMemory}
