@@ -19,8 +19,8 @@ use Rattle.plane.proofs.Good.{source-good, source-clear}
 use Rattle.mover.specs.Demand2.{Accepted}
 use Rattle.slices.specs.Claims.{elementByte}
 use Rattle.slices.proofs.Compact.{resolved-inner}
-use Rattle.joins.specs.Claims.{IsIn, Misses, setConfig, Settable, IsSet, joinedOf, behind, Joinable, IsJoined, afterFirst, afterBoth, JoinedPlane, JoinedCoordinates, CompactFalls, JoinedTaken}
-use Rattle.joins.proofs.Elements.{resolved-at, byte-same, element-within, elements-apart}
+use Rattle.joins.specs.Claims.{IsIn, setConfig, Settable, IsSet, joinedOf, behind, Joinable, IsJoined, afterFirst, afterBoth, JoinedPlane, JoinedCoordinates, CompactFalls, JoinedTaken}
+use Rattle.joins.proofs.Elements.{resolved-at, byte-same, element-within}
 use Rattle.joins.proofs.Setting.{set-into, set-inside}
 
 module _ {a b : Tensor} {d : ℕ} {stride srcA srcB dst : List ℕ} (p : Joinable a b d stride srcA srcB dst) where
@@ -104,17 +104,9 @@ module _ {a b : Tensor} {d : ℕ} {stride srcA srcB dst : List ℕ} (p : Joinabl
   -- ---- the joined plane's elements
 
   module _ (y : ℕ → ℕ) (v : IsIn w y) where
-    -- as far as a reaches along d: a's coordinate, and no element of b meets it
-    module _ (l : y d < shapeAt a d) where
-      in-first : IsIn a y
-      in-first = each (λ i. y i < shapeAt a i) l (λ i h n. omega (arith, v i h, shape-aside i h n))
-
-      spared : (k : ℕ) → k < a .«element_size» → (x : ℕ → ℕ) → IsIn b x → Misses w (λ i. at (behind a d) i + x i) (elementByte w y + k)
-      spared k h x u =
-          ⊎-elim
-          (λ q. inl (omega arith))
-          (λ q. inr (omega arith))
-          (elements-apart w few (p .strides) y (λ i. at (behind a d) i + x i) v (set-inside second-settable x u) d (p .along) (λ e. omega (arith, behind-along)))
+    -- as far as a reaches along d: a's coordinate
+    in-first : y d < shapeAt a d → IsIn a y
+    in-first l = each (λ i. y i < shapeAt a i) l (λ i h n. omega (arith, v i h, shape-aside i h n))
 
     -- past it: b's coordinate
     module _ (l : shapeAt a d ≤ y d) where
@@ -142,7 +134,7 @@ module _ {a b : Tensor} {d : ℕ} {stride srcA srcB dst : List ℕ} (p : Joinabl
     long = long;
     inside = λ y v. rw long (le-trans (element-within w y v) (p .room));
     of-first = λ y v l k h.
-        second .1 .rest (elementByte w y + k) (spared y v l k h) ∙
+        second .1 .others y v d (p .along) (inl (rw behind-along l)) k h ∙
         rw (byte-same w (λ i. at zeros i + y i) y (λ i q. omega (arith, zeros-at i))) at (first .1 .placed y (in-first y v l) k h);
     of-second = λ y v l k h.
         rw (byte-same w (λ i. at (behind a d) i + back y v l i) y (back-there y v l)) at

@@ -4,8 +4,9 @@ use Prim.Native.Nat.{ℕ, suc, _+_, _-_, _*_, _≤_, _<_}
 use native.Mathlib.Nat.{mul-comm, le-trans, mul-le-mul, mul-le-mul-right}
 use native.Mathlib.Omega.{arith}
 use mathlib.Core.Path.{_≡_, sym, ap, ap₂, _∙_}
+use mathlib.Core.Logic.{_⊎_, ⊎-elim, inl, inr}
 use mathlib.Core.List.{List}
-use lib.ListN.{length}
+use lib.ListN.{length, getD}
 use Rattle.plane.specs.declared.Tensor.{Tensor}
 use Rattle.plane.specs.declared.Config.{Config}
 use Rattle.plane.specs.Arrays.{at, sum}
@@ -25,8 +26,8 @@ use Rattle.mover.specs.Demand2.{IsCoordinate, byteAt, sourceByte, Meant, Accept
 use Rattle.mover.proofs.Demand2.{demand-2}
 use Rattle.slices.specs.Claims.{elementByte}
 use Rattle.slices.proofs.Boxes.{Boxed, boxed-extent-at, boxed-kept, cut-at, made, placing, placing-whole, placing-place, placing-config}
-use Rattle.joins.specs.Claims.{IsIn, setConfig, Settable, IsSet, SetInto}
-use Rattle.joins.proofs.Elements.{stride-within, stride-falls}
+use Rattle.joins.specs.Claims.{IsIn, Misses, setConfig, Settable, IsSet, SetInto}
+use Rattle.joins.proofs.Elements.{stride-within, stride-falls, elements-apart}
 
 module _ {w t : Tensor} {o src dst : List ℕ} (p : Settable w t o src dst) where
   abbrev c : Config
@@ -154,6 +155,23 @@ module _ {w t : Tensor} {o src dst : List ℕ} (p : Settable w t o src dst) wher
   meant : Meant t c src dst (moveMemory t c src dst)
   meant = demand-2 t c src dst accepted
 
+  -- t's coordinates are w's, from o on
+  pub set-inside : (x : ℕ → ℕ) → IsIn t x → IsIn w (λ i. at o i + x i)
+  set-inside x a i h = omega (arith, p .fits i h, a i (rw (p .rank) h))
+
+  -- w's element at y, before t or past it in dimension i, has no byte in common with t's
+  beside : (y : ℕ → ℕ) → IsIn w y → (i : ℕ) → i < w .rank → ((y i < at o i) ⊎ (at o i + shapeAt t i ≤ y i)) → (k : ℕ) → k < w .«element_size» →
+      (x : ℕ → ℕ) → IsIn t x → Misses w (λ j. at o j + x j) (elementByte w y + k)
+  beside y v i h q k l x a =
+      ⊎-elim
+      (λ m. inl (omega arith))
+      (λ m. inr (omega arith))
+      (elements-apart w wide-few (p .strides) y (λ j. at o j + x j) v (set-inside x a) i h
+      (λ e. ⊎-elim (λ m. omega arith) (λ m. omega (arith, a i (rw (p .rank) h))) q))
+
+  rest : (k : ℕ) → ((x : ℕ → ℕ) → IsIn t x → Misses w (λ i. at o i + x i) k) → getD (moveMemory t c src dst) k 0 ≡ getD dst k 0
+  rest k a = meant .rest k (λ x v. rw (byte-here x, p .element) (a x (outside x v)))
+
   set : IsSet w t o src dst (moveMemory t c src dst)
   set = record {
     long = meant .long;
@@ -161,12 +179,9 @@ module _ {w t : Tensor} {o src dst : List ℕ} (p : Settable w t o src dst) wher
     placed = λ x a k h.
         let v = inside x a in
         rw (← byte-here x, ← source-here x) (meant .placed x v .source (boxed-kept boxed few x v) k (rw (p .element) h) .1);
-    rest = λ k a. meant .rest k (λ x v. rw (byte-here x, p .element) (a x (outside x v)));
+    others = λ y v i h q k l. rest (elementByte w y + k) (beside y v i h q k l);
+    rest = rest;
   }
-
-  -- t's coordinates are w's, from o on
-  pub set-inside : (x : ℕ → ℕ) → IsIn t x → IsIn w (λ i. at o i + x i)
-  set-inside x a i h = omega (arith, p .fits i h, a i (rw (p .rank) h))
 
 -- ---- the theorem
 

@@ -28,11 +28,11 @@ IsIn t y = (i : ℕ) → i < t .rank → y i < shapeAt t i
 abbrev pub Misses : Tensor → (ℕ → ℕ) → ℕ → Type 0
 Misses t y k = (k < elementByte t y) ⊎ (elementByte t y + t .«element_size» ≤ k)
 
--- its strides are such that 4 takes them
+-- 4 does not refuse its strides
 abbrev pub Falls : Tensor → Type 0
 Falls t = GoodStrides (t .rank) (shapeAt t) (strideAt t)
 
--- 1 to 5 take it from the source src
+-- 1 to 5 do not refuse it with the source src
 abbrev pub TakenFrom : Tensor → List ℕ → Type 0
 TakenFrom t src = (sourceFault t .status ≡ 0) × (span t ≤ length src)
 
@@ -71,7 +71,10 @@ pub record IsSet (w t : Tensor) (o src dst e : List ℕ) : Type 0 where
   pub inside : (x : ℕ → ℕ) → IsIn t x → elementByte w (λ i. at o i + x i) + w .«element_size» ≤ length e
   pub placed : (x : ℕ → ℕ) → IsIn t x → (k : ℕ) → k < w .«element_size» →
       getD e (elementByte w (λ i. at o i + x i) + k) 0 ≡ getD src (elementByte t x + k) 0
-  -- a byte of none of these is as it was
+  -- w's other elements are as they were: those of coordinates before t or past it in some dimension
+  pub others : (y : ℕ → ℕ) → IsIn w y → (i : ℕ) → i < w .rank → ((y i < at o i) ⊎ (at o i + shapeAt t i ≤ y i)) →
+      (k : ℕ) → k < w .«element_size» → getD e (elementByte w y + k) 0 ≡ getD dst (elementByte w y + k) 0
+  -- and so is every byte of none of t's
   pub rest : (k : ℕ) → ((x : ℕ → ℕ) → IsIn t x → Misses w (λ i. at o i + x i) k) → getD e k 0 ≡ getD dst k 0
 
 -- the move is accepted, and leaves that
@@ -97,14 +100,14 @@ behind a d = table (λ i. cond (eqb i d) (shapeAt a i) 0)
 
 -- what is asked for
 pub record Joinable (a b : Tensor) (d : ℕ) (stride srcA srcB dst : List ℕ) : Type 0 where
-  -- rank, element size and, but for d, the shapes agree
+  -- d is a dimension of a; rank, element size and, but for d, the shapes agree
   pub along : d < a .rank
   pub rank : b .rank ≡ a .rank
   pub element : b .«element_size» ≡ a .«element_size»
   pub shape : (i : ℕ) → i < a .rank → (i ≡ d → ⊥) → shapeAt b i ≡ shapeAt a i
   pub first : TakenFrom a srcA
   pub second : TakenFrom b srcB
-  -- compact strides are such if they are within the limit (`CompactFalls`)
+  -- compact strides are so if they are within the limit (`CompactFalls`)
   pub strides : Falls (joinedOf a b d stride)
   -- the room holds the joined plane
   pub room : span (joinedOf a b d stride) ≤ length dst
@@ -114,7 +117,7 @@ pub record IsJoined (w a b : Tensor) (d : ℕ) (srcA srcB dst e : List ℕ) : Ty
   pub long : length e ≡ length dst
   -- w's elements lie in it
   pub inside : (y : ℕ → ℕ) → IsIn w y → elementByte w y + w .«element_size» ≤ length e
-  -- w's element at y is a's at y, as far as a reaches along d: none of a is overwritten
+  -- w's element at y is a's at y (which lies in srcA: `ElementWithin`), as far as a reaches along d: none of a is overwritten
   pub of-first : (y : ℕ → ℕ) → IsIn w y → y d < shapeAt a d → (k : ℕ) → k < w .«element_size» →
       getD e (elementByte w y + k) 0 ≡ getD srcA (elementByte a y + k) 0
   -- and past it b's
@@ -151,7 +154,7 @@ CompactFalls =
     (t : Tensor) → t .rank ≤ 4 → ((i : ℕ) → i < t .rank → strideAt t i ≡ 0) →
     ((i : ℕ) → i < t .rank → at (srcStrides t) i ≤ 2147483647) → Falls t
 
--- a joined plane of a shape within the limit can be moved on as a source: 1 to 5 take it from what the two moves left
+-- a joined plane of a shape within the limit can be moved on as a source: 1 to 5 do not refuse it with what the two moves left
 abbrev pub JoinedTaken : Type 0
 JoinedTaken =
     (a b : Tensor) (d : ℕ) (stride srcA srcB dst : List ℕ) → Joinable a b d stride srcA srcB dst → shapeAt a d + shapeAt b d ≤ 65535 →

@@ -155,7 +155,9 @@ fn join(room: &mut [u8]) {
     let second = mover::move_plane(plane_of(1), behind(COLOURS as u32), &alpha, room);
     print_status(b"colour", first.status);
     print_status(b"alpha", second.status);
-    print_plane(room, JOINED_ROW as u32);
+    if (first.status == 0) & (second.status == 0) {
+        print_plane(room, JOINED_ROW as u32);
+    }
 }
 
 // A transfer within the memory: it reads the picture, and writes length bytes from byte start on.
