@@ -6,28 +6,13 @@ use mathlib.Core.Path.{_≡_, ap}
 use mathlib.Core.Logic.{⊎-elim, inl, inr}
 use Rattle.plane.specs.declared.Tensor.{Tensor}
 use Rattle.plane.specs.Arrays.{at, sum}
-use Rattle.plane.specs.Planes.{shapeAt, strideAt, resolved, srcStrides, sourceAt, span}
-use Rattle.plane.proofs.Arrays.{firsts-at, sum-same}
-use Rattle.plane.proofs.Falling.{stride-positive, strides-fall}
+use Rattle.plane.specs.Planes.{shapeAt, strideAt, srcStrides, sourceAt, span}
+use Rattle.plane.proofs.Arrays.{sum-same}
+use Rattle.plane.proofs.Falling.{strides-within, strides-hold}
 use Rattle.mover.proofs.Sums.{sum-least, before-in-bytes}
 use Rattle.mover.proofs.Numbers.{spots-differ}
 use Rattle.slices.specs.Claims.{elementByte}
-use Rattle.joins.specs.Claims.{Falls, ElementWithin, ElementsApart}
-
--- ---- the strides of a plane
-
-module _ (t : Tensor) (few : t .rank ≤ 4) where
-  pub resolved-at : (i : ℕ) → i < t .rank → at (srcStrides t) i ≡ resolved (t .rank) (shapeAt t) (strideAt t) i
-  resolved-at i h = firsts-at 0 (t .rank) (resolved (t .rank) (shapeAt t) (strideAt t)) i few h
-
-  module _ (some : (i : ℕ) → i < t .rank → 1 ≤ shapeAt t i) (f : Falls t) where
-    pub stride-within : (i : ℕ) → i < t .rank → (1 ≤ at (srcStrides t) i) × (at (srcStrides t) i ≤ 2147483647)
-    stride-within i h =
-        rw (resolved-at i h) (stride-positive (t .rank) (shapeAt t) (strideAt t) some f i h, f .most i h)
-
-    pub stride-falls : (d e : ℕ) → d < e → e < t .rank → at (srcStrides t) e * shapeAt t e ≤ at (srcStrides t) d
-    stride-falls d e l h =
-        rw (resolved-at e h, resolved-at d (omega arith)) (strides-fall (t .rank) (shapeAt t) (strideAt t) some f d e l h)
+use Rattle.joins.specs.Claims.{ElementWithin, ElementsApart}
 
 -- an element's byte looks at the coordinates below the rank alone
 pub byte-same : (t : Tensor) (x y : ℕ → ℕ) → ((i : ℕ) → i < t .rank → x i ≡ y i) → elementByte t x ≡ elementByte t y
@@ -46,9 +31,9 @@ element-within t y w =
 pub elements-apart : ElementsApart
 elements-apart t few f x y a b i h d =
     let some : (j : ℕ) → j < t .rank → 1 ≤ shapeAt t j = λ j k. omega (arith, a j k) in
-    let within = stride-within t few some f in
-    let falls = stride-falls t few some f in
+    let within = strides-within (t .rank) (shapeAt t) (strideAt t) few some f in
+    let holds = strides-hold (t .rank) (shapeAt t) (strideAt t) few some f in
     ⊎-elim
     (λ l. inl (before-in-bytes (t .«element_size») l))
     (λ l. inr (before-in-bytes (t .«element_size») l))
-    (spots-differ (t .rank) (shapeAt t) (at (srcStrides t)) (λ j k. within j k .0) (λ j k. falls j (suc j) (omega arith) k) x y a b i h d)
+    (spots-differ (t .rank) (shapeAt t) (at (srcStrides t)) (λ j k. within j k .0) (λ j k. holds j (suc j) (omega arith) k) x y a b i h d)

@@ -14,13 +14,13 @@ use Rattle.plane.specs.declared.Tensor.{Tensor}
 use Rattle.plane.specs.Arrays.{at, zeros}
 use Rattle.plane.specs.Planes.{shapeAt, strideAt}
 use Rattle.plane.proofs.Arrays.{table-at, zeros-at}
+use Rattle.plane.proofs.Falling.{strides-at}
 use Rattle.plane.specs.Good.{FromTo, GoodSource}
 use Rattle.plane.proofs.Good.{source-good, source-clear}
 use Rattle.mover.specs.Demand2.{Accepted}
-use Rattle.slices.specs.Claims.{elementByte}
 use Rattle.slices.proofs.Compact.{resolved-inner}
 use Rattle.joins.specs.Claims.{IsIn, setConfig, Settable, IsSet, joinedOf, behind, Joinable, IsJoined, afterFirst, afterBoth, JoinedPlane, JoinedCoordinates, CompactFalls, JoinedTaken}
-use Rattle.joins.proofs.Elements.{resolved-at, byte-same, element-within}
+use Rattle.joins.proofs.Elements.{byte-same, element-within}
 use Rattle.joins.proofs.Setting.{set-into, set-inside}
 
 module _ {a b : Tensor} {d : ℕ} {stride srcA srcB dst : List ℕ} (p : Joinable a b d stride srcA srcB dst) where
@@ -185,7 +185,7 @@ joined-coordinates a b d stride srcA srcB dst p y = (split p y, ⊎-elim (from-f
 pub compact-falls : CompactFalls
 compact-falls t few none most = record {
   least = λ i h. rw (resolved-inner (t .rank) (shapeAt t) (strideAt t) none i h) (omega arith);
-  most = λ i h. rw (← resolved-at t few i h) (most i h);
+  most = λ i h. rw (← strides-at (t .rank) (shapeAt t) (strideAt t) few i h) (most i h);
 }
 
 pub joined-taken : JoinedTaken

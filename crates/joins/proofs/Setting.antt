@@ -10,12 +10,12 @@ use lib.ListN.{length, getD}
 use Rattle.plane.specs.declared.Tensor.{Tensor}
 use Rattle.plane.specs.declared.Config.{Config}
 use Rattle.plane.specs.Arrays.{at, sum}
-use Rattle.plane.specs.Planes.{shapeAt, resolved, srcStrides, sourceAt, span}
+use Rattle.plane.specs.Planes.{shapeAt, strideAt, resolved, srcStrides, sourceAt, span}
 use Rattle.plane.specs.Moves.{dstExtents, dstStrides, need}
 use Rattle.plane.specs.Settings.{withDstOffset, withDstStride}
 use Rattle.ready_made.specs.ReadyMade.{defaults, cutTo, madeFor}
 use Rattle.plane.proofs.Arrays.{firsts-at, sum-same}
-use Rattle.plane.proofs.Falling.{written-stays, written-good}
+use Rattle.plane.proofs.Falling.{strides-within, strides-hold, written-stays, written-good}
 use Rattle.plane.specs.Good.{GoodStrides, GoodSource, GoodDst}
 use Rattle.plane.proofs.Good.{source-good, move-clear}
 use Rattle.mover.specs.Element.{place}
@@ -27,7 +27,7 @@ use Rattle.mover.proofs.Demand2.{demand-2}
 use Rattle.slices.specs.Claims.{elementByte}
 use Rattle.slices.proofs.Boxes.{Boxed, boxed-extent-at, boxed-kept, cut-at, made, placing, placing-whole, placing-place, placing-config}
 use Rattle.joins.specs.Claims.{IsIn, Misses, setConfig, Settable, IsSet, SetInto}
-use Rattle.joins.proofs.Elements.{stride-within, stride-falls, elements-apart}
+use Rattle.joins.proofs.Elements.{elements-apart}
 
 module _ {w t : Tensor} {o src dst : List ℕ} (p : Settable w t o src dst) where
   abbrev c : Config
@@ -81,13 +81,13 @@ module _ {w t : Tensor} {o src dst : List ℕ} (p : Settable w t o src dst) wher
   wide-some i h = omega (arith, good .shape i (rw (p .rank) h) .0, p .fits i h)
 
   within : (i : ℕ) → i < t .rank → (1 ≤ at (srcStrides w) i) × (at (srcStrides w) i ≤ 2147483647)
-  within i h = stride-within w wide-few wide-some (p .strides) i (there i h)
+  within i h = strides-within (w .rank) (shapeAt w) (strideAt w) wide-few wide-some (p .strides) i (there i h)
 
   -- what lies in w's dimension e fits the stride of any further out
   falls : (k d e : ℕ) → d < e → e < t .rank → k ≤ shapeAt w e → k * at (srcStrides w) e ≤ at (srcStrides w) d
   falls k d e l h m =
       le-trans (mul-le-mul-right (at (srcStrides w) e) m)
-      (rw mul-comm (stride-falls w wide-few wide-some (p .strides) d e l (there e h)))
+      (rw mul-comm (strides-hold (w .rank) (shapeAt w) (strideAt w) wide-few wide-some (p .strides) d e l (there e h)))
 
   -- none is 0, so each stays as it is written
   stride-at : (i : ℕ) → i < t .rank → at (dstStrides t c) i ≡ at (srcStrides w) i

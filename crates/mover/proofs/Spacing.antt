@@ -7,11 +7,9 @@ use mathlib.Core.Logic.{_⊎_, ⊎-elim, inl, inr}
 use Rattle.plane.specs.declared.Tensor.{Tensor}
 use Rattle.plane.specs.declared.Config.{Config}
 use Rattle.plane.specs.Arrays.{at, sum}
-use Rattle.plane.specs.Planes.{resolved}
-use Rattle.plane.specs.Moves.{dstExtents, dstStrides}
-use Rattle.plane.proofs.Arrays.{firsts-at}
+use Rattle.plane.specs.Moves.{dstStrides}
 use Rattle.plane.specs.Good.{GoodSource, GoodConfig, GoodDst}
-use Rattle.plane.proofs.Falling.{stride-positive, strides-fall}
+use Rattle.plane.proofs.Falling.{strides-within, strides-hold}
 use Rattle.plane.proofs.Rules.{dst-extent}
 use Rattle.mover.specs.Element.{place}
 use Rattle.mover.specs.Moved.{extentAt, total, perStep, coordOf}
@@ -40,17 +38,13 @@ module _ {t : Tensor} {c : Config} (g : GoodSource t) (k : GoodConfig t c) (p : 
   unfolding coordOf
   coord-below q i h = mod-lt _ (extent-some i h)
 
-  stride-at : (i : ℕ) → i < t .rank → at (dstStrides t c) i ≡ resolved (t .rank) (at (dstExtents t c)) (at (c .«dst_stride»)) i
-  stride-at i h = firsts-at 0 (t .rank) (resolved (t .rank) (at (dstExtents t c)) (at (c .«dst_stride»))) i (g .rank .1) h
-
   pub stride-some : (i : ℕ) → i < t .rank → 1 ≤ at (dstStrides t c) i
-  stride-some i h = rw (stride-at i h) (stride-positive (t .rank) (at (dstExtents t c)) (at (c .«dst_stride»)) extent-some (p .strides) i h)
+  stride-some i h = strides-within (t .rank) (extentAt t c) (at (c .«dst_stride»)) (g .rank .1) extent-some (p .strides) i h .0
 
   -- each destination stride is at least the next one's times its extent
-  pub stride-falls : (i : ℕ) → suc i < t .rank → at (dstStrides t c) (suc i) * extentAt t c (suc i) ≤ at (dstStrides t c) i
+  stride-falls : (i : ℕ) → suc i < t .rank → at (dstStrides t c) (suc i) * extentAt t c (suc i) ≤ at (dstStrides t c) i
   stride-falls i h =
-      rw (stride-at (suc i) h, stride-at i (omega arith))
-      (strides-fall (t .rank) (at (dstExtents t c)) (at (c .«dst_stride»)) extent-some (p .strides) i (suc i) (omega arith) h)
+      strides-hold (t .rank) (extentAt t c) (at (c .«dst_stride»)) (g .rank .1) extent-some (p .strides) i (suc i) (omega arith) h
 
   -- the offsets' part of a place, and the coordinates'
   place-parts : (x : ℕ → ℕ) → place t c x ≡ sum (t .rank) (λ i. at (c .«dst_offset») i * at (dstStrides t c) i) + sum (t .rank) (λ i. x i * at (dstStrides t c) i)

@@ -15,10 +15,10 @@ use Rattle.faults.specs.declared.Fault.{Fault}
 use Rattle.plane.specs.declared.Answer.{Answer}
 use Rattle.plane.specs.declared.Count.{Count}
 use Rattle.plane.specs.declared.SubTensor.{SubTensor}
-use Rattle.plane.specs.Arrays.{at, zeros}
+use Rattle.plane.specs.Arrays.{zeros}
 use Rattle.faults.specs.Faults.{fault, when, _orElse_}
 use Rattle.plane.specs.Planes.{shapeAt, strideAt, badStrideAt, srcStrides, span, sourceFault, sourceOf}
-use Rattle.plane.specs.Moves.{extent, dstExtents, dstStrides, need, badExtent, badDstOffsetAt, configFault, dstFault, moveFault, roomFault, refused, answerOf, judgeOf, roomOf}
+use Rattle.plane.specs.Moves.{extent, need, badExtent, badDstOffsetOf, configFault, dstFault, moveFault, roomFault, refused, answerOf, judgeOf, roomOf}
 use Rattle.plane.specs.Helpers.{elements, countFault, noCount, countAnswer, countOf, rankFault, subFault, subOf, subByte, noSub, subAnswer, subTensorOf}
 use Rattle.faults.specs.Exactness.{whole, fromFirst, fromLast}
 use Rattle.plane.specs.Orders.{sourceRules, configRules, dstRules, moveRules, roomRules, countRules, subRules}
@@ -43,7 +43,7 @@ config-chain t c =
 place-chain : (t : Tensor) (c : Config) → dstFault t c ≡ chain (dstRules t c)
 unfolding dstFault chain
 place-chain t c =
-    or-path refl (sym (or-last (fromFirst 12 (t .rank) (badDstOffsetAt (at (dstExtents t c)) (at (dstStrides t c)) (at (c .«dst_offset»)))) (omega arith)))
+    or-path refl (sym (or-last (fromFirst 12 (t .rank) (badDstOffsetOf t c)) (omega arith)))
 
 pub move-chain : (t : Tensor) (c : Config) (srcLen dstLen : ℕ) → moveFault t c srcLen dstLen ≡ chain (moveRules t c srcLen dstLen)
 unfolding moveFault

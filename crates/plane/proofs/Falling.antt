@@ -5,7 +5,9 @@ use native.Mathlib.Omega.{arith}
 use mathlib.Core.Path.{_≡_, refl, sym, subst}
 use mathlib.Core.Logic.{⊎-elim}
 use borrow.Author.Tests.{ne-eqb}
-use Rattle.plane.specs.Planes.{inner, resolved}
+use Rattle.plane.specs.Arrays.{at}
+use Rattle.plane.specs.Planes.{inner, resolved, strides}
+use Rattle.plane.proofs.Arrays.{firsts-at}
 use Rattle.plane.proofs.Resolving.{inner-out}
 use Rattle.plane.specs.Good.{GoodStrides}
 use Rattle.plane.specs.Claims.{StridesFall}
@@ -62,6 +64,18 @@ module _ (n : ℕ) (shape stride : ℕ → ℕ) where
 
       further : (d : ℕ) → d < n → suc d < n → inner n shape stride (n - suc d) ≤ stride d
       further d h q = rw (inner-out n shape stride (suc d) q, written-stays (suc d) (w (suc d) q .0)) (f d q)
+
+-- the same of the strides as a list
+module _ (n : ℕ) (shape stride : ℕ → ℕ) (few : n ≤ 4) where
+  pub strides-at : (d : ℕ) → d < n → at (strides n shape stride) d ≡ resolved n shape stride d
+  strides-at d h = firsts-at 0 n (resolved n shape stride) d few h
+
+  module _ (some : (d : ℕ) → d < n → 1 ≤ shape d) (g : GoodStrides n shape stride) where
+    pub strides-within : (d : ℕ) → d < n → (1 ≤ at (strides n shape stride) d) × (at (strides n shape stride) d ≤ 2147483647)
+    strides-within d h = rw (strides-at d h) (stride-positive n shape stride some g d h, g .most d h)
+
+    pub strides-hold : (d e : ℕ) → d < e → e < n → at (strides n shape stride) e * shape e ≤ at (strides n shape stride) d
+    strides-hold d e l h = rw (strides-at e h, strides-at d (omega arith)) (falls n shape stride some g d e l h)
 
 -- a stride is at least all that lies in a dimension further in
 pub strides-fall : StridesFall

@@ -2,7 +2,7 @@
 use Prim.Native.Nat.{ℕ, zero, suc, _+_, _-_, _*_, _≤_, _<_}
 use native.Mathlib.Omega.{arith}
 use mathlib.Core.Path.{_≡_, refl, sym, _∙_}
-use mathlib.Core.Bool.{Bool, true, false}
+use mathlib.Core.Bool.{true, false}
 use borrow.Author.Tests.{eqb-false, ne-eqb, leb-false, lt-leb, ltb-false, lt-ltb, le-ltb}
 use lib.Dec.{leb, ltb, eqb}
 use Rattle.plane.specs.declared.Tensor.{Tensor}
@@ -10,7 +10,7 @@ use Rattle.plane.specs.declared.Config.{Config}
 use Rattle.plane.specs.Arrays.{at, some}
 use Rattle.faults.specs.Faults.{lowest, outward}
 use Rattle.plane.specs.Planes.{badRank, badElement, badShape, shapeAt, strideAt, inner, resolved, badStrideAt, span, sourceFault}
-use Rattle.plane.specs.Moves.{extent, dstExtents, dstStrides, need, badPermAt, badOffset, badSize, badStep, badExtent, badDstOffsetAt, configFault, dstFault, moveFault}
+use Rattle.plane.specs.Moves.{extent, need, badPermAt, badOffset, badSize, badStep, badExtent, badDstOffsetAt, badDstOffsetOf, configFault, dstFault, moveFault}
 use Rattle.plane.specs.Good.{GoodStrides, GoodSource, GoodConfig, GoodDst}
 use Rattle.plane.specs.Claims.{MoveGood, MoveClear}
 use Rattle.faults.proofs.Bools.{either-clear, neither, in-range}
@@ -138,11 +138,8 @@ module _ (t : Tensor) (c : Config) where
         row = λ i l h. row-within _ _ _ i l (clear i (p .1) h);
       }
     where
-      bad : ℕ → Bool
-      bad = badDstOffsetAt (at (dstExtents t c)) (at (dstStrides t c)) (at (c .«dst_offset»))
-
-      clear : (i : ℕ) → lowest 12 (t .rank) bad .status ≡ 0 → i < t .rank → bad i ≡ false
-      clear i z h = lowest-clear 12 (t .rank) bad i (omega arith) z h
+      clear : (i : ℕ) → lowest 12 (t .rank) (badDstOffsetOf t c) .status ≡ 0 → i < t .rank → badDstOffsetOf t c i ≡ false
+      clear i z h = lowest-clear 12 (t .rank) (badDstOffsetOf t c) i (omega arith) z h
 
   pub dst-clear : GoodDst t c → dstFault t c .status ≡ 0
   unfolding dstFault
@@ -150,7 +147,7 @@ module _ (t : Tensor) (c : Config) where
       or-zero _ _ (strides-clear 11 _ _ _ (omega arith) (g .strides))
       (lowest-zero 12 _ _ clear)
     where
-      clear : (i : ℕ) → i < t .rank → badDstOffsetAt (at (dstExtents t c)) (at (dstStrides t c)) (at (c .«dst_offset»)) i ≡ false
+      clear : (i : ℕ) → i < t .rank → badDstOffsetOf t c i ≡ false
       clear zero h = first-free _ _ _ (g .offset 0 h)
       clear (suc i) h = after-first _ _ _ (suc i) (omega arith) (g .offset (suc i) h) ∙ le-ltb _ _ (g .row (suc i) (omega arith) h)
 

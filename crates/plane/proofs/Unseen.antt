@@ -15,7 +15,7 @@ use Rattle.plane.specs.declared.SubTensor.{SubTensor}
 use Rattle.plane.specs.Arrays.{at, zeros, or0}
 use Rattle.faults.specs.Faults.{when, _orElse_, lowest, ifFault}
 use Rattle.plane.specs.Planes.{badShape, badStride, shapeAt, strideAt, inner, resolved, badStrideAt, strides, srcStrides, span, sourceFault, sourceOf}
-use Rattle.plane.specs.Moves.{upward, count, extent, dstExtents, dstStrides, need, badPermAt, badOffset, badStep, badExtent, badDstOffsetAt, configFault, dstFault, moveFault, roomFault, accepted, answerOf, judgeOf, roomOf}
+use Rattle.plane.specs.Moves.{upward, count, extent, dstExtents, dstStrides, need, badPermAt, badOffset, badStep, badExtent, badDstOffsetAt, badDstOffsetOf, configFault, dstFault, moveFault, roomFault, accepted, answerOf, judgeOf, roomOf}
 use Rattle.plane.specs.Helpers.{elements, countFault, countAnswer, countOf, isUnit, staying, subDim, rankFault, subFault, subOf, subByte, noSub, subAnswer, subTensorOf}
 use Rattle.plane.specs.Unseen.{SameTensor, SameConfig, SameSub, UnseenTensor, UnseenConfig, UnseenSub, CallsUnseen}
 use Rattle.plane.proofs.Arrays.{firsts-same, sum-same, product-same, howMany-same, some-same}
@@ -115,7 +115,7 @@ module _ (n z : ℕ) (s s′ p p′ : List ℕ) (a : SameTensor (tensor n z s p)
       dst-strides-same : dstStrides T c ≡ dstStrides T′ c′
       dst-strides-same = strides-same n _ _ _ _ extent-at (b .dst-stride)
 
-      place-at : (i : ℕ) → i < n → badDstOffsetAt (at (dstExtents T c)) (at (dstStrides T c)) (at (c .«dst_offset»)) i ≡ badDstOffsetAt (at (dstExtents T′ c′)) (at (dstStrides T′ c′)) (at (c′ .«dst_offset»)) i
+      place-at : (i : ℕ) → i < n → badDstOffsetOf T c i ≡ badDstOffsetOf T′ c′ i
       unfolding badDstOffsetAt
       place-at i h =
           ap₂ (λ (x o : ℕ). ltb 65535 o || (ltb 0 i && ltb (at (dstStrides T c) (i - 1)) ((o + x) * at (dstStrides T c) i))) (extent-at i h) (b .dst-offset i h) ∙

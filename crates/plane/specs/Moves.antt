@@ -69,6 +69,10 @@ unfoldable pub badDstOffsetAt : (ℕ → ℕ) → (ℕ → ℕ) → (ℕ → ℕ
 badDstOffsetAt extent stride offset i =
     ltb 65535 (offset i) || (ltb 0 i && ltb (stride (i - 1)) ((offset i + extent i) * stride i))
 
+-- of a move
+abbrev pub badDstOffsetOf : Tensor → Config → ℕ → Bool
+badDstOffsetOf t c = badDstOffsetAt (at (dstExtents t c)) (at (dstStrides t c)) (at (c .«dst_offset»))
+
 -- 6 to 10
 unfoldable pub configFault : Tensor → Config → Fault
 configFault t c =
@@ -82,7 +86,7 @@ configFault t c =
 unfoldable pub dstFault : Tensor → Config → Fault
 dstFault t c =
     outward 11 (t .rank) (badStrideAt (t .rank) (at (dstExtents t c)) (at (c .«dst_stride»))) orElse
-    lowest 12 (t .rank) (badDstOffsetAt (at (dstExtents t c)) (at (dstStrides t c)) (at (c .«dst_offset»)))
+    lowest 12 (t .rank) (badDstOffsetOf t c)
 
 -- a move is refused with 5 for a source shorter than the span, and with 13 for a destination shorter than need
 unfoldable pub moveFault : Tensor → Config → ℕ → ℕ → Fault

@@ -8,7 +8,7 @@ use Rattle.plane.specs.declared.Config.{Config}
 use Rattle.plane.specs.declared.SubConfig.{SubConfig}
 use Rattle.plane.specs.Arrays.{at, howMany}
 use Rattle.plane.specs.Planes.{badRank, badElement, badShape, shapeAt, strideAt, badStrideAt, span}
-use Rattle.plane.specs.Moves.{extent, dstExtents, dstStrides, need, badPermAt, badOffset, badSize, badStep, badExtent, badDstOffsetAt}
+use Rattle.plane.specs.Moves.{extent, dstExtents, need, badPermAt, badOffset, badSize, badStep, badExtent, badDstOffsetOf}
 use Rattle.plane.specs.Helpers.{elements, isUnit, excess, badSubSize}
 use Rattle.faults.specs.Exactness.{Rule, whole, fromFirst, fromLast}
 
@@ -35,7 +35,7 @@ configRules t c =
 abbrev pub dstRules : Tensor → Config → List Rule
 dstRules t c =
     fromLast 11 (t .rank) (badStrideAt (t .rank) (at (dstExtents t c)) (at (c .«dst_stride»))) ∷
-    fromFirst 12 (t .rank) (badDstOffsetAt (at (dstExtents t c)) (at (dstStrides t c)) (at (c .«dst_offset»))) ∷
+    fromFirst 12 (t .rank) (badDstOffsetOf t c) ∷
     []
 
 -- move: 1 to 13

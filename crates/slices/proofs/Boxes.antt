@@ -14,7 +14,7 @@ use Rattle.plane.specs.Settings.{withDstOffset, withDstStride}
 use Rattle.ready_made.specs.ReadyMade.{defaults, cutTo, madeFor}
 use Rattle.plane.proofs.Arrays.{table-at, zeros-at, firsts-at, firsts-same, sum-same, product-same}
 use Rattle.plane.specs.Good.{GoodSource, GoodConfig, GoodDst}
-use Rattle.plane.proofs.Falling.{strides-fall}
+use Rattle.plane.proofs.Falling.{strides-hold}
 use Rattle.mover.specs.Element.{sourcePlace}
 use Rattle.slices.proofs.Compact.{compact-at, compact-good}
 use Rattle.mover.specs.Demand2.{IsCoordinate, KeptAt}
@@ -82,10 +82,8 @@ module _ {u : Tensor} {c : Config} {z : List ℕ} (b : Boxed u c z) where
         offset = λ i h. omega (arith, o i h);
         row = λ i l h.
             let e = at (dstExtents u c) in
-            let k = at (c .«dst_stride») in
-            let r = firsts-at 0 (u .rank) (resolved (u .rank) e k) in
-            rw (o i h, zero-add, mul-comm (e i), r i few h, r (i - 1) few (omega arith))
-            (strides-fall (u .rank) e k (λ j q. rw (boxed-extent-at few j q) (w j q .0)) s (i - 1) i (omega arith) h);
+            rw (o i h, zero-add, mul-comm (e i))
+            (strides-hold (u .rank) e (at (c .«dst_stride»)) few (λ j q. rw (boxed-extent-at few j q) (w j q .0)) s (i - 1) i (omega arith) h);
       }
 
 -- size 0 from offset 0 on is the shape, and any other size is itself
