@@ -1,0 +1,35 @@
+-- The bytes of a list: a head of seven bytes, and then the records, one behind the other.
+use Prim.Native.Nat.{ℕ, _+_, _*_}
+use mathlib.Core.List.{List, [], _∷_, _++_}
+use Rattle.record.specs.Layout.{little, recordLength}
+
+-- mark, version and count
+abbrev pub headLength : ℕ
+headLength = 7
+
+-- R, M, L
+abbrev pub mark : List ℕ
+mark = 82 ∷ 77 ∷ 76 ∷ []
+
+-- in two bytes from byte 3 on
+abbrev pub theVersion : ℕ
+theVersion = 1
+
+abbrev pub versionPlace : ℕ
+versionPlace = 3
+
+-- how many records follow, in two bytes from byte 5 on
+abbrev pub countPlace : ℕ
+countPlace = 5
+
+-- the most that two bytes can tell
+abbrev pub most : ℕ
+most = 65535
+
+-- the head of a list of n records
+abbrev pub headBytes : ℕ → List ℕ
+headBytes n = mark ++ little 2 theVersion ++ little 2 n
+
+-- the bytes of a list of n records; so also the byte at which record n starts
+abbrev pub listLength : ℕ → ℕ
+listLength n = headLength + recordLength * n

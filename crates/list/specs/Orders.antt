@@ -1,0 +1,30 @@
+-- The rules of each call on a list, in the paper's order.
+use Prim.Native.Nat.{ℕ, _-_}
+use mathlib.Core.List.{List, [], _∷_, _++_}
+use lib.Dec.{ltb, leb, eqb}
+use lib.ListN.{length, take}
+use Rattle.faults.specs.Exactness.{Rule, whole}
+use Rattle.plane.specs.declared.Tensor.{Tensor}
+use Rattle.plane.specs.declared.Config.{Config}
+use Rattle.record.specs.Layout.{recordLength}
+use Rattle.record.specs.Orders.{fieldsRules, readRules}
+use Rattle.list.specs.Layout.{headLength, most}
+use Rattle.list.specs.Lists.{countIn, badHead, badMark, badVersion, badCount, recordCount, recordIn}
+
+-- a list: 25, 26, 27, 30
+abbrev pub listRules : List ℕ → List Rule
+listRules bs = whole 25 (badHead bs) ∷ whole 26 (badMark bs) ∷ whole 27 (badVersion bs) ∷ whole 30 (badCount bs) ∷ []
+
+-- record k of a list: 39 past the last, and then those of reading it
+abbrev pub recordRules : List ℕ → ℕ → List Rule
+recordRules bs k = whole 39 (leb (recordCount bs) k) ∷ readRules (recordIn bs k)
+
+-- start: 38
+abbrev pub startRules : List ℕ → List Rule
+startRules buffer = whole 38 (ltb (length buffer) headLength) ∷ []
+
+-- append behind the list that the first n bytes are: 25 also where they are more than the buffer has; 26, 27, 30, 37, 38, 1, 28
+abbrev pub appendRules : List ℕ → ℕ → Tensor → Config → List Rule
+appendRules buffer n t c =
+    (whole 25 (ltb (length buffer) n) ∷ []) ++ listRules (take n buffer) ++
+    (whole 37 (eqb (countIn buffer) most) ∷ whole 38 (ltb (length buffer - n) recordLength) ∷ []) ++ fieldsRules t c

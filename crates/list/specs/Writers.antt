@@ -1,0 +1,50 @@
+-- What start and append answer, and what they do to the buffer that is lent.
+use Prim.Native.Nat.{ℕ, _+_, _-_}
+use mathlib.Core.List.{List}
+use lib.Dec.{ltb, eqb}
+use lib.ListN.{length, take}
+use lib.Seq.{sets}
+use Rattle.faults.specs.declared.Fault.{Fault}
+use Rattle.faults.specs.Faults.{when, _orElse_, ifFault}
+use Rattle.plane.specs.declared.Tensor.{Tensor}
+use Rattle.plane.specs.declared.Config.{Config}
+use Rattle.record.specs.Layout.{little, recordLength}
+use Rattle.record.specs.Records.{recordBytes, fieldsFault}
+use Rattle.list.specs.declared.Appended.{Appended}
+use Rattle.list.specs.Layout.{headLength, countPlace, most, headBytes}
+use Rattle.list.specs.Lists.{countIn, listFault}
+
+-- ---- An empty list
+
+-- 38: no room for a head
+unfoldable pub startFault : List ℕ → Fault
+startFault buffer = when 38 0 (ltb (length buffer) headLength)
+
+unfoldable pub startedBuffer : List ℕ → List ℕ
+startedBuffer buffer = ifFault (startFault buffer) buffer (sets buffer 0 (headBytes 0))
+
+-- ---- One record more, behind the list that the first n bytes are
+
+-- 25 for a list said to be longer than the buffer, or for a list without a whole head; 26, 27, 30; 37 for a full list, 38 for no
+-- room behind it; and then 1 and 28
+unfoldable pub appendFault : List ℕ → ℕ → Tensor → Config → Fault
+appendFault buffer n t c =
+    when 25 0 (ltb (length buffer) n) orElse
+    listFault (take n buffer) orElse
+    when 37 0 (eqb (countIn buffer) most) orElse
+    when 38 0 (ltb (length buffer - n) recordLength) orElse
+    fieldsFault t c
+
+-- a refused append tells no length
+abbrev pub noAppend : Fault → Appended
+noAppend f = record { status = f .status; dim = f .dim; length = 0 }
+
+unfoldable pub appendOf : List ℕ → ℕ → Tensor → Config → Appended
+appendOf buffer n t c =
+    ifFault (appendFault buffer n t c) (noAppend (appendFault buffer n t c)) (record { status = 0; dim = 0; length = n + recordLength })
+
+-- the record's bytes behind the list, and the count; a refused append leaves the buffer as it was
+unfoldable pub appendedBuffer : List ℕ → ℕ → Tensor → Config → List ℕ
+appendedBuffer buffer n t c =
+    ifFault (appendFault buffer n t c) buffer
+    (sets (sets buffer n (recordBytes t c)) countPlace (little 2 (countIn buffer + 1)))
