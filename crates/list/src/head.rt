@@ -23,13 +23,20 @@ fn version_is_bad(bytes: &[u8]) -> bool
         | (bytes[layout::VERSION_AT + 1] != layout::VERSION[1])
 }
 
+// A byte as a number, so that sums of bytes fit.
+fn wide(x: u8) -> usize
+    ensures { λ r. ⌜ (r ≡ x) × (r < 256) ⌝ }
+{
+    x as usize
+}
+
 // The count, unjudged.
 pub(crate) fn count_in(bytes: &[u8]) -> usize
     requires { ⌜ headLength ≤ length (now bytes) ⌝ }
     ensures { λ r. ⌜ (r ≡ countIn (now (bytes .entry))) × (r < 65536) ⌝ }
 {
-    let low = bytes[layout::COUNT_AT] as usize;
-    let high = bytes[layout::COUNT_AT + 1] as usize;
+    let low = wide(bytes[layout::COUNT_AT]);
+    let high = wide(bytes[layout::COUNT_AT + 1]);
     low + 256 * high
 }
 

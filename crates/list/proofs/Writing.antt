@@ -1,0 +1,144 @@
+-- What start and append come to where a test in code stops them, and where none does. Assumes nothing.
+use Prim.Native.Nat.{ℕ, _+_, _-_, _≤_, _<_}
+use native.Mathlib.Omega.{arith}
+use mathlib.Core.Path.{_≡_, refl, sym, ap, _∙_}
+use mathlib.Core.List.{List, _++_, append-assoc}
+use borrow.Author.Tests.{lt-ltb, le-ltb, eq-eqb, ne-eqb}
+use borrow.Rule.Slice.PartMut.{midOf, putMid, put-same, post-is}
+use lib.ListN.{length, take, drop, length-drop}
+use lib.Seq.{sets, sets-eq, length-take-le}
+use Rattle.faults.specs.declared.Fault.{Fault}
+use Rattle.faults.specs.Faults.{fault}
+use Rattle.faults.proofs.Faults.{status, is-fault, given, spared, passed, stopped, if-fault, if-none, when-bad, when-good}
+use Rattle.plane.specs.declared.Tensor.{Tensor}
+use Rattle.plane.specs.declared.Config.{Config}
+use Rattle.record.specs.Layout.{little, recordLength}
+use Rattle.record.specs.Records.{recordBytes, fieldsFault, writeFault, writtenRoom}
+use Rattle.record.proofs.Answers.{write-fields, room-kept, room-written}
+use Rattle.record.proofs.Laying.{length-record}
+use Rattle.list.specs.declared.Appended.{Appended}
+use Rattle.list.specs.Layout.{headLength, countPlace, most, headBytes}
+use Rattle.list.specs.Lists.{countIn, listFault}
+use Rattle.list.specs.Writers.{startFault, startedBuffer, appendFault, noAppend, appendOf, appendedBuffer}
+use Rattle.list.proofs.Answers.{list-plain, good}
+
+-- ---- an empty list
+
+module _ (buffer : List ℕ) where
+  pub start-kept : (startFault buffer .status ≡ 0 → ⊥) → startedBuffer buffer ≡ buffer
+  unfolding startedBuffer
+  start-kept h = if-fault (startFault buffer) buffer (sets buffer 0 (headBytes 0)) h
+
+  pub start-given : startFault buffer .status ≡ 0 → startedBuffer buffer ≡ sets buffer 0 (headBytes 0)
+  unfolding startedBuffer
+  start-given z = if-none (startFault buffer) buffer (sets buffer 0 (headBytes 0)) z
+
+  -- as the code comes to it
+  pub start-38 : length buffer < headLength → (38 ≡ startFault buffer .status) × (buffer ≡ startedBuffer buffer)
+  unfolding startFault
+  start-38 h = let e = when-bad 38 0 _ (lt-ltb (length buffer) headLength h) in (sym (status e), sym (start-kept (is-fault 38 0 (omega arith) e)))
+
+  pub start-0 : headLength ≤ length buffer → startFault buffer .status ≡ 0
+  unfolding startFault
+  start-0 h = status (when-good 38 0 _ (le-ltb (length buffer) headLength h))
+
+-- ---- one record more, behind the list that the first n bytes are
+
+module _ (buffer : List ℕ) (n : ℕ) (t : Tensor) (c : Config) where
+  pub append-kept : (appendFault buffer n t c .status ≡ 0 → ⊥) → appendedBuffer buffer n t c ≡ buffer
+  unfolding appendedBuffer
+  append-kept h = if-fault (appendFault buffer n t c) buffer _ h
+
+  pub append-given : appendFault buffer n t c .status ≡ 0 → appendedBuffer buffer n t c ≡ sets (sets buffer n (recordBytes t c)) countPlace (little 2 (countIn buffer + 1))
+  unfolding appendedBuffer
+  append-given z = if-none (appendFault buffer n t c) buffer _ z
+
+  pub append-refused : (appendFault buffer n t c .status ≡ 0 → ⊥) → appendOf buffer n t c ≡ noAppend (appendFault buffer n t c)
+  unfolding appendOf
+  append-refused h = if-fault (appendFault buffer n t c) (noAppend (appendFault buffer n t c)) _ h
+
+  pub append-told : appendFault buffer n t c .status ≡ 0 → appendOf buffer n t c ≡ record { status = 0; dim = 0; length = n + recordLength }
+  unfolding appendOf
+  append-told z = if-none (appendFault buffer n t c) (noAppend (appendFault buffer n t c)) _ z
+
+  -- ---- as the code comes to it
+
+  -- an answer, and the buffer after it
+  abbrev pub Answered : Appended → List ℕ → Type 0
+  Answered r after = (r ≡ appendOf buffer n t c) × (after ≡ appendedBuffer buffer n t c)
+
+  pub stopped-at : {f : Fault} {r : Appended} → appendFault buffer n t c ≡ f → (f .status ≡ 0 → ⊥) → r ≡ noAppend f → Answered r buffer
+  stopped-at e h q =
+      let b : appendFault buffer n t c .status ≡ 0 → ⊥ = λ z. h (sym (status e) ∙ z) in
+      (q ∙ ap noAppend (sym e) ∙ sym (append-refused b), sym (append-kept b))
+
+  pub append-25 : length buffer < n → appendFault buffer n t c ≡ fault 25 0
+  unfolding appendFault
+  append-25 h = given 25 0 _ _ (omega arith) (lt-ltb (length buffer) n h)
+
+  module _ (within : n ≤ length buffer) where
+    -- a list is refused with its own number
+    pub append-list : {s : ℕ} → s ≡ listFault (take n buffer) .status → (s ≡ 0 → ⊥) → appendFault buffer n t c ≡ fault s 0
+    unfolding appendFault
+    append-list e h = spared 25 0 _ _ (le-ltb (length buffer) n within) ∙ stopped _ (λ i. record { status = e i; dim = sym (list-plain (take n buffer)) i }) h
+
+    module _ (listed : listFault (take n buffer) .status ≡ 0) where
+      -- the list so far has a whole head
+      pub head-within : headLength ≤ n
+      head-within = let g = good (take n buffer) listed .head in let l = length-take-le n buffer within in omega arith
+
+      pub append-37 : countIn buffer ≡ most → appendFault buffer n t c ≡ fault 37 0
+      unfolding appendFault
+      append-37 e =
+          spared 25 0 _ _ (le-ltb (length buffer) n within) ∙ passed _ refl listed ∙ given 37 0 _ _ (omega arith) (eq-eqb (countIn buffer) most e)
+
+      module _ (more : countIn buffer ≡ most → ⊥) where
+        pub append-38 : length buffer - n < recordLength → appendFault buffer n t c ≡ fault 38 0
+        unfolding appendFault
+        append-38 h =
+            spared 25 0 _ _ (le-ltb (length buffer) n within) ∙ passed _ refl listed ∙
+            spared 37 0 _ _ (ne-eqb (countIn buffer) most more) ∙ given 38 0 _ _ (omega arith) (lt-ltb (length buffer - n) recordLength h)
+
+        module _ (space : recordLength ≤ length buffer - n) where
+          pub append-fields : appendFault buffer n t c ≡ fieldsFault t c
+          unfolding appendFault
+          append-fields =
+              spared 25 0 _ _ (le-ltb (length buffer) n within) ∙ passed _ refl listed ∙
+              spared 37 0 _ _ (ne-eqb (countIn buffer) most more) ∙ spared 38 0 _ _ (le-ltb (length buffer - n) recordLength space)
+
+          -- the part that is lent to the record's write
+          abbrev Lent : List ℕ
+          Lent = midOf n (n + recordLength - n) buffer
+
+          lent-length : length Lent ≡ recordLength
+          lent-length =
+              let k : n + recordLength - n ≡ recordLength = omega arith in
+              length-take-le (n + recordLength - n) (drop n buffer) (omega (arith, length-drop n buffer)) ∙ k
+
+          module _ {f : Fault} {l : List ℕ} (e : f ≡ writeFault t c (length Lent)) (w : l ≡ writtenRoom t c Lent) where
+            judged : appendFault buffer n t c ≡ f
+            judged = append-fields ∙ sym (write-fields t c (length Lent) lent-length) ∙ sym e
+
+            -- the write refused the fields: the buffer is as it was
+            pub fields-refused : {r : Appended} → (f .status ≡ 0 → ⊥) → r ≡ noAppend f → Answered r (putMid n (n + recordLength - n) buffer l)
+            fields-refused h q =
+                let a = stopped-at judged h q in
+                let same = w ∙ room-kept t c Lent (λ z. h (status e ∙ z)) in
+                (a .0, ap (putMid n (n + recordLength - n) buffer) same ∙ put-same n (n + recordLength - n) buffer ∙ a .1)
+
+            -- the write put the record behind the list
+            module _ (z : f .status ≡ 0) where
+              placed : putMid n (n + recordLength - n) buffer l ≡ sets buffer n (recordBytes t c)
+              placed =
+                  let bs = recordBytes t c in
+                  let long = length-record t c in
+                  let end : n + length bs ≡ n + recordLength = ap (λ (m : ℕ). n + m) long in
+                  ap (putMid n (n + recordLength - n) buffer) (w ∙ room-written t c Lent (sym (status e) ∙ z)) ∙
+                  ap (λ (rest : List ℕ). take n buffer ++ (bs ++ rest)) (post-is n (n + recordLength) buffer (omega arith) ∙ ap (λ (m : ℕ). drop m buffer) (sym end)) ∙
+                  sym (append-assoc (take n buffer) bs (drop (n + length bs) buffer)) ∙
+                  sym (sets-eq bs buffer n (omega arith))
+
+              pub append-0 : {k : ℕ} {after : List ℕ} → k ≡ countIn buffer → after ≡ sets (putMid n (n + recordLength - n) buffer l) countPlace (little 2 (k + 1)) → Answered (record { status = 0; dim = 0; length = n + recordLength }) after
+              append-0 ke ae =
+                  let y = status judged ∙ z in
+                  (sym (append-told y), ae ∙ rw (placed, ke) (sym (append-given y)))
