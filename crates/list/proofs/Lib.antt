@@ -1,0 +1,5 @@
+-- Theorems to read first: RoundTrip (there and back).
+pub mod RoundTrip
+-- Laws over plain values.
+pub mod Listing
+pub mod Buffers
