@@ -1,0 +1,141 @@
+-- Laws of a buffer with a list at its start: what start leaves, and what an append behind the list comes to. Assumes nothing.
+use Prim.Native.Nat.{ℕ, suc, _+_, _-_, _*_, _≤_, _<_}
+use native.Mathlib.Numerals.{add-one}
+use native.Mathlib.Omega.{arith}
+use mathlib.Core.Path.{_≡_, refl, sym, ap, ap₂, _∙_}
+use mathlib.Core.List.{List, [], _++_, append-assoc}
+use borrow.Author.Tests.{ltb-false, le-ltb, eqb-false, ne-eqb}
+use lib.Dec.{ltb, eqb}
+use lib.ListN.{length, take, drop, length-append}
+use lib.Seq.{sets, length-sets, sets-eq, take-at}
+use Rattle.plane.specs.declared.Tensor.{Tensor}
+use Rattle.plane.specs.declared.Config.{Config}
+use Rattle.faults.specs.Faults.{when, _orElse_}
+use Rattle.faults.proofs.Faults.{status, or-clear, or-none, or-path, when-clear, spared}
+use Rattle.record.specs.Layout.{little, recordLength}
+use Rattle.record.specs.Records.{recordBytes, fieldsFault}
+use Rattle.record.proofs.Parts.{sets-next}
+use Rattle.record.proofs.Laying.{length-record}
+use Rattle.list.specs.declared.Appended.{Appended}
+use Rattle.list.specs.Layout.{headLength, countPlace, most, headBytes, listLength}
+use Rattle.list.specs.Lists.{countIn, listFault}
+use Rattle.list.specs.Writers.{startFault, startedBuffer, appendFault, appendOf, appendedBuffer}
+use Rattle.list.specs.RoundTrip.{Written}
+use Rattle.list.proofs.Writing.{start-given, append-given, append-told}
+use Rattle.list.proofs.Listing.{Sound, length-head, length-listed, count-listed, listed-opens}
+
+-- w is the buffer with a list of n records at its start, and tells where that ends
+pub record Lies (buffer : List ℕ) (n : ℕ) (body : List ℕ) (w : Written) : Type 0 where
+  pub is : w .buffer ≡ sets buffer 0 (headBytes n ++ body)
+  pub ends : w .length ≡ listLength n
+  pub sound : Sound n body
+  pub room : listLength n ≤ length buffer
+
+-- ---- start
+
+-- an accepted start leaves a list of no records
+pub start-lies : (buffer : List ℕ) → startFault buffer .status ≡ 0 → Lies buffer 0 [] (record { buffer = startedBuffer buffer; length = headLength })
+unfolding startFault little
+start-lies buffer z = record {
+  is = start-given buffer z;
+  ends = refl;
+  sound = record { few = omega arith; long = refl };
+  room = ltb-false _ _ (when-clear 38 0 (ltb (length buffer) headLength) (omega arith) z);
+}
+
+-- ---- append
+
+-- the count stored over the count of a list that a buffer has room for
+count-stored : (n m : ℕ) (body buffer : List ℕ) → length (headBytes n ++ body) ≤ length buffer → sets (sets buffer 0 (headBytes n ++ body)) countPlace (little 2 m) ≡ sets buffer 0 (headBytes m ++ body)
+unfolding little
+count-stored n m body buffer h =
+    ap (λ (a : List ℕ). sets a countPlace (little 2 m)) (sets-eq (headBytes n ++ body) buffer 0 (omega arith)) ∙
+    sym (sets-eq (headBytes m ++ body) buffer 0 (omega arith))
+
+module _ (buffer : List ℕ) (n : ℕ) (body : List ℕ) (w : Written) (s : Lies buffer n body w) where
+  -- the list, and then what the buffer has behind it
+  lies-whole : w .buffer ≡ headBytes n ++ body ++ drop (listLength n) buffer
+  lies-whole =
+      let l = length-listed n body (s .sound .long) in
+      let r = s .room in
+      s .is ∙ sets-eq (headBytes n ++ body) buffer 0 (omega arith) ∙
+      ap (λ (k : ℕ). headBytes n ++ body ++ drop k buffer) (let z : 0 + length (headBytes n ++ body) ≡ listLength n = omega arith in z)
+
+  -- as long as the buffer was
+  pub lies-length : length (w .buffer) ≡ length buffer
+  lies-length = ap length (s .is) ∙ length-sets buffer 0 (headBytes n ++ body)
+
+  -- the list alone
+  pub lies-taken : take (w .length) (w .buffer) ≡ headBytes n ++ body
+  lies-taken =
+      ap₂ take (s .ends) lies-whole ∙
+      take-at (headBytes n ++ body) (drop (listLength n) buffer) (listLength n) (length-listed n body (s .sound .long))
+
+  -- the count that the buffer tells is the list's
+  pub lies-count : countIn (w .buffer) ≡ n
+  lies-count =
+      ap countIn (lies-whole ∙ append-assoc (headBytes n) body (drop (listLength n) buffer)) ∙
+      count-listed n (body ++ drop (listLength n) buffer) (s .sound .few)
+
+  module _ (t : Tensor) (c : Config) where
+    -- what can be wrong with an append behind it: 37, 38, 1 and 28
+    lies-fault : appendFault (w .buffer) (w .length) t c ≡ (when 37 0 (eqb n most) orElse when 38 0 (ltb (length buffer - listLength n) recordLength) orElse fieldsFault t c)
+    unfolding appendFault
+    lies-fault =
+        let e = s .ends in
+        let l = lies-length in
+        let r = s .room in
+        spared 25 0 _ _ (le-ltb (length (w .buffer)) (w .length) (omega arith)) ∙
+        or-none (listFault (take (w .length) (w .buffer))) _ (ap (λ (bs : List ℕ). listFault bs .status) lies-taken ∙ listed-opens n body (s .sound)) ∙
+        or-path (ap (λ (k : ℕ). when 37 0 (eqb k most)) lies-count)
+        (or-path (ap₂ (λ (k m : ℕ). when 38 0 (ltb (k - m) recordLength)) lies-length (s .ends)) refl)
+
+    -- it is accepted where the count can grow, there is room and the fields are accepted
+    pub append-accepted : n < most → listLength (suc n) ≤ length buffer → fieldsFault t c .status ≡ 0 → appendFault (w .buffer) (w .length) t c .status ≡ 0
+    append-accepted f r z =
+        status (lies-fault ∙
+        spared 37 0 _ _ (ne-eqb n most (λ e. omega arith)) ∙
+        spared 38 0 _ _ (le-ltb (length buffer - listLength n) recordLength (omega arith))) ∙ z
+
+    module _ (z : appendFault (w .buffer) (w .length) t c .status ≡ 0) where
+      -- an accepted one has accepted fields
+      pub append-fields : fieldsFault t c .status ≡ 0
+      append-fields = or-clear _ _ (or-clear _ _ (sym (status lies-fault) ∙ z) .1) .1
+
+      -- and leaves one record more, behind the others
+      pub append-lies : Lies buffer (suc n) (body ++ recordBytes t c) (record { buffer = appendedBuffer (w .buffer) (w .length) t c; length = appendOf (w .buffer) (w .length) t c .length })
+      append-lies = record { is = laid; ends = ended; sound = record { few = few; long = long }; room = room }
+        where
+          clear : (when 37 0 (eqb n most) .status ≡ 0) × ((when 38 0 (ltb (length buffer - listLength n) recordLength) orElse fieldsFault t c) .status ≡ 0)
+          clear = or-clear _ _ (sym (status lies-fault) ∙ z)
+
+          few : suc n ≤ most
+          few = let h = s .sound .few in let d = eqb-false n most (when-clear 37 0 _ (omega arith) (clear .0)) in omega arith
+
+          room : listLength (suc n) ≤ length buffer
+          room =
+              let h = s .room in
+              let d = ltb-false (length buffer - listLength n) recordLength (when-clear 38 0 _ (omega arith) (or-clear _ _ (clear .1) .0)) in
+              omega arith
+
+          long : length (body ++ recordBytes t c) ≡ recordLength * suc n
+          long = let a = length-append body (recordBytes t c) in let b = length-record t c in let l = s .sound .long in omega arith
+
+          ended : appendOf (w .buffer) (w .length) t c .length ≡ listLength (suc n)
+          ended =
+              ap (λ (a : Appended). a .length) (append-told (w .buffer) (w .length) t c z) ∙
+              (let e = s .ends in let q : w .length + recordLength ≡ listLength (suc n) = omega arith in q)
+
+          behind : sets (w .buffer) (w .length) (recordBytes t c) ≡ sets buffer 0 (headBytes n ++ (body ++ recordBytes t c))
+          behind =
+              let e = s .ends in
+              let l = length-listed n body (s .sound .long) in
+              ap (λ (a : List ℕ). sets a (w .length) (recordBytes t c)) (s .is) ∙
+              sets-next (headBytes n ++ body) (recordBytes t c) buffer 0 (w .length) (omega arith) ∙
+              ap (sets buffer 0) (append-assoc (headBytes n) body (recordBytes t c))
+
+          laid : appendedBuffer (w .buffer) (w .length) t c ≡ sets buffer 0 (headBytes (suc n) ++ (body ++ recordBytes t c))
+          laid =
+              append-given (w .buffer) (w .length) t c z ∙
+              ap₂ (λ (a : List ℕ) (k : ℕ). sets a countPlace (little 2 k)) behind (ap (λ (k : ℕ). k + 1) lies-count ∙ add-one n) ∙
+              count-stored n (suc n) (body ++ recordBytes t c) buffer (let l = long in let r = room in let h = length-append (headBytes n) (body ++ recordBytes t c) in let k = length-head n in omega arith)
