@@ -3,10 +3,11 @@ use Prim.Native.Nat.{ℕ, _+_, _*_, _≤_, _<_}
 use native.Mathlib.Decide.{ℕ-discrete}
 use native.Mathlib.Omega.{arith}
 use mathlib.Core.Path.{_≡_, refl, sym, ap, _∙_}
+use mathlib.Core.Logic.{_⊎_, inl, inr}
 use mathlib.Core.Bool.{Bool, true, false, not, _||_}
 use mathlib.Core.List.{List}
-use borrow.Author.Tests.{lt-ltb, le-ltb, eq-eqb, ne-eqb, ltb-false, not-false, eqb-true}
-use lib.Dec.{eqb}
+use borrow.Author.Tests.{lt-ltb, le-ltb, eq-eqb, ne-eqb, ltb-true, ltb-false, not-false, eqb-true}
+use lib.Dec.{ltb, eqb}
 use lib.ListN.{length}
 use Rattle.faults.specs.declared.Fault.{Fault}
 use Rattle.faults.specs.Faults.{fault, none, when, _orElse_}
@@ -59,8 +60,8 @@ module _ (bs : List ℕ) where
         pub list-0 : length bs ≡ listLength (countIn bs) → listFault bs ≡ none
         list-0 n = list-rest ∙ when-good 30 0 _ (ap not (eq-eqb (length bs) (listLength (countIn bs)) n))
 
--- a list's fault names dimension 0
-when-plain : (num : ℕ) (b : Bool) → when num 0 b .dim ≡ 0
+-- a rule of the whole names dimension 0, and so does a list's fault
+pub when-plain : (num : ℕ) (b : Bool) → when num 0 b .dim ≡ 0
 unfolding when
 when-plain num true = refl
 when-plain num false = refl
@@ -95,6 +96,14 @@ good bs z =
     }
 
 -- ---- the records
+
+-- a number is below the count, or at or past it
+pub in-or-past : (k n : ℕ) → (k < n) ⊎ (n ≤ k)
+in-or-past k n = go (ltb k n) refl
+  where
+    go : (b : Bool) → ltb k n ≡ b → (k < n) ⊎ (n ≤ k)
+    go true e = inl (ltb-true k n e)
+    go false e = inr (ltb-false k n e)
 
 module _ (bs : List ℕ) where
   pub count-none : (listFault bs .status ≡ 0 → ⊥) → recordCount bs ≡ 0

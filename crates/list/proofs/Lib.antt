@@ -1,4 +1,8 @@
--- Theorems to read first: RoundTrip (there and back).
+-- Theorems to read first: Decided (each contract decides), Exact (each refusal exactly), Handing (what a reader hands out), Alone (what
+-- changes in a buffer), RoundTrip (there and back).
+pub mod Exact
+pub mod Handing
+pub mod Alone
 pub mod RoundTrip
 -- Laws over plain values.
 pub mod Answers

@@ -31,7 +31,7 @@ use Rattle.list.specs.Lists.{listFault, recordCount, recordIn, recordAt}
 use Rattle.list.specs.Writers.{appendFault, appendOf, appendedBuffer}
 use Rattle.list.specs.RoundTrip.{Move, listBytes, numbered, moveIn, Written, written, AllAccepted, WrittenReads, WrittenBytes, ReadWrites, AppendReads}
 use Rattle.list.proofs.Answers.{at-in}
-use Rattle.list.proofs.Writing.{start-0}
+use Rattle.list.proofs.Writing.{start-0, append-behind}
 use Rattle.list.proofs.Listing.{Sound, listed-opens, listed-count, listed-record, opened-ends, opened-is, opened-sound}
 use Rattle.list.proofs.Buffers.{Lies, start-lies, lies-taken, append-accepted, append-fields, append-lies}
 
@@ -182,13 +182,6 @@ old-lies buffer n b h z =
       room = omega arith;
     }
 
--- an append that is accepted is behind a list
-append-old : (buffer : List ℕ) (n : ℕ) (t : Tensor) (c : Config) → appendFault buffer n t c .status ≡ 0 → (n ≤ length buffer) × (listFault (take n buffer) .status ≡ 0)
-unfolding appendFault
-append-old buffer n t c z =
-    let x = or-clear (when 25 0 (ltb (length buffer) n)) _ z in
-    (ltb-false (length buffer) n (when-clear 25 0 _ (omega arith) (x .0)), or-clear (listFault (take n buffer)) _ (x .1) .0)
-
 -- the theorem: the records before are read as before, and the new one last
 pub append-reads : AppendReads
 append-reads buffer n t c b f z = (
@@ -211,7 +204,7 @@ append-reads buffer n t c b f z = (
     at-first = record { buffer = buffer; length = n }
 
     lies : Lies buffer count body at-first
-    lies = let o = append-old buffer n t c z in old-lies buffer n b (o .0) (o .1)
+    lies = let o = append-behind buffer n t c z in old-lies buffer n b (o .0) (o .1)
 
     lies′ : Lies buffer (suc count) more (record { buffer = appendedBuffer buffer n t c; length = appendOf buffer n t c .length })
     lies′ = append-lies buffer count body at-first lies t c z

@@ -3,13 +3,14 @@ use Prim.Native.Nat.{ℕ, _+_, _-_, _≤_, _<_}
 use native.Mathlib.Omega.{arith}
 use mathlib.Core.Path.{_≡_, refl, sym, ap, _∙_}
 use mathlib.Core.List.{List, _++_, append-assoc}
-use borrow.Author.Tests.{lt-ltb, le-ltb, eq-eqb, ne-eqb}
+use borrow.Author.Tests.{ltb-false, lt-ltb, le-ltb, eq-eqb, ne-eqb}
 use borrow.Rule.Slice.PartMut.{midOf, putMid, put-same, post-is}
+use lib.Dec.{ltb}
 use lib.ListN.{length, take, drop, length-drop}
 use lib.Seq.{sets, sets-eq, length-take-le}
 use Rattle.faults.specs.declared.Fault.{Fault}
-use Rattle.faults.specs.Faults.{fault}
-use Rattle.faults.proofs.Faults.{status, is-fault, given, spared, passed, stopped, if-fault, if-none, when-bad, when-good}
+use Rattle.faults.specs.Faults.{fault, when}
+use Rattle.faults.proofs.Faults.{status, is-fault, given, spared, passed, stopped, if-fault, if-none, or-clear, when-bad, when-good, when-clear}
 use Rattle.plane.specs.declared.Tensor.{Tensor}
 use Rattle.plane.specs.declared.Config.{Config}
 use Rattle.record.specs.Layout.{little, recordLength}
@@ -60,6 +61,13 @@ module _ (buffer : List ℕ) (n : ℕ) (t : Tensor) (c : Config) where
   pub append-told : appendFault buffer n t c .status ≡ 0 → appendOf buffer n t c ≡ record { status = 0; dim = 0; length = n + recordLength }
   unfolding appendOf
   append-told z = if-none (appendFault buffer n t c) (noAppend (appendFault buffer n t c)) _ z
+
+  -- an append that is accepted is behind a list
+  pub append-behind : appendFault buffer n t c .status ≡ 0 → (n ≤ length buffer) × (listFault (take n buffer) .status ≡ 0)
+  unfolding appendFault
+  append-behind z =
+      let x = or-clear (when 25 0 (ltb (length buffer) n)) _ z in
+      (ltb-false (length buffer) n (when-clear 25 0 _ (omega arith) (x .0)), or-clear (listFault (take n buffer)) _ (x .1) .0)
 
   -- ---- as the code comes to it
 

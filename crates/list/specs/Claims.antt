@@ -37,7 +37,7 @@ AppendExact =
     let a = appendOf buffer n t c in
     Exact (appendRules buffer n t c) (a .status) (a .dim)
 
--- a bad record's answer is zeros besides its number in the list, its number of refusal and its dimension
+-- what a bad record's answer has besides its number in the list is a refused reading: a number of refusal, its dimension, zeros
 abbrev pub RecordZeros : Type 0
 RecordZeros =
     (bs : List ℕ) (k : ℕ) → let r = recordAt bs k .reading in
@@ -87,7 +87,7 @@ AppendKept =
     (buffer : List ℕ) (n : ℕ) (t : Tensor) (c : Config) →
     (appendFault buffer n t c .status ≡ 0 → ⊥) → appendedBuffer buffer n t c ≡ buffer
 
--- an accepted start changes the head alone
+-- start changes the head alone
 abbrev pub StartAlone : Type 0
 StartAlone =
     (buffer : List ℕ) →

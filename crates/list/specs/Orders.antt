@@ -23,8 +23,13 @@ recordRules bs k = whole 39 (leb (recordCount bs) k) ∷ readRules (recordIn bs 
 abbrev pub startRules : List ℕ → List Rule
 startRules buffer = whole 38 (ltb (length buffer) headLength) ∷ []
 
--- append behind the list that the first n bytes are: 25 also where they are more than the buffer has; 26, 27, 30, 37, 38, 1, 28
+-- behind a list that is not refused, in the first n bytes of a buffer: 37, 38, 1, 28
+abbrev pub behindRules : List ℕ → ℕ → Tensor → Config → List Rule
+behindRules buffer n t c =
+    whole 37 (eqb (countIn buffer) most) ∷
+    whole 38 (ltb (length buffer - n) recordLength) ∷
+    fieldsRules t c
+
+-- append: 25 where the list is said to be longer than the buffer, those of the list, and then those behind it
 abbrev pub appendRules : List ℕ → ℕ → Tensor → Config → List Rule
-appendRules buffer n t c =
-    (whole 25 (ltb (length buffer) n) ∷ []) ++ listRules (take n buffer) ++
-    (whole 37 (eqb (countIn buffer) most) ∷ whole 38 (ltb (length buffer - n) recordLength) ∷ []) ++ fieldsRules t c
+appendRules buffer n t c = whole 25 (ltb (length buffer) n) ∷ (listRules (take n buffer) ++ behindRules buffer n t c)

@@ -18,11 +18,11 @@ use Rattle.record.proofs.Answers.{read-refused, read-given, read-status
 
 -- ---- the calls are held to their lists
 
-fields-chain : (t : Tensor) (c : Config) → fieldsFault t c ≡ chain (fieldsRules t c)
+pub fields-chain : (t : Tensor) (c : Config) → fieldsFault t c ≡ chain (fieldsRules t c)
 unfolding fieldsFault chain
 fields-chain t c = or-path (whole-is 1 _) (sym (or-last (fromFirst 28 4 (stray t c)) (omega arith)))
 
-read-chain : (bs : List ℕ) → readFault bs ≡ chain (readRules bs)
+pub read-chain : (bs : List ℕ) → readFault bs ≡ chain (readRules bs)
 unfolding readFault chain
 read-chain bs = or-path (whole-is 25 _) (or-path (whole-is 26 _) (or-path (whole-is 27 _) (fields-chain (tensorIn bs) (configIn bs))))
 

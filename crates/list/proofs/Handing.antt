@@ -1,0 +1,71 @@
+-- What a reader hands out from open on: the records in order, and then 39 for ever. Assumes nothing.
+use Prim.Native.Nat.{ℕ, zero, suc, min, _+_, _≤_, _<_}
+use native.Mathlib.Numerals.{add-one}
+use native.Mathlib.Omega.{arith}
+use mathlib.Core.Path.{_≡_, sym, ap, _∙_}
+use mathlib.Core.Logic.{⊎-elim}
+use mathlib.Core.List.{List}
+use denote.Ref.{RefT, now}
+use Rattle.list.specs.declared.ListReader.{ListReader}
+use Rattle.list.specs.declared.Numbered.{Numbered}
+use Rattle.list.specs.Lists.{recordCount, recordAt, placeAfter}
+use Rattle.list.specs.Readers.{opened, answer, advanced, later}
+use Rattle.list.specs.Claims.{RefusedNone, GoodEnds, RecordsNumbered, RecordsEnd, HandedOut, HandedAll}
+use Rattle.list.proofs.Answers.{in-or-past, count-none, at-past, at-in, after-past, after-in}
+use Rattle.list.proofs.Listing.{opened-ends}
+
+-- ---- by number
+
+pub refused-none : RefusedNone
+refused-none bs h = count-none bs h
+
+pub good-ends : GoodEnds
+good-ends bs z = opened-ends bs z
+
+pub records-numbered : RecordsNumbered
+records-numbered bs k h = (ap (λ (r : Numbered). r .number) (at-in bs k h), after-in bs k h)
+
+pub records-end : RecordsEnd
+records-end bs k h = (at-past bs k h, after-past bs k h)
+
+-- ---- by a reader
+
+module _ (bs : List ℕ) where
+  -- the place after n records, as many as there are
+  place-later : (n : ℕ) → placeAfter bs (min n (recordCount bs)) ≡ min (suc n) (recordCount bs)
+  place-later n = ⊎-elim within past (in-or-past n (recordCount bs))
+    where
+      within : n < recordCount bs → placeAfter bs (min n (recordCount bs)) ≡ min (suc n) (recordCount bs)
+      within l =
+          let m : min n (recordCount bs) ≡ n = omega arith in
+          ap (placeAfter bs) m ∙ after-in bs n l ∙ omega arith
+
+      past : recordCount bs ≤ n → placeAfter bs (min n (recordCount bs)) ≡ min (suc n) (recordCount bs)
+      past l =
+          let m : min n (recordCount bs) ≡ recordCount bs = omega arith in
+          ap (placeAfter bs) m ∙ after-past bs (recordCount bs) (omega arith) ∙ omega arith
+
+  -- there, record n is handed out
+  record-later : (n : ℕ) → recordAt bs (min n (recordCount bs)) ≡ recordAt bs n
+  record-later n = ⊎-elim within past (in-or-past n (recordCount bs))
+    where
+      within : n < recordCount bs → recordAt bs (min n (recordCount bs)) ≡ recordAt bs n
+      within l = let m : min n (recordCount bs) ≡ n = omega arith in ap (recordAt bs) m
+
+      past : recordCount bs ≤ n → recordAt bs (min n (recordCount bs)) ≡ recordAt bs n
+      past l = at-past bs (min n (recordCount bs)) (omega arith) ∙ sym (at-past bs n l)
+
+-- a reader after n records
+later-is : (bytes : RefT (List ℕ)) (n : ℕ) → later n (opened bytes .reader) ≡ record { bytes = bytes; next = min n (recordCount (now bytes)) }
+unfolding later
+later-is bytes zero = ap (λ (n : ℕ). record { bytes = bytes; next = n }) (omega arith)
+later-is bytes (suc n) = ap advanced (later-is bytes n) ∙ ap (λ (k : ℕ). record { bytes = bytes; next = k }) (place-later (now bytes) n)
+
+pub handed-out : HandedOut
+handed-out bytes n = ap answer (later-is bytes n) ∙ record-later (now bytes) n
+
+pub handed-all : HandedAll
+handed-all bytes n h = (
+  handed-out bytes n ∙ at-past (now bytes) n h,
+  later-is bytes (suc n) ∙ ap (λ (k : ℕ). record { bytes = bytes; next = k }) (omega arith) ∙ sym (later-is bytes n),
+)
