@@ -1,7 +1,5 @@
--- `list::reader::ListReader::next` meets its contract: a walk of its MIR, by hand. The borrow is opened, the fields are read, `record_at` and `place_after` are called on them
--- with copies of what the struct owns (`Held.antt`), the place that `place_after` returned is stored, and the borrow is closed at the struct with that place.
--- All that the proof knows of the two is that each meets its contract.
--- Assumes nothing.
+-- `list::ListReader::next` meets its contract, walked by hand: the borrow is opened, the fields are read, `record_at` and `place_after` are called
+-- with them, the place that came back is stored, and the borrow is closed at the reader with that place. Assumes nothing.
 use mathlib.Core.Path.{_≡_, refl, ap}
 use Prim.Native.Nat.{ℕ, _<_, _^_}
 use mathlib.Core.List.{List, [], _∷_}
@@ -19,7 +17,7 @@ use ghost.Atoms.{Atoms, sem}
 use contract.Lifetimes.{AllOutlive}
 use contract.Monad.{Fun, fact}
 use contract.Running.{givenOf, tables, tablesOf}
-use types.Kit.{Given, ‵, raw, _⊛_, ⋆, some, later, _$_, _∵_, !, qed, by, move, keep, drop, use1, use2, split, join, pick, rewrite, fsplit, fsplit3, fjoin, fjoin3, feqI, suffices, frame, await, done}
+use types.Kit.{Given, Item, ‵, raw, _⊛_, ⋆, some, later, _$_, _∵_, !, qed, by, move, keep, drop, use1, use2, split, join, pick, rewrite, fsplit, fsplit3, fjoin, fjoin3, feqI, suffices, frame, await, done}
 use types.Part.{whole, sub, look-in, store-in}
 use types.Run.{look, init, forget, stop, hop, fld, from, load, of-opd, and-then, no-more, assigns, land, returns, enter, alloc1, alloc0, params1, pass1, pass0, free1, free0}
 use types.SemTy.{Body}
@@ -31,7 +29,7 @@ use denote.Plain.{uint-lawful}
 use denote.Builtin.{usize}
 use denote.Ref.{RefT, NamedLft, MutRef, now, ptr-vals, mut-tells}
 use denote.Signature.{Slot, plain, namedLft}
-use denote.Steps.{only, opens, closes, peeks, heard, nothing}
+use denote.Steps.{only, opens, closes, peeks, owned, nothing}
 use denote.Struct.Laws as LL
 use denote.Struct.Steps.{spelt}
 use denote.Triple.Statement.{Contract, Triple}
@@ -48,7 +46,7 @@ use Rattle.list.proofs.ListReader as T
 use Rattle.list.proofs.ListReader.Laws as T′
 use Rattle.list.proofs.Numbered as N
 use Rattle.list.proofs.Numbered.Laws as N′
-use Rattle.list.proofs.Held.{RecordAt, PlaceAfter, placed, Own, to-record-at, to-place-after, asks-record-at, asks-place-after, record-at-said, place-after-said, owned-at}
+use Rattle.list.proofs.Held.{Token, returned, RecordAt, PlaceAfter, placed, Own, to-record-at, to-place-after, asks-record-at, asks-place-after, record-at-said, place-after-said, owned-at}
 use Rattle.list.proofs.records.record_at as record-at
 use Rattle.list.proofs.records.record_at.Symbol as record-at-def
 use Rattle.list.proofs.records.record_at.Symbol.{name as #list·record-at}
@@ -95,16 +93,28 @@ module _ {M : Type 1} (𝓤 : URA M) (H : Heap 𝓤) (A : Atoms 𝓤) (W : Given
   abbrev Owned : Fml
   Owned = Own 𝓤 H A W at-mem run α q′ h
 
+  -- the token of 'a
+  abbrev Tok : Item 𝓤
+  Tok = Token 𝓤 H A W κ′ q′ (h .bytes)
+
+  -- what the two calls are passed
+  abbrev to-r : RecordAt 𝓤 H A at-mem run .Ghost
+  to-r = to-record-at 𝓤 H A W at-mem run α q′ h
+
+  abbrev to-p : PlaceAfter 𝓤 H A at-mem run .Ghost
+  to-p = to-place-after 𝓤 H A W at-mem run α q′ h
+
   abbrev Post : Val → SProp 𝓤
   Post = walkOf 𝓤 H A next.ended stayed (next.clauses 𝓤 H A at-mem run) .post (((κ, (κ′, tt)), (q, (q′, tt)), bounds, x, at), tt)
 
-  exits : (r : Numbered) (u : Val) (m : ℕ) → r ≡ found → m ≡ after → ent 𝓤 (⋆ 𝓤 H A (‵ (N.the-row .own r (u ∷ [])) ∷ ‵ (fobs γ (R .coded .code (placed h m))) ∷ ‵ (fbor κ (Body (mem R) b o γ)) ∷ ‵ (flft κ q) ∷ (‵ (flft κ′ q′) ⊛ ‵ ftrue) ∷ [])) (Post u)
-  exits r u m e e′ =
-      qed W (‵ (N.the-row .own r (u ∷ [])) ∷ ‵ (fobs γ (R .coded .code (placed h m))) ∷ ‵ (fbor κ (Body (mem R) b o γ)) ∷ ‵ (flft κ q) ∷ (‵ (flft κ′ q′) ⊛ ‵ ftrue) ∷ []) ∵
+  exits : (r : Numbered) (u : Val) (m : ℕ) → Is N.the-row r (u ∷ []) → r ≡ found → m ≡ after → ent 𝓤 (⋆ 𝓤 H A (‵ (fobs γ (R .coded .code (placed h m))) ∷ ‵ (fbor κ (Body (mem R) b o γ)) ∷ ‵ (flft κ q) ∷ Tok ∷ [])) (Post u)
+  exits r u m is e e′ =
+      qed W (‵ (fobs γ (R .coded .code (placed h m))) ∷ ‵ (fbor κ (Body (mem R) b o γ)) ∷ ‵ (flft κ q) ∷ Tok ∷ []) ∵
       suffices ! _ (ends-at 𝓤 H A next.ended stayed (next.clauses 𝓤 H A at-mem run) W (((κ, (κ′, tt)), (q, (q′, tt)), bounds, x, at), tt) u r (placed h m, tt) (tt, tt)) $ says ! (e, ap (placed h) e′) $
-      move ! (3 ∷ 4 ∷ []) $ join ! $ frame ! $ move ! (1 ∷ 2 ∷ []) $ feqI ! (List Val) (vptr b o ∷ []) (vptr b o ∷ []) refl $ fjoin3 ! $ nothing ! $ move ! (1 ∷ 0 ∷ []) $ fjoin ! $ frame ! $ done !
+      move ! (2 ∷ 3 ∷ []) $ join ! $ frame ! $ feqI ! (List Val) (vptr b o ∷ []) (vptr b o ∷ []) refl $ fjoin3 ! $ nothing ! $ move ! (1 ∷ 0 ∷ []) $ fjoin ! $ frame ! $
+      owned ! N.the-row (Is N.the-row) (LL.makes N.the-type N′.the-plain 𝓤 H A) r _ is $ done !
 
-  -- what whoever holds the struct knows of its machine value
+  -- what whoever holds the reader knows of its machine value
   typed : Is R h (mach ∷ []) → Holds (hasTy (T′.mir (named 1)) mach) × WT mach
   typed was = LL.lawful (T.the-type α) (T′.the-laws α) 𝓤 H A W .typed h _ was .0
 
@@ -114,38 +124,33 @@ module _ {M : Type 1} (𝓤 : URA M) (H : Heap 𝓤) (A : Atoms 𝓤) (W : Given
         qed W ((‵ (flft κ q) ⊛ ‵ (flft κ′ q′) ⊛ ‵ ftrue) ∷ ‵ (owns (MutRef (named 0) κ R ∷ []) x at) ∷ []) ∵ enter ! C Λ code.function (vptr b o ∷ []) _ $
         alloc1 ! (λ l₀. alloc1 ! (λ l₁. alloc1 ! (λ l₂. alloc1 ! (λ l₃. alloc1 ! (λ l₄. alloc1 ! (λ l₅. alloc0 ! $ params1 ! $ pass1 ! (init ! 8 refl (tt, tt)) $ pass0 ! $
         -- the borrow is opened
-        move ! (13 ∷ []) $ fsplit ! $ fsplit3 ! $ drop ! $ move ! (15 ∷ []) $ split ! $ move ! (2 ∷ 3 ∷ 0 ∷ []) $
+        move ! (13 ∷ []) $ fsplit ! $ move ! (1 ∷ []) $ drop ! $ fsplit3 ! $ drop ! $ move ! (14 ∷ []) $ split ! $ move ! (2 ∷ 3 ∷ 0 ∷ []) $
         opens ! tt R {h = h} b o (λ vs. spelt ! R (Is R) (shows 𝓤 H A R) (LL.vals (T.the-type α) (T′.the-laws α)) (LL.tells (T.the-type α) (T′.the-laws α)) fullShare h vs b o $
         use1 W (‵ (fat fullShare (T′.mir erased) b o mach)) (W .laws .raw-at fullShare (T′.mir erased) b o mach) $
-        move ! (1 ∷ []) $ peeks ! R (Is R) (shows 𝓤 H A R) h (mach ∷ []) (λ was. move ! (1 ∷ 0 ∷ []) $
-        -- [the struct's cell; what it owns; the open borrow; obs; auth; 'a's token; nothing; _5; …; _4; …; _3; …; _2; …; _1; …; room for _0; …]
-        assigns ! (of-opd ! (load ! (from ! (hop ! (look ! 15 refl) (fld ! refl (stop !)))) (look-in ! 0 (sub ! 0 refl (whole !))))) (from ! (stop !)) (init ! 13 refl (tt, typed was .1 .0)) $
-        assigns ! (of-opd ! (load ! (from ! (hop ! (look ! 15 refl) (fld ! refl (stop !)))) (look-in ! 0 (sub ! 1 refl (whole !))))) (from ! (stop !)) (init ! 11 refl (tt, typed was .1 .1 .0)) $
+        move ! (1 ∷ []) $ peeks ! R (Is R) (shows 𝓤 H A R) h (mach ∷ []) (λ was. move ! (5 ∷ 0 ∷ []) $
+        -- [the token; what the reader owns; its cell; the open borrow; obs; auth; room for _5; …; _4; …; _3; …; _2; …; _1; …; room for _0; …]: the fields are read
+        assigns ! (of-opd ! (load ! (from ! (hop ! (look ! 14 refl) (fld ! refl (stop !)))) (look-in ! 2 (sub ! 0 refl (whole !))))) (from ! (stop !)) (init ! 12 refl (tt, typed was .1 .0)) $
+        assigns ! (of-opd ! (load ! (from ! (hop ! (look ! 14 refl) (fld ! refl (stop !)))) (look-in ! 2 (sub ! 1 refl (whole !))))) (from ! (stop !)) (init ! 10 refl (tt, typed was .1 .1 .0)) $
         -- `record_at`
-        move ! (5 ∷ 1 ∷ []) $ use2 W (raw (RecordAt 𝓤 H A at-mem run .pre (to-record-at 𝓤 H A W at-mem run α q′ h)) ⊛ ‵ Owned) (asks-record-at 𝓤 H A W at-mem run α q′ h (typed was .1 .1 .0 .fits)) $ split ! $
-        calls-at ! fm (RecordAt 𝓤 H A at-mem run) known-record-at (to-record-at 𝓤 H A W at-mem run α q′ h) (and-then ! (load ! (from ! (stop !)) (look ! 13 refl)) (and-then ! (load ! (from ! (stop !)) (look ! 11 refl)) (no-more !))) (λ u.
-        use1 W (later (some (λ (r : Numbered). ((‵ (flft κ′ q′) ⊛ ‵ ftrue) ⊛ ‵ (N.the-row .own r (u ∷ []))) ⊛ raw (ensured 𝓤 H A record-at.ended (record-at.clauses 𝓤 H A at-mem run) (κ′, tt) (h .bytes, (h .next, tt)) tt r)))) (id⊢ 𝓤 _) $ await ! tt $ pick ! (λ r.
-        split ! $ move ! (1 ∷ []) $ use1 W (raw (fact 𝓤 (r ≡ found))) (record-at-said 𝓤 H A W at-mem run α q′ h r) $ heard ! (r ≡ found) (λ e. split ! $ move ! (1 ∷ []) $
-        -- [the record; 'a's token; what the struct owns; its cell; the open borrow; obs; auth; nothing; _5; …; _4; …; _3; …; _2; …; _1; …; room for _0; …]
-        peeks ! N.the-row (Is N.the-row) (shows 𝓤 H A N.the-row) r (u ∷ []) (λ is.
-        land ! (from ! (stop !)) (init ! 10 refl (LL.lawful N.the-type N′.the-laws 𝓤 H A W .typed r _ is .0)) $
+        use2 W (raw (RecordAt 𝓤 H A at-mem run .pre to-r) ⊛ ‵ Owned) (asks-record-at 𝓤 H A W at-mem run α q′ h (typed was .1 .1 .0 .fits)) $ split ! $
+        calls-at ! fm (RecordAt 𝓤 H A at-mem run) known-record-at to-r (and-then ! (load ! (from ! (stop !)) (look ! 12 refl)) (and-then ! (load ! (from ! (stop !)) (look ! 10 refl)) (no-more !))) (λ u.
+        returned ! tt Tok N.the-row (u ∷ []) (record-at-said 𝓤 H A W at-mem run α q′ h) (λ r e is.
+        land ! (from ! (stop !)) (init ! 9 refl (LL.lawful N.the-type N′.the-laws 𝓤 H A W .typed r _ is .0)) $ drop ! $
         -- `place_after`
-        move ! (1 ∷ 2 ∷ []) $ use2 W (raw (PlaceAfter 𝓤 H A at-mem run .pre (to-place-after 𝓤 H A W at-mem run α q′ h)) ⊛ ‵ Owned) (asks-place-after 𝓤 H A W at-mem run α q′ h (typed was .1 .1 .0 .fits)) $ split ! $
-        calls-at ! fm (PlaceAfter 𝓤 H A at-mem run) known-place-after (to-place-after 𝓤 H A W at-mem run α q′ h) (and-then ! (load ! (from ! (stop !)) (look ! 14 refl)) (and-then ! (load ! (from ! (stop !)) (look ! 12 refl)) (no-more !))) (λ w.
-        use1 W (later (some (λ (m : ℕ). ((‵ (flft κ′ q′) ⊛ ‵ ftrue) ⊛ ‵ (usize .own m (w ∷ []))) ⊛ raw (ensured 𝓤 H A place-after.ended (place-after.clauses 𝓤 H A at-mem run) (κ′, tt) (h .bytes, (h .next, tt)) tt m)))) (id⊢ 𝓤 _) $ await ! tt $ pick ! (λ m.
-        split ! $ move ! (1 ∷ []) $ use1 W (raw (fact 𝓤 (m ≡ after))) (place-after-said 𝓤 H A W at-mem run α q′ h m) $ heard ! (m ≡ after) (λ e′. split ! $ move ! (1 ∷ []) $
-        peeks ! usize (Is usize) (shows 𝓤 H A usize) m (w ∷ []) (λ is′.
-        land ! (from ! (stop !)) (init ! 9 refl (uint-lawful 𝓤 H A W w64 .typed m _ is′ .0)) $ rewrite ! 9 (λ (v : Val). ‵ (fat fullShare (tyInt w64) l₅ 0 v)) (ap only (is′ .0)) refl $
-        -- [the place; 'a's token; what the struct owns; the record; the cell; the open borrow; obs; auth; nothing; _5; …; _4; …; _3; …; _2; …; _1; …; room for _0; …]
-        assigns ! (of-opd ! (load ! (from ! (stop !)) (look ! 9 refl))) (from ! (hop ! (look ! 17 refl) (fld ! refl (stop !)))) (store-in ! 4 (sub ! 1 refl (whole !)) (tt, record { fits = is′ .1 })) $
-        assigns ! (of-opd ! (load ! (from ! (stop !)) (look ! 11 refl))) (from ! (stop !)) (init ! 19 refl (LL.lawful N.the-type N′.the-laws 𝓤 H A W .typed r _ is .0)) $
+        use2 W (raw (PlaceAfter 𝓤 H A at-mem run .pre to-p) ⊛ ‵ Owned) (asks-place-after 𝓤 H A W at-mem run α q′ h (typed was .1 .1 .0 .fits)) $ split ! $
+        calls-at ! fm (PlaceAfter 𝓤 H A at-mem run) known-place-after to-p (and-then ! (load ! (from ! (stop !)) (look ! 12 refl)) (and-then ! (load ! (from ! (stop !)) (look ! 10 refl)) (no-more !))) (λ w.
+        returned ! tt Tok usize (w ∷ []) (place-after-said 𝓤 H A W at-mem run α q′ h) (λ m e′ is′.
+        land ! (from ! (stop !)) (init ! 7 refl (uint-lawful 𝓤 H A W w64 .typed m _ is′ .0)) $ rewrite ! 7 (λ (v : Val). ‵ (fat fullShare (tyInt w64) l₅ 0 v)) (ap only (is′ .0)) refl $ drop ! $
+        -- [the token; what the reader owns; its cell; the open borrow; obs; auth; room for _5; …; …; room for _0; …]: the place is stored, and the record is the answer
+        assigns ! (of-opd ! (load ! (from ! (stop !)) (look ! 6 refl))) (from ! (hop ! (look ! 14 refl) (fld ! refl (stop !)))) (store-in ! 2 (sub ! 1 refl (whole !)) (tt, record { fits = is′ .1 })) $
+        assigns ! (of-opd ! (load ! (from ! (stop !)) (look ! 8 refl))) (from ! (stop !)) (init ! 16 refl (LL.lawful N.the-type N′.the-laws 𝓤 H A W .typed r _ is .0)) $
         -- the borrow is closed
-        move ! (2 ∷ []) $ use1 W (‵ (R .own (placed h m) (T′.lowered (placed h m) ∷ []))) (owned-at 𝓤 H A W at-mem run α q′ h m (is′ .1)) $
-        move ! (4 ∷ []) $ use1 W (‵ (cellAt fullShare (R .mir) (T′.lowered (placed h m) ∷ []) b o)) (W .laws .at-raw fullShare (T′.mir erased) b o (T′.lowered (placed h m))) $
-        move ! (0 ∷ 1 ∷ 5 ∷ 6 ∷ 7 ∷ []) $ closes ! tt R (placed h m) (T′.lowered (placed h m) ∷ []) b o $
-        returns ! (look ! 17 refl) $ forget ! 7 refl $ forget ! 9 refl $ forget ! 11 refl $ forget ! 13 refl $ forget ! 15 refl $ forget ! 17 refl $
-        move ! (17 ∷ 18 ∷ []) $ free1 ! $ move ! (15 ∷ 16 ∷ []) $ free1 ! $ move ! (13 ∷ 14 ∷ []) $ free1 ! $ move ! (11 ∷ 12 ∷ []) $ free1 ! $ move ! (9 ∷ 10 ∷ []) $ free1 ! $ move ! (7 ∷ 8 ∷ []) $ free1 ! $ free0 ! $
-        move ! (5 ∷ 0 ∷ 1 ∷ 2 ∷ 4 ∷ []) $ keep ! (0 ∷ 1 ∷ 2 ∷ 3 ∷ 4 ∷ []) $ by ! (exits r u m e e′)))))))))))))))))
+        move ! (1 ∷ []) $ use1 W (‵ (R .own (placed h m) (T′.lowered (placed h m) ∷ []))) (owned-at 𝓤 H A W at-mem run α q′ h m (is′ .1)) $
+        move ! (2 ∷ []) $ use1 W (‵ (cellAt fullShare (R .mir) (T′.lowered (placed h m) ∷ []) b o)) (W .laws .at-raw fullShare (T′.mir erased) b o (T′.lowered (placed h m))) $
+        move ! (0 ∷ 1 ∷ 3 ∷ 4 ∷ 5 ∷ []) $ closes ! tt R (placed h m) (T′.lowered (placed h m) ∷ []) b o $
+        returns ! (look ! 14 refl) $ forget ! 4 refl $ forget ! 6 refl $ forget ! 8 refl $ forget ! 10 refl $ forget ! 12 refl $ forget ! 14 refl $
+        move ! (14 ∷ 15 ∷ []) $ free1 ! $ move ! (12 ∷ 13 ∷ []) $ free1 ! $ move ! (10 ∷ 11 ∷ []) $ free1 ! $ move ! (8 ∷ 9 ∷ []) $ free1 ! $ move ! (6 ∷ 7 ∷ []) $ free1 ! $ move ! (4 ∷ 5 ∷ []) $ free1 ! $ free0 ! $
+        by ! (exits r u m is e e′)))))))))))))
 
 module _ {M : Type 1} (𝓤 : URA M) (H : Heap 𝓤) (A : Atoms 𝓤) (W : Given 𝓤 H A) (mem : Memory → SProp 𝓤) (run : Routine → Fun 𝓤) where
   next-walks : (C : Calls 𝓤 H) (Λ : Loops 𝓤 H) → FmC 𝓤 H (W .laws) C → Triple 𝓤 (C #list·record-at) (RecordAt 𝓤 H A mem run) → Triple 𝓤 (C #list·place-after) (PlaceAfter 𝓤 H A mem run)

@@ -51,7 +51,7 @@ use Rattle.list.proofs.Opened as O
 use Rattle.list.proofs.Opened.Laws as O′
 use Rattle.list.proofs.Stepped as S
 use Rattle.list.proofs.Stepped.Laws as S′
-use Rattle.list.proofs.Held.{slice, Token, Bytes, Lent, lends, takes, by-reader}
+use Rattle.list.proofs.Held.{slice, Token, Bytes, Lent, lends, returned, takes, by-reader}
 use Rattle.list.proofs.reader.open as open-fn
 use Rattle.list.proofs.reader.open.Symbol as open-def
 use Rattle.list.proofs.reader.open.Symbol.{name as #list·open}
@@ -161,30 +161,20 @@ module _ {M : Type 1} (𝓤 : URA M) (H : Heap 𝓤) (A : Atoms 𝓤) (W : Given
         -- [what bytes owns; room for _10; …; _9; …; _8; …; _7; …; _6; …; _5; …; _4; …; _3; …; _2; …; _1; …; room for _0; …; the token]
         -- `open`
         move ! (23 ∷ 0 ∷ []) $ use2 W (raw (Open 𝓤 H A mem run .pre to-open) ⊛ ‵ Own) asks-open $ split ! $
-        calls-at ! fm (Open 𝓤 H A mem run) known-open to-open (and-then ! (load ! (from ! (stop !)) (look ! 20 refl)) (no-more !)) (λ u.
-        use1 W (later (some (λ (r : Opened). (Tok ⊛ ‵ (O.the-row α .own r (u ∷ []))) ⊛ raw (ensured 𝓤 H A open-fn.ended (open-fn.clauses 𝓤 H A mem run) (κ, tt) (s, tt) tt r)))) (id⊢ 𝓤 _) $ await ! tt $ pick ! (λ r.
-        split ! $ move ! (1 ∷ []) $ use1 W (raw (fact 𝓤 (r ≡ opened s))) (open-said r) $ heard ! (r ≡ opened s) (λ e. split ! $ move ! (1 ∷ []) $
-        -- [what the answer owns; the token; what bytes owns; room for _10; …; …; room for _0; …]
-        peeks ! (O.the-row α) (Is (O.the-row α)) (shows 𝓤 H A (O.the-row α)) r (u ∷ []) (λ is.
+        calls-at ! fm (Open 𝓤 H A mem run) known-open to-open (and-then ! (load ! (from ! (stop !)) (look ! 20 refl)) (no-more !)) (λ u. returned ! tt Tok (O.the-row α) (u ∷ []) open-said (λ r e is.
         land ! (from ! (stop !)) (init ! 19 refl (LL.lawful (O.the-type αᵉ) (O′.the-laws αᵉ) 𝓤 H A W .typed r _ is .0)) $ rewrite ! 19 (λ (w : Val). ‵ (fat fullShare (O′.mir erased) l₂ 0 w)) (ap only (spelled-o r u is)) refl $
         use1 W (‵ (T.the-row α .own (r .reader) (low-t (r .reader) ∷ []))) (takes 𝓤 H A W (O.the-type α) (O′.the-laws α) 2 (r .status, (r .count, (r .reader, tt))) u) $
         assigns ! (of-opd ! (load ! (from ! (fld ! refl (stop !))) (look-in ! 19 (sub ! 2 refl (whole !))))) (from ! (stop !)) (init ! 13 refl (LL.lawful (T.the-type αᵉ) (T′.the-laws αᵉ) 𝓤 H A W .typed (r .reader) _ (LL.owed (O.the-type α) (O′.the-laws α) r _ is .1 .1 .0) .0)) $
         -- [what the reader owns; the token; what bytes owns; room for _10; …; …; room for _0; …]
         -- `step`
         use2 W (raw (Step 𝓤 H A mem run .pre (to-step (r .reader)))) (asks-step (r .reader)) $
-        calls-at ! fm (Step 𝓤 H A mem run) known-step (to-step (r .reader)) (and-then ! (load ! (from ! (stop !)) (look ! 12 refl)) (no-more !)) (λ u′.
-        use1 W (later (some (λ (t : Stepped). (Tok ⊛ ‵ (S.the-row α .own t (u′ ∷ []))) ⊛ raw (ensured 𝓤 H A step-fn.ended (step-fn.clauses 𝓤 H A mem run) (κ, tt) (r .reader, tt) tt t)))) (id⊢ 𝓤 _) $ await ! tt $ pick ! (λ t.
-        split ! $ move ! (1 ∷ []) $ use1 W (raw (fact 𝓤 (t ≡ stepped (r .reader)))) (step-said (r .reader) t) $ heard ! (t ≡ stepped (r .reader)) (λ e′. split ! $ move ! (1 ∷ []) $
-        peeks ! (S.the-row α) (Is (S.the-row α)) (shows 𝓤 H A (S.the-row α)) t (u′ ∷ []) (λ is′.
+        calls-at ! fm (Step 𝓤 H A mem run) known-step (to-step (r .reader)) (and-then ! (load ! (from ! (stop !)) (look ! 12 refl)) (no-more !)) (λ u′. returned ! tt Tok (S.the-row α) (u′ ∷ []) (step-said (r .reader)) (λ t e′ is′.
         land ! (from ! (stop !)) (init ! 17 refl (LL.lawful (S.the-type αᵉ) (S′.the-laws αᵉ) 𝓤 H A W .typed t _ is′ .0)) $ rewrite ! 17 (λ (w : Val). ‵ (fat fullShare (S′.mir erased) l₃ 0 w)) (ap only (spelled-s t u′ is′)) refl $
         use1 W (‵ (T.the-row α .own (t .reader) (low-t (t .reader) ∷ []))) (takes 𝓤 H A W (S.the-type α) (S′.the-laws α) 1 (t .item, (t .reader, tt)) u′) $
         assigns ! (of-opd ! (load ! (from ! (fld ! refl (stop !))) (look-in ! 17 (sub ! 1 refl (whole !))))) (from ! (stop !)) (init ! 11 refl (LL.lawful (T.the-type αᵉ) (T′.the-laws αᵉ) 𝓤 H A W .typed (t .reader) _ (LL.owed (S.the-type α) (S′.the-laws α) t _ is′ .1 .0) .0)) $
         -- `step` again
         use2 W (raw (Step 𝓤 H A mem run .pre (to-step (t .reader)))) (asks-step (t .reader)) $
-        calls-at ! fm (Step 𝓤 H A mem run) known-step (to-step (t .reader)) (and-then ! (load ! (from ! (stop !)) (look ! 10 refl)) (no-more !)) (λ u″.
-        use1 W (later (some (λ (t′ : Stepped). (Tok ⊛ ‵ (S.the-row α .own t′ (u″ ∷ []))) ⊛ raw (ensured 𝓤 H A step-fn.ended (step-fn.clauses 𝓤 H A mem run) (κ, tt) (t .reader, tt) tt t′)))) (id⊢ 𝓤 _) $ await ! tt $ pick ! (λ t′.
-        split ! $ move ! (1 ∷ []) $ use1 W (raw (fact 𝓤 (t′ ≡ stepped (t .reader)))) (step-said (t .reader) t′) $ heard ! (t′ ≡ stepped (t .reader)) (λ e″. split ! $ move ! (1 ∷ []) $
-        peeks ! (S.the-row α) (Is (S.the-row α)) (shows 𝓤 H A (S.the-row α)) t′ (u″ ∷ []) (λ is″.
+        calls-at ! fm (Step 𝓤 H A mem run) known-step (to-step (t .reader)) (and-then ! (load ! (from ! (stop !)) (look ! 10 refl)) (no-more !)) (λ u″. returned ! tt Tok (S.the-row α) (u″ ∷ []) (step-said (t .reader)) (λ t′ e″ is″.
         land ! (from ! (stop !)) (init ! 15 refl (LL.lawful (S.the-type αᵉ) (S′.the-laws αᵉ) 𝓤 H A W .typed t′ _ is″ .0)) $ rewrite ! 15 (λ (w : Val). ‵ (fat fullShare (S′.mir erased) l₄ 0 w)) (ap only (spelled-s t′ u″ is″)) refl $ drop ! $
         -- [the token; what bytes owns; room for _10; …; …; room for _0; …]: the parts of the answer, and the answer
         assigns ! (of-opd ! (load ! (from ! (fld ! refl (stop !))) (look-in ! 18 (sub ! 0 refl (whole !))))) (from ! (stop !)) (init ! 8 refl (uint-lawful 𝓤 H A W w8 .typed (r .status) _ (LL.owed (O.the-type α) (O′.the-laws α) r _ is .0) .0)) $
@@ -196,7 +186,7 @@ module _ {M : Type 1} (𝓤 : URA M) (H : Heap 𝓤) (A : Atoms 𝓤) (W : Given
         returns ! (look ! 22 refl) $ forget ! 2 refl $ forget ! 4 refl $ forget ! 6 refl $ forget ! 8 refl $ forget ! 10 refl $ forget ! 12 refl $ forget ! 14 refl $ forget ! 16 refl $ forget ! 18 refl $ forget ! 20 refl $ forget ! 22 refl $
         move ! (22 ∷ 23 ∷ []) $ free1 ! $ move ! (20 ∷ 21 ∷ []) $ free1 ! $ move ! (18 ∷ 19 ∷ []) $ free1 ! $ move ! (16 ∷ 17 ∷ []) $ free1 ! $ move ! (14 ∷ 15 ∷ []) $ free1 ! $ move ! (12 ∷ 13 ∷ []) $ free1 ! $
         move ! (10 ∷ 11 ∷ []) $ free1 ! $ move ! (8 ∷ 9 ∷ []) $ free1 ! $ move ! (6 ∷ 7 ∷ []) $ free1 ! $ move ! (4 ∷ 5 ∷ []) $ free1 ! $ move ! (2 ∷ 3 ∷ []) $ free1 ! $ free0 ! $
-        by ! (exits r t t′ (is-made r t t′ u u′ u″ is is′ is″) e e′ e″))))))))))))))))))))))))
+        by ! (exits r t t′ (is-made r t t′ u u′ u″ is is′ is″) e e′ e″))))))))))))))))))
 
 module _ {M : Type 1} (𝓤 : URA M) (H : Heap 𝓤) (A : Atoms 𝓤) (W : Given 𝓤 H A) (mem : Memory → SProp 𝓤) (run : Routine → Fun 𝓤) where
   first-two-walks : (C : Calls 𝓤 H) (Λ : Loops 𝓤 H) → FmC 𝓤 H (W .laws) C → Triple 𝓤 (C #list·open) (Open 𝓤 H A mem run) → Triple 𝓤 (C #list·step) (Step 𝓤 H A mem run)

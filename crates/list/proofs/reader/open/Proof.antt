@@ -43,7 +43,7 @@ use Rattle.list.proofs.ListReader as T
 use Rattle.list.proofs.ListReader.Laws as T′
 use Rattle.list.proofs.Opened as O
 use Rattle.list.proofs.Opened.Laws as O′
-use Rattle.list.proofs.Held.{slice, Token, Bytes, Lent, lends}
+use Rattle.list.proofs.Held.{slice, Token, Bytes, Lent, lends, returned}
 use Rattle.list.proofs.head.list_fault as list-fault
 use Rattle.list.proofs.head.list_fault.Symbol as list-fault-def
 use Rattle.list.proofs.head.list_fault.Symbol.{name as #list·list-fault}
@@ -131,18 +131,12 @@ module _ {M : Type 1} (𝓤 : URA M) (H : Heap 𝓤) (A : Atoms 𝓤) (W : Given
         -- [what bytes owns; room for _4; …; _3; …; _2; …; _1; …; room for _0; …; the token]
         -- `list_fault`
         move ! (11 ∷ 0 ∷ []) $ use2 W (raw (ListFault 𝓤 H A mem run .pre to-list-fault) ⊛ ‵ Own) asks-list-fault $ split ! $
-        calls-at ! fm (ListFault 𝓤 H A mem run) known-list-fault to-list-fault (and-then ! (load ! (from ! (stop !)) (look ! 8 refl)) (no-more !)) (λ u.
-        use1 W (later (some (λ (k : ℕ). (Tok ⊛ ‵ (u8 .own k (u ∷ []))) ⊛ raw (ensured 𝓤 H A list-fault.ended (list-fault.clauses 𝓤 H A mem run) (κ, tt) (s, tt) tt k)))) (id⊢ 𝓤 _) $ await ! tt $ pick ! (λ k.
-        split ! $ move ! (1 ∷ []) $ use1 W (raw (fact 𝓤 (k ≡ listFault (now s) .status))) (list-fault-said k) $ heard ! (k ≡ listFault (now s) .status) (λ e. split ! $ move ! (1 ∷ []) $
-        peeks ! u8 (Is u8) (shows 𝓤 H A u8) k (u ∷ []) (λ is.
+        calls-at ! fm (ListFault 𝓤 H A mem run) known-list-fault to-list-fault (and-then ! (load ! (from ! (stop !)) (look ! 8 refl)) (no-more !)) (λ u. returned ! tt Tok u8 (u ∷ []) list-fault-said (λ k e is.
         land ! (from ! (stop !)) (init ! 7 refl (uint-lawful 𝓤 H A W w8 .typed k _ is .0)) $ rewrite ! 7 (λ (w : Val). ‵ (fat fullShare (tyInt w8) l₂ 0 w)) (ap only (is .0)) refl $ drop ! $
         -- [the token; what bytes owns; room for _4; …; _3; …; _2; …; _1; …; room for _0; …]
         -- `record_count`
         use2 W (raw (RecordCount 𝓤 H A mem run .pre to-record-count) ⊛ ‵ Own) asks-record-count $ split ! $
-        calls-at ! fm (RecordCount 𝓤 H A mem run) known-record-count to-record-count (and-then ! (load ! (from ! (stop !)) (look ! 8 refl)) (no-more !)) (λ u′.
-        use1 W (later (some (λ (n : ℕ). (Tok ⊛ ‵ (usize .own n (u′ ∷ []))) ⊛ raw (ensured 𝓤 H A record-count.ended (record-count.clauses 𝓤 H A mem run) (κ, tt) (s, tt) tt n)))) (id⊢ 𝓤 _) $ await ! tt $ pick ! (λ n.
-        split ! $ move ! (1 ∷ []) $ use1 W (raw (fact 𝓤 (n ≡ recordCount (now s)))) (record-count-said n) $ heard ! (n ≡ recordCount (now s)) (λ e′. split ! $ move ! (1 ∷ []) $
-        peeks ! usize (Is usize) (shows 𝓤 H A usize) n (u′ ∷ []) (λ is′.
+        calls-at ! fm (RecordCount 𝓤 H A mem run) known-record-count to-record-count (and-then ! (load ! (from ! (stop !)) (look ! 8 refl)) (no-more !)) (λ u′. returned ! tt Tok usize (u′ ∷ []) record-count-said (λ n e′ is′.
         land ! (from ! (stop !)) (init ! 5 refl (uint-lawful 𝓤 H A W w64 .typed n _ is′ .0)) $ rewrite ! 5 (λ (w : Val). ‵ (fat fullShare (tyInt w64) l₃ 0 w)) (ap only (is′ .0)) refl $ drop ! $
         -- [the token; what bytes owns; room for _4; …; _3; …; _2; …; _1; …; room for _0; …]: the reader, and the answer
         assigns ! (agg ! (and-then ! (load ! (from ! (stop !)) (look ! 8 refl)) (and-then ! (lit ! tt) (no-more !)))) (from ! (stop !)) (init ! 2 refl (tt, (wt .1, (record { fits = lit< tt }, tt)))) $
@@ -150,7 +144,7 @@ module _ {M : Type 1} (𝓤 : URA M) (H : Heap 𝓤) (A : Atoms 𝓤) (W : Given
         (init ! 10 refl (tt, (record { fits = is .1 }, (record { fits = is′ .1 }, ((wt .1, (record { fits = lit< tt }, tt)), tt))))) $
         returns ! (look ! 10 refl) $ forget ! 2 refl $ forget ! 4 refl $ forget ! 6 refl $ forget ! 8 refl $ forget ! 10 refl $
         move ! (10 ∷ 11 ∷ []) $ free1 ! $ move ! (8 ∷ 9 ∷ []) $ free1 ! $ move ! (6 ∷ 7 ∷ []) $ free1 ! $ move ! (4 ∷ 5 ∷ []) $ free1 ! $ move ! (2 ∷ 3 ∷ []) $ free1 ! $ free0 ! $
-        by ! (exits k n (is .1) (is′ .1) e e′))))))))))))))
+        by ! (exits k n (is .1) (is′ .1) e e′))))))))))
 
 module _ {M : Type 1} (𝓤 : URA M) (H : Heap 𝓤) (A : Atoms 𝓤) (W : Given 𝓤 H A) (mem : Memory → SProp 𝓤) (run : Routine → Fun 𝓤) where
   open-walks : (C : Calls 𝓤 H) (Λ : Loops 𝓤 H) → FmC 𝓤 H (W .laws) C → Triple 𝓤 (C #list·list-fault) (ListFault 𝓤 H A mem run) → Triple 𝓤 (C #list·record-count) (RecordCount 𝓤 H A mem run)
