@@ -9,3 +9,5 @@ pub mod Answers
 pub mod Writing
 pub mod Listing
 pub mod Buffers
+-- What the walks of the reader share.
+mod Held
