@@ -11,8 +11,14 @@ pub record Decided
   pub free : (κ : K) (a : A κ) → pre κ a
   pub one : (κ : K) (a : A κ) (x y : R κ) (s t : E κ) → post κ a x s → post κ a y t → x ≡ y
 
--- bytes that are read off the result or off what was lent: two outcomes that the contract allows have the same
-pub record OneBytes
-    {K : Type 0} {A R E : K → Type 0}
-    (post : (κ : K) → A κ → R κ → E κ → Type 0) (bytes : (κ : K) → R κ → E κ → List ℕ) : Type 0 where
-  pub one : (κ : K) (a : A κ) (x y : R κ) (s t : E κ) → post κ a x s → post κ a y t → bytes κ x s ≡ bytes κ y t
+-- what is read off the result or off what was lent: two outcomes that the contract allows have the same
+pub record OneLeft
+    {K : Type 0} {A R E : K → Type 0} {B : Type 0}
+    (post : (κ : K) → A κ → R κ → E κ → Type 0) (left : (κ : K) → R κ → E κ → B) : Type 0 where
+  pub one : (κ : K) (a : A κ) (x y : R κ) (s t : E κ) → post κ a x s → post κ a y t → left κ x s ≡ left κ y t
+
+-- bytes that are left
+abbrev pub OneBytes :
+    {K : Type 0} {A R E : K → Type 0} →
+    ((κ : K) → A κ → R κ → E κ → Type 0) → ((κ : K) → R κ → E κ → List ℕ) → Type 0
+OneBytes post bytes = OneLeft post bytes

@@ -1,5 +1,6 @@
 -- Theorems to read first: Decided (each contract decides), Exact (each refusal exactly), Handing (what a reader hands out), Alone (what
 -- changes in a buffer), RoundTrip (there and back).
+pub mod Decided
 pub mod Exact
 pub mod Handing
 pub mod Alone
