@@ -15,11 +15,14 @@ use Rattle.plane.specs.Arrays.{zeros}
 use Rattle.faults.specs.Faults.{fault}
 use Rattle.plane.specs.Moves.{refused, judgeOf, roomOf}
 use Rattle.ready_made.specs.ReadyMade.{defaults}
-use Rattle.plane.specs.Settings.{withOffset, withSize, withStep, withDstOffset, withDstStride, withPerm, withPre, withPost}
+use Rattle.plane.specs.Settings.{zeroConfig, withOffset, withSize, withStep, withDstOffset, withDstStride, withPerm, withPre, withPost}
 use Rattle.plane.specs.Helpers.{noCount, countOf, subTensorOf}
 use Rattle.mover.specs.declared.Job.{Job}
 use Rattle.mover.specs.Moved.{moveMemory}
 use Rattle.mover.specs.SubPart.{subPart}
+use Rattle.list.specs.declared.Appended.{Appended}
+use Rattle.list.specs.Lists.{listFault, recordCount, recordAt, placeAfter}
+use Rattle.list.specs.Writers.{startFault, startedBuffer, noAppend, appendOf, appendedBuffer}
 use Rattle.transfers.specs.Calls.{prepareOf, startOf, stepOf, releaseOf, pollOf, pollNumbers}
 use Rattle.transfers.specs.Demand3.{Call, prepare, start, step, release, poll, World, begin, after}
 
@@ -41,6 +44,12 @@ pub data Example : Type 0 where
   room : Tensor → Config → RoomAnswer → Example
   -- tensor, start dimension; the element count
   count : Tensor → ℕ → Count → Example
+  -- a list's bytes; status and how many records, and then what calls of a reader answer: number, status and dimension
+  list : List ℕ → ℕ → ℕ → List (List ℕ) → Example
+  -- a buffer; status, the buffer after a list is started in it
+  begins : List ℕ → ℕ → List ℕ → Example
+  -- a buffer, how many first bytes are the list, a tensor, a configuration; the answer, the buffer after
+  append : List ℕ → ℕ → Tensor → Config → Appended → List ℕ → Example
 
 -- the letters that the paper marks its examples with, and what is not of A to L
 pub data Letter : Type 0 where
@@ -61,6 +70,9 @@ pub data Outcome : Type 0 where
   of-calls : List (List ℕ) → Outcome
   of-room : RoomAnswer → Outcome
   of-count : Count → Outcome
+  of-list : ℕ → ℕ → List (List ℕ) → Outcome
+  of-start : ℕ → List ℕ → Outcome
+  of-append : Appended → List ℕ → Outcome
 
 -- the status first; then prepare: the dimension and the handle; step: how many it moved; poll: the state and what is left
 abbrev pub reply : Call → World → List ℕ
@@ -79,6 +91,11 @@ abbrev pub expected : List Asked → List ℕ → List (List ℕ)
 expected [] out = out ∷ []
 expected (c answers a ∷ cs) out = a ∷ expected cs out
 
+-- what so many calls of a reader at record k answer, one after another
+abbrev pub handed : List ℕ → ℕ → ℕ → List (List ℕ)
+handed bs k zero = []
+handed bs k (suc n) = let r = recordAt bs k in (r .number ∷ r .reading .status ∷ r .reading .dim ∷ []) ∷ handed bs (placeAfter bs k) n
+
 -- what the definitions give, and what the example says
 abbrev pub given : Example → Outcome
 given (move t c source over a out) = of-move (judgeOf t c (length source) (length over)) (moveMemory t c source over)
@@ -86,6 +103,9 @@ given (sub t s source a part) = of-sub (subTensorOf t s (length source)) (subPar
 given (transfers m cs out) = of-calls (replies cs (begin (length m) m))
 given (room t c a) = of-room (roomOf t c)
 given (count t from a) = of-count (countOf t from)
+given (list bs status n rs) = of-list (listFault bs .status) (recordCount bs) (handed bs 0 (length rs))
+given (begins buffer status out) = of-start (startFault buffer .status) (startedBuffer buffer)
+given (append buffer n t c a out) = of-append (appendOf buffer n t c) (appendedBuffer buffer n t c)
 
 abbrev pub said : Example → Outcome
 said (move t c source over a out) = of-move a out
@@ -93,6 +113,9 @@ said (sub t s source a part) = of-sub a part
 said (transfers m cs out) = of-calls (expected cs out)
 said (room t c a) = of-room a
 said (count t from a) = of-count a
+said (list bs status n rs) = of-list status n rs
+said (begins buffer status out) = of-start status out
+said (append buffer n t c a out) = of-append a out
 
 -- entry by entry, each under its letter
 abbrev pub outcomes : (Example → Outcome) → List Row → List (Letter × Outcome)
@@ -139,6 +162,22 @@ upTo (suc n) = upTo n ++ (suc n ∷ [])
 -- a destination of n bytes of which the paper says nothing more: a byte not written would show
 abbrev pub over : ℕ → List ℕ
 over n = replicate n 99
+
+-- the plane and the move of example A as a record has them, with zeros past the rank, and the record's bytes
+abbrev pub turnTensor : Tensor
+turnTensor = compact 2 1 (2 ∷ 3 ∷ 0 ∷ 0 ∷ [])
+
+abbrev pub turnConfig : Config
+turnConfig = withPerm (withStep zeroConfig (1 ∷ 1 ∷ 0 ∷ 0 ∷ [])) (1 ∷ 0 ∷ 0 ∷ 0 ∷ [])
+
+abbrev pub turnRecord : List ℕ
+turnRecord =
+    (82 ∷ 77 ∷ 86 ∷ 1 ∷ 0 ∷ 2 ∷ 1 ∷ 2 ∷ 0 ∷ 0 ∷ 0 ∷ 3 ∷ []) ++ replicate 59 0 ++
+    (1 ∷ 0 ∷ 0 ∷ 0 ∷ 1 ∷ []) ++ replicate 43 0 ++ (1 ∷ []) ++ replicate 11 0
+
+-- the head of a list that says n records
+abbrev pub headOf : ℕ → List ℕ
+headOf n = 82 ∷ 77 ∷ 76 ∷ 1 ∷ 0 ∷ n ∷ 0 ∷ []
 
 -- an accepted move: rank, element size, extents, destination strides, need
 abbrev pub acceptedMove : ℕ → ℕ → List ℕ → List ℕ → ℕ → Answer
@@ -272,4 +311,31 @@ table =
     -- and the other way round
     besides shows room (compact 2 1 (two 2 2)) (withDstOffset defaults (two 65536 1))
     (record { answer = refused (fault 12 0); span = 0 }) ∷
+    -- ---- lists
+    -- a list of no records; past the last it is 39, and 39 again
+    besides shows list (headOf 0) 0 0 ((0 ∷ 39 ∷ 0 ∷ []) ∷ (0 ∷ 39 ∷ 0 ∷ []) ∷ []) ∷
+    -- three records, the second with another mark: it has its number and 26, and the third is still read
+    besides shows list (headOf 3 ++ turnRecord ++ (0 ∷ []) ++ replicate 130 0 ++ turnRecord) 0 3
+    ((0 ∷ 0 ∷ 0 ∷ []) ∷ (1 ∷ 26 ∷ 0 ∷ []) ∷ (2 ∷ 0 ∷ 0 ∷ []) ∷ (0 ∷ 39 ∷ 0 ∷ []) ∷ (0 ∷ 39 ∷ 0 ∷ []) ∷ []) ∷
+    -- a count that the bytes do not have, one more and one less: 30, and no records
+    besides shows list (headOf 2 ++ turnRecord) 30 0 ((0 ∷ 39 ∷ 0 ∷ []) ∷ []) ∷
+    besides shows list (headOf 0 ++ turnRecord) 30 0 ((0 ∷ 39 ∷ 0 ∷ []) ∷ []) ∷
+    -- six bytes: 25; a record in a list's place: 26; version 257, whose low byte is 1: 27
+    besides shows list (82 ∷ 77 ∷ 76 ∷ 1 ∷ 0 ∷ 0 ∷ []) 25 0 ((0 ∷ 39 ∷ 0 ∷ []) ∷ []) ∷
+    besides shows list turnRecord 26 0 ((0 ∷ 39 ∷ 0 ∷ []) ∷ []) ∷
+    besides shows list (82 ∷ 77 ∷ 76 ∷ 1 ∷ 1 ∷ 0 ∷ 0 ∷ []) 27 0 ((0 ∷ 39 ∷ 0 ∷ []) ∷ []) ∷
+    -- started in nine bytes the last two stay; in six: 38, and nothing changes
+    besides shows begins (over 9) 0 (headOf 0 ++ (99 ∷ 99 ∷ [])) ∷
+    besides shows begins (over 6) 38 (over 6) ∷
+    -- A's move behind no record, in a buffer with one byte more than it takes: 138 bytes, and that byte stays
+    besides shows append (headOf 0 ++ over 132) 7 turnTensor turnConfig
+    (record { status = 0; dim = 0; length = 138 }) (headOf 1 ++ turnRecord ++ (99 ∷ [])) ∷
+    -- one byte less: 38; a list said to be longer than the buffer: 25
+    besides shows append (headOf 0 ++ over 130) 7 turnTensor turnConfig (noAppend (fault 38 0)) (headOf 0 ++ over 130) ∷
+    besides shows append (headOf 0 ++ over 131) 139 turnTensor turnConfig (noAppend (fault 25 0)) (headOf 0 ++ over 131) ∷
+    -- an entry past the rank: 28 names dimension 3, and nothing changes; a bad record before it does not matter
+    besides shows append (headOf 1 ++ over 262) 138 turnTensor (withPre turnConfig (0 ∷ 0 ∷ 0 ∷ 5 ∷ []))
+    (noAppend (fault 28 3)) (headOf 1 ++ over 262) ∷
+    besides shows append (headOf 1 ++ over 262) 138 turnTensor turnConfig
+    (record { status = 0; dim = 0; length = 269 }) (headOf 2 ++ over 131 ++ turnRecord) ∷
     []
