@@ -37,9 +37,8 @@ use denote.Triple.Clauses.{ensured, lasts}
 use Rattle.list.specs.declared.ListReader.{ListReader}
 use Rattle.list.specs.declared.Numbered.{Numbered}
 use Rattle.list.specs.declared.Opened.{Opened}
-use Rattle.list.specs.declared.Stepped.{Stepped}
 use Rattle.list.specs.Lists.{recordCount, recordAt, placeAfter}
-use Rattle.list.specs.Readers.{opened, stepped, firstTwoOf}
+use Rattle.list.specs.Readers.{opened, answer, advanced, firstTwoOf}
 use Rattle.list.proofs.Answers.{at-past, after-past, after-in}
 use Rattle.list.proofs.ListReader as T
 use Rattle.list.proofs.ListReader.Laws as T′
@@ -55,14 +54,14 @@ second bs = elim (ℕ-discrete (recordCount bs) 0) [
   | no z ↦ ap (recordAt bs) (after-in bs 0 (omega arith))
 ]
 
--- what is opened and stepped twice comes to the answer in the words of the plain functions
-pub by-reader : (s : RefT (List ℕ)) (r : Opened) (t t′ : Stepped) → r ≡ opened s → t ≡ stepped (r .reader) → t′ ≡ stepped (t .reader)
-    → record { status = r .status; count = r .count; first = t .item; second = t′ .item } ≡ firstTwoOf (now s)
+-- what is opened, and asked for twice, comes to the answer in the words of the plain functions
+pub by-reader : (s : RefT (List ℕ)) (r : Opened) (n n′ : Numbered) → r ≡ opened s → n ≡ answer (r .reader) → n′ ≡ answer (advanced (r .reader))
+    → record { status = r .status; count = r .count; first = n; second = n′ } ≡ firstTwoOf (now s)
 unfolding firstTwoOf
-by-reader s r t t′ e e′ e″ =
-    let one = e′ ∙ ap (λ (x : Opened). stepped (x .reader)) e in
-    let two = ap (λ (x : Stepped). x .item) (e″ ∙ ap (λ (x : Stepped). stepped (x .reader)) one) ∙ second (now s) in
-    λ i. record { status = e i .status; count = e i .count; first = one i .item; second = two i }
+by-reader s r n n′ e e′ e″ =
+    let one = e′ ∙ ap (λ (x : Opened). answer (x .reader)) e in
+    let two = e″ ∙ ap (λ (x : Opened). answer (advanced (x .reader))) e ∙ second (now s) in
+    λ i. record { status = e i .status; count = e i .count; first = one i; second = two i }
 
 -- ---- Lent bytes
 

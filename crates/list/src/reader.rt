@@ -56,12 +56,13 @@ pub fn first_two(bytes: &[u8]) -> FirstTwo
     ensures { λ r. ⌜ r ≡ firstTwoOf (now (bytes .entry)) ⌝ }
 {
     let opened = open(bytes);
-    let one = opened.reader.step();
-    let two = one.reader.step();
+    let mut reader = opened.reader;
+    let first = reader.next();
+    let second = reader.next();
     FirstTwo {
         status: opened.status,
         count: opened.count,
-        first: one.item,
-        second: two.item,
+        first,
+        second,
     }
 }
