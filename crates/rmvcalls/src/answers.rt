@@ -3,11 +3,13 @@
 use crate::layout::LONG;
 use crate::layout::OUT;
 use crate::layout::WORD;
+use list::Numbered;
 use plane::Answer;
 use plane::Config;
 use plane::Fault;
 use plane::Tensor;
 use ready_made::Made;
+use record::Reading;
 use transfers::Job;
 use transfers::Part;
 use transfers::Slot;
@@ -112,6 +114,18 @@ pub(crate) fn answer(out: &mut Out, p: usize, a: Answer) -> usize {
 pub(crate) fn made(out: &mut Out, p: usize, m: Made) -> usize {
     let p1 = byte(out, p, m.status);
     config(out, p1, m.config)
+}
+
+pub(crate) fn reading(out: &mut Out, p: usize, r: Reading) -> usize {
+    let p1 = byte(out, p, r.status);
+    let p2 = byte(out, p1, r.dim);
+    let p3 = tensor(out, p2, r.tensor);
+    config(out, p3, r.config)
+}
+
+pub(crate) fn numbered(out: &mut Out, p: usize, n: Numbered) -> usize {
+    let p1 = long(out, p, n.number as u64);
+    reading(out, p1, n.reading)
 }
 
 // A number of refusal with its dimension, and how many.

@@ -20,6 +20,9 @@ use crate::layout::TABLE;
 use crate::layout::TENSOR;
 use crate::layout::WORD;
 use crate::layout::WORDS;
+use crate::list_calls::append;
+use crate::list_calls::list_call;
+use crate::list_calls::start_list;
 use crate::mover_calls::SOURCE_COUNT;
 use crate::mover_calls::advance;
 use crate::mover_calls::move_plane;
@@ -40,6 +43,8 @@ const OF_MOVE: usize = OF_TENSOR + CONFIG;
 const JUDGE: usize = OF_MOVE + 2 * LONG;
 
 const OF_BYTE: usize = FIRST + BYTE;
+
+const OF_LONG: usize = FIRST + LONG;
 
 const COUNT: usize = OF_TENSOR + WORD;
 
@@ -71,7 +76,7 @@ const ADVANCE: usize = FIRST + JOB + 2 * LONG;
 
 const MEETS: usize = FIRST + 2 * PART;
 
-const FRESH: usize = FIRST + LONG;
+const APPEND: usize = OF_MOVE + LONG;
 
 const PREPARE: usize = FIRST + TABLE + JOB;
 
@@ -82,7 +87,7 @@ const STEP: usize = OF_HANDLE + LONG;
 // The bytes of the call with this number; 0 where no call has it.
 fn fixed(number: u8) -> usize {
     match number {
-        0x00 | 0x08 | 0x09 | 0x30 => FIRST,
+        0x00 | 0x08 | 0x09 | 0x30 | 0x32 | 0x33 | 0x36 | 0x37 => FIRST,
         0x01 => OF_TENSOR,
         0x02 | 0x31 => OF_MOVE,
         0x03 => JUDGE,
@@ -102,7 +107,8 @@ fn fixed(number: u8) -> usize {
         0x22 => ADVANCE,
         0x23 => MEETS,
         0x24 | 0x25 => OF_SUB,
-        0x40 => FRESH,
+        0x34 | 0x35 | 0x40 => OF_LONG,
+        0x38 => APPEND,
         0x41 => PREPARE,
         0x42 | 0x44 | 0x45 => OF_HANDLE,
         0x43 => STEP,
@@ -110,7 +116,7 @@ fn fixed(number: u8) -> usize {
     }
 }
 
-// Whether bytes of any number may follow: in all calls on memories, sources and records.
+// Whether bytes of any number may follow: in all calls on memories, sources, records and lists.
 fn has_rest(number: u8) -> bool {
     match number {
         0x21 | 0x23 | 0x40 | 0x45 => false,
@@ -141,7 +147,7 @@ pub(crate) fn no_call(out: &mut Out, reason: u8) -> usize {
 
 // The version of docs/CALLS.md.
 fn version(out: &mut Out) -> usize {
-    let p = byte(out, FIRST, 1);
+    let p = byte(out, FIRST, 2);
     byte(out, p, 0)
 }
 
@@ -160,6 +166,8 @@ fn change(number: u8, body: &Body, source: &[u8], mem: &mut [u8], out: &mut Out)
         0x20 => move_plane(body, source, mem, out),
         0x22 => advance(body, mem, out),
         0x31 => write(body, mem, out),
+        0x37 => start_list(mem, out),
+        0x38 => append(body, mem, out),
         _ => step(body, mem, out),
     }
 }
@@ -202,13 +210,13 @@ fn move_lent(body: &Body, rest: &[u8], out: &mut Out) -> usize {
     change_lent(0x20, body, &rest[0..n], &rest[n..], out)
 }
 
-// A call that changes no memory: the first digit of its number says whose it is.
+// Any other call that changes no memory: the first digit of its number says whose it is.
 fn ask(number: u8, body: &Body, rest: &[u8], out: &mut Out) -> usize {
     match number / 16 {
         0 => plane_call(number, body, out),
         1 => config_call(number, body, out),
         2 => mover_call(number, body, rest, out),
-        3 => read(rest, out),
+        3 => list_call(number, body, rest, out),
         _ => table_call(number, body, rest, out),
     }
 }
@@ -218,7 +226,8 @@ fn call(number: u8, body: &Body, rest: &[u8], out: &mut Out) -> usize {
     match number {
         0x00 => version(out),
         0x20 => move_lent(body, rest, out),
-        0x22 | 0x31 | 0x43 => change_lent(number, body, rest, rest, out),
+        0x30 => read(rest, out),
+        0x22 | 0x31 | 0x37 | 0x38 | 0x43 => change_lent(number, body, rest, rest, out),
         _ => ask(number, body, rest, out),
     }
 }

@@ -15,6 +15,7 @@ mod plane_calls; // 01 to 0a
 mod config_calls; // 10 to 1f
 mod mover_calls; // 20 to 25
 mod record_calls; // 30 and 31
+mod list_calls; // 32 to 38
 mod table_calls; // 40 to 45
 
 const CHUNK: usize = 65536; // bytes read at once

@@ -10,11 +10,7 @@ const AFTER_TENSOR: usize = FIRST + TENSOR;
 
 // 30
 pub(crate) fn read(bytes: &[u8], out: &mut Out) -> usize {
-    let r = record::read(bytes);
-    let p = answers::byte(out, FIRST, r.status);
-    let p1 = answers::byte(out, p, r.dim);
-    let p2 = answers::tensor(out, p1, r.tensor);
-    answers::config(out, p2, r.config)
+    answers::reading(out, FIRST, record::read(bytes))
 }
 
 // 31
