@@ -2,14 +2,12 @@
 use Prim.Native.Nat.{ℕ, suc, _+_, _≤_, _<_}
 use native.Mathlib.Decide.{ℕ-discrete}
 use native.Mathlib.Omega.{arith}
-use mathlib.Core.Path.{_≡_, refl, sym, ap, _∙_}
+use mathlib.Core.Path.{_≡_, refl, ap, _∙_}
 use mathlib.Core.Logic.{_⊎_, inl, inr, ⊎-elim}
 use mathlib.Core.List.{List, [], _∷_}
 use lib.ListN.{length, set}
 use lib.Seq.{sets, length-sets, getD-set-other}
 use Rattle.plane.specs.Arrays.{at}
-use Rattle.plane.specs.declared.Tensor.{Tensor}
-use Rattle.plane.specs.declared.Config.{Config}
 use Rattle.record.specs.Layout.{little, recordLength}
 use Rattle.record.specs.Records.{recordBytes}
 use Rattle.record.proofs.Digits.{length-little}
@@ -17,7 +15,7 @@ use Rattle.record.proofs.Laying.{length-record}
 use Rattle.list.specs.declared.Appended.{Appended}
 use Rattle.list.specs.Layout.{headLength, countPlace, headBytes}
 use Rattle.list.specs.Lists.{countIn}
-use Rattle.list.specs.Writers.{startFault, startedBuffer, appendOf, appendedBuffer}
+use Rattle.list.specs.Writers.{startFault}
 use Rattle.list.specs.Claims.{StartAlone, AppendAlone}
 use Rattle.list.proofs.Writing.{start-kept, start-given, append-given, append-told, append-behind, head-within}
 use Rattle.list.proofs.Listing.{length-head}

@@ -16,14 +16,13 @@ use denote.Triple.Entry.{Args, Res}
 use denote.Triple.Clauses.{AtExit}
 use Rattle.faults.specs.Decided.{Decided, OneLeft, OneBytes}
 use Rattle.faults.proofs.Deciding.{by-equation, by-first}
-use Rattle.list.specs.Readers.{opened, answer, advanced, stepped, firstTwoOf}
+use Rattle.list.specs.Readers.{opened, answer, advanced, firstTwoOf}
 use Rattle.list.proofs.head.list_fault.Reads as list-fault
 use Rattle.list.proofs.head.record_count.Reads as record-count
 use Rattle.list.proofs.records.record_at.Reads as record-at
 use Rattle.list.proofs.records.place_after.Reads as place-after
 use Rattle.list.proofs.reader.open as opens
 use Rattle.list.proofs.ListReader.next as next
-use Rattle.list.proofs.ListReader.step as step
 use Rattle.list.proofs.reader.first_two as first-two
 use Rattle.list.proofs.writer.start.Reads as start
 use Rattle.list.proofs.writer.append.Reads as append
@@ -54,7 +53,7 @@ append-buffer = record { one = λ κ a x y s t p q. p .1 ∙ sym (q .1) }
 
 -- ---- through the reader
 
--- These four are walked by hand, and for them the checker makes no `Pre` and `Post`. What each contract says is a fact here, which
+-- These three are walked by hand, and for them the checker makes no `Pre` and `Post`. What each contract says is a fact here, which
 -- decides; `asks` and `says` hold the contract, as it is read off the source, to asking nothing and to that fact.
 
 abbrev pub OpenPost : (κ : Lfts 1) → Args opens.signature κ → Res opens.signature κ → AtExit opens.ended κ → Type 0
@@ -62,9 +61,6 @@ OpenPost κ a r s = r ≡ opened (a .0)
 
 abbrev pub NextPost : (κ : Lfts 2) → Args next.signature κ → Res next.signature κ → AtExit next.ended κ → Type 0
 NextPost κ a r s = (r ≡ answer (now (a .0))) × (now (s .0) ≡ advanced (now (a .0)))
-
-abbrev pub StepPost : (κ : Lfts 1) → Args step.signature κ → Res step.signature κ → AtExit step.ended κ → Type 0
-StepPost κ a r s = r ≡ stepped (a .0)
 
 abbrev pub FirstTwoPost : (κ : Lfts 1) → Args first-two.signature κ → Res first-two.signature κ → AtExit first-two.ended κ → Type 0
 FirstTwoPost κ a r s = r ≡ firstTwoOf (now (a .0))
@@ -84,12 +80,6 @@ module _ {M : Type 1} (𝓤 : URA M) (H : Heap 𝓤) (A : Atoms 𝓤) (mem : Mem
   pub next-says : (κ : Lfts 2) (a : Args next.signature κ) (r : Res next.signature κ) (s : AtExit next.ended κ) → next.clauses 𝓤 H A mem run κ a .ensures tt r s ≡ ⌜ NextPost κ a r s ⌝
   next-says κ a r s = refl
 
-  pub step-asks : (κ : Lfts 1) (a : Args step.signature κ) → step.clauses 𝓤 H A mem run κ a .requires tt ≡ ⊤ₛ
-  step-asks κ a = refl
-
-  pub step-says : (κ : Lfts 1) (a : Args step.signature κ) (r : Res step.signature κ) (s : AtExit step.ended κ) → step.clauses 𝓤 H A mem run κ a .ensures tt r s ≡ ⌜ StepPost κ a r s ⌝
-  step-says κ a r s = refl
-
   pub first-two-asks : (κ : Lfts 1) (a : Args first-two.signature κ) → first-two.clauses 𝓤 H A mem run κ a .requires tt ≡ ⊤ₛ
   first-two-asks κ a = refl
 
@@ -106,9 +96,6 @@ next-decided = by-first
 -- the reader after it
 pub next-reader : OneLeft NextPost (λ κ r s. now (s .0))
 next-reader = record { one = λ κ a x y s t p q. p .1 ∙ sym (q .1) }
-
-pub step-decided : Decided (λ κ a. Unit) StepPost
-step-decided = by-equation
 
 pub first-two-decided : Decided (λ κ a. Unit) FirstTwoPost
 first-two-decided = by-equation

@@ -17,7 +17,7 @@ use Rattle.faults.proofs.Chains.{Positive, chain, exact, join, one-chain, whole
 use Rattle.plane.specs.declared.Tensor.{Tensor}
 use Rattle.plane.specs.declared.Config.{Config}
 use Rattle.record.specs.declared.Reading.{Reading}
-use Rattle.record.specs.Records.{readFault, readOf, noReading}
+use Rattle.record.specs.Records.{readFault, noReading}
 use Rattle.record.proofs.Answers.{read-status, read-given, read-refused}
 use Rattle.record.proofs.Exact.{fields-chain, read-chain, read-zeros}
 use Rattle.list.specs.declared.Appended.{Appended}

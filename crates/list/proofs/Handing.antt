@@ -1,15 +1,14 @@
 -- What a reader hands out from open on: the records in order, and then 39 for ever. Assumes nothing.
-use Prim.Native.Nat.{ℕ, zero, suc, min, _+_, _≤_, _<_}
-use native.Mathlib.Numerals.{add-one}
+use Prim.Native.Nat.{ℕ, zero, suc, min, _≤_, _<_}
 use native.Mathlib.Omega.{arith}
 use mathlib.Core.Path.{_≡_, sym, ap, _∙_}
 use mathlib.Core.Logic.{⊎-elim}
 use mathlib.Core.List.{List}
 use denote.Ref.{RefT, now}
-use Rattle.list.specs.declared.ListReader.{ListReader}
 use Rattle.list.specs.declared.Numbered.{Numbered}
+use Rattle.list.specs.declared.Opened.{Opened}
 use Rattle.list.specs.Lists.{recordCount, recordAt, placeAfter}
-use Rattle.list.specs.Readers.{opened, answer, advanced, later}
+use Rattle.list.specs.Readers.{opened, answer, advanced, later, firstTwoOf}
 use Rattle.list.specs.Claims.{RefusedNone, GoodEnds, RecordsNumbered, RecordsEnd, HandedOut, HandedAll}
 use Rattle.list.proofs.Answers.{in-or-past, count-none, at-past, at-in, after-past, after-in}
 use Rattle.list.proofs.Listing.{opened-ends}
@@ -69,3 +68,11 @@ handed-all bytes n h = (
   handed-out bytes n ∙ at-past (now bytes) n h,
   later-is bytes (suc n) ∙ ap (λ (k : ℕ). record { bytes = bytes; next = k }) (omega arith) ∙ sym (later-is bytes n),
 )
+
+-- what is opened, and asked for twice, comes to the answer in the words of the plain functions
+pub by-reader : (bytes : RefT (List ℕ)) (r : Opened) (n n′ : Numbered) → r ≡ opened bytes → n ≡ answer (r .reader) → n′ ≡ answer (advanced (r .reader)) → record { status = r .status; count = r .count; first = n; second = n′ } ≡ firstTwoOf (now bytes)
+unfolding firstTwoOf later
+by-reader bytes r n n′ e one two =
+    let first = one ∙ ap (λ (o : Opened). answer (o .reader)) e in
+    let second = two ∙ ap (λ (o : Opened). answer (advanced (o .reader))) e ∙ handed-out bytes 1 in
+    λ i. record { status = e i .status; count = e i .count; first = first i; second = second i }

@@ -7,15 +7,12 @@ use native.Mathlib.Omega.{arith}
 use mathlib.Core.Path.{_≡_, sym, ap, subst, _∙_}
 use mathlib.Core.Logic.{⊎-elim}
 use mathlib.Core.List.{List, _++_}
-use borrow.Author.Tests.{ltb-false}
-use lib.Dec.{ltb}
 use lib.ListN.{length, take, drop, length-drop, take-append-drop}
 use lib.Seq.{sets, sets-eq, length-take-le, take-all, drop-at}
 use Rattle.plane.specs.declared.Tensor.{Tensor}
 use Rattle.plane.specs.declared.Config.{Config}
 use Rattle.plane.specs.Arrays.{sum}
-use Rattle.faults.specs.Faults.{when}
-use Rattle.faults.proofs.Faults.{status, or-clear, when-clear}
+use Rattle.faults.proofs.Faults.{status}
 use Rattle.record.specs.declared.Reading.{Reading}
 use Rattle.record.specs.Layout.{part, joined, recordLength}
 use Rattle.record.specs.Records.{recordBytes, fieldsFault, reading, readOf}

@@ -4,7 +4,6 @@ use mathlib.Core.List.{List}
 use denote.Ref.{RefT, now}
 use Rattle.list.specs.declared.ListReader.{ListReader}
 use Rattle.list.specs.declared.Opened.{Opened}
-use Rattle.list.specs.declared.Stepped.{Stepped}
 use Rattle.list.specs.declared.FirstTwo.{FirstTwo}
 use Rattle.list.specs.declared.Numbered.{Numbered}
 use Rattle.list.specs.Lists.{listFault, recordCount, recordAt, placeAfter}
@@ -24,9 +23,6 @@ answer r = recordAt (now (r .bytes)) (r .next)
 -- the reader after that: the same bytes, at the place after
 abbrev pub advanced : ListReader → ListReader
 advanced r = record { bytes = r .bytes; next = placeAfter (now (r .bytes)) (r .next) }
-
-abbrev pub stepped : ListReader → Stepped
-stepped r = record { item = answer r; reader = advanced r }
 
 -- the reader after n records were asked for
 unfoldable pub later : ℕ → ListReader → ListReader

@@ -39,12 +39,6 @@ pub struct Opened<'a> {
     pub reader: ListReader<'a>,
 }
 
-// The next record, and the reader after it.
-pub struct Stepped<'a> {
-    pub item: Numbered,
-    pub reader: ListReader<'a>,
-}
-
 // What opening a list answers, and the first two records.
 pub struct FirstTwo {
     pub status: u8,

@@ -3,13 +3,12 @@ use crate::FirstTwo;
 use crate::ListReader;
 use crate::Numbered;
 use crate::Opened;
-use crate::Stepped;
 use crate::head::list_fault;
 use crate::head::record_count;
 use crate::records::place_after;
 use crate::records::record_at;
 ghost use mathlib.Core.Path.{_≡_};
-ghost use Rattle.list.specs.Readers.{opened, answer, advanced, stepped, firstTwoOf};
+ghost use Rattle.list.specs.Readers.{opened, answer, advanced, firstTwoOf};
 
 // Status, how many records there are, and a reader at the first. A reader of a refused list has no records.
 pub fn open<'a>(bytes: &'a [u8]) -> Opened<'a>
@@ -34,20 +33,6 @@ impl<'a> ListReader<'a> {
         let item = record_at(bytes, at);
         self.next = place_after(bytes, at);
         item
-    }
-
-    // The same, with the reader handed over and handed back.
-    pub fn step(self) -> Stepped<'a>
-        ensures { λ r. ⌜ r ≡ stepped (self .entry) ⌝ }
-    {
-        let bytes = self.bytes;
-        let at = self.next;
-        let item = record_at(bytes, at);
-        let next = place_after(bytes, at);
-        Stepped {
-            item,
-            reader: ListReader { bytes, next },
-        }
     }
 }
 

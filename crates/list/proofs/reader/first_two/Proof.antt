@@ -58,7 +58,8 @@ use Rattle.list.proofs.Numbered as N
 use Rattle.list.proofs.Numbered.Laws as N′
 use Rattle.list.proofs.Opened as O
 use Rattle.list.proofs.Opened.Laws as O′
-use Rattle.list.proofs.Held.{slice, Token, Bytes, Lent, lends, returned, takes, by-reader}
+use Rattle.list.proofs.Handing.{by-reader}
+use Rattle.list.proofs.Held.{slice, Token, Bytes, Lent, lends, returned, takes}
 use Rattle.list.proofs.reader.open as open-fn
 use Rattle.list.proofs.reader.open.Symbol as open-def
 use Rattle.list.proofs.reader.open.Symbol.{name as #list·open}
