@@ -93,7 +93,7 @@ const COUNT_CARRIES: &str = "count carries";
 const SAID_SHORT: &str = "25 said short";
 const SAID_LONG: &str = "25 said long";
 const IN_RECORD: &str = "30 within a record";
-const PAST_RANK: [&str; 3] = ["28 at 1", "28 at 2", "28 at 3"];
+const PAST_RANK: &str = "28 at";
 const OF_APPEND: [&str; 10] = [
     JUST_ROOM,
     MORE_ROOM,
@@ -121,7 +121,8 @@ pub fn cases(number: u8) -> Vec<String> {
         RECORD_AT => named(&OF_RECORD),
         FIRST_TWO => [named(&COUNTS), named(&[BAD_THEN_GOOD])].concat(),
         APPEND => {
-            let mut cases = [named(&OF_APPEND), named(&PAST_RANK)].concat();
+            let mut cases = named(&OF_APPEND);
+            cases.extend((1..4).map(|d| format!("{PAST_RANK} {d}")));
             cases.extend(pairs(APPEND_ORDER).into_iter().map(both));
             cases
         }
@@ -173,13 +174,16 @@ fn list_met(bytes: &[u8], status: u8) -> Vec<String> {
     match status {
         25 => met.push(format!("{UNDER_HEAD} {}", bytes.len())),
         26 => {
-            let wrong: Vec<usize> = (0..3).filter(|&byte| bytes[byte] != b"RML"[byte]).collect();
+            let wrong: Vec<usize> = (0..3).filter(|&byte| bytes.get(byte) != Some(&b"RML"[byte])).collect();
             // One byte of the mark by itself.
             if let [byte] = wrong[..] {
                 met.push(format!("{MARK_BYTE} {byte}"));
             }
         }
-        27 => met.extend(holding(&[(bytes[4] == 0, LOW_VERSION), (bytes[3] == 1, HIGH_VERSION)])),
+        27 => {
+            let (low, high) = (bytes.get(3), bytes.get(4));
+            met.extend(holding(&[(high == Some(&0), LOW_VERSION), (low == Some(&1), HIGH_VERSION)]));
+        }
         30 => {
             let count = count(bytes).unwrap_or_default();
             let said = length_of(count) as i64;
@@ -240,7 +244,7 @@ fn append_met(asked: &Asked, expected: &[u8]) -> Vec<String> {
     let mut met = pairs_met(asked, APPEND_ORDER, status);
     match status {
         0 => {
-            let list = &asked.buffer[..length as usize];
+            let list = asked.buffer.get(..length as usize).unwrap_or_default();
             let count = record_count(list);
             met.extend(holding(&[
                 (room == just, JUST_ROOM),
@@ -253,9 +257,9 @@ fn append_met(asked: &Asked, expected: &[u8]) -> Vec<String> {
         25 => {
             met.extend(holding(&[(length < HEAD as u64 && HEAD as u64 <= all, SAID_SHORT), (length > all, SAID_LONG)]))
         }
-        30 => met.extend(holding(&[((length - HEAD as u64) % just != 0, IN_RECORD)])),
+        30 => met.extend(holding(&[(length.saturating_sub(HEAD as u64) % just != 0, IN_RECORD)])),
         38 => met.extend(holding(&[(room == just - 1, ROOM_BYTE_LESS), (room == 0, NO_ROOM)])),
-        28 => met.push(PAST_RANK[dimension as usize - 1].to_string()),
+        28 => met.push(format!("{PAST_RANK} {dimension}")),
         _ => {}
     }
     met

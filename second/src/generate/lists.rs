@@ -187,8 +187,8 @@ fn draw_append(random: &mut Random) -> Asked {
 pub fn append(work: &mut Work) {
     let random = &mut work.random;
     let asked = match random.below(10) {
-        0..=3 => draw_append(random),
-        4..=6 => {
+        0..=2 => draw_append(random),
+        3..=5 => {
             let number = random.pick(&[25, 26, 27, 30, 38, 38, 1, 28, 28]);
             let mut asked = draw_append(random);
             spoil_append(random, &mut asked, number);
