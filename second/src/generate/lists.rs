@@ -329,6 +329,28 @@ pub fn every_fault(work: &mut Work) {
     }
 }
 
+/// Records that are bad in every way between two good ones, each read, and the first two of what is left from each on.
+pub fn every_record(work: &mut Work) {
+    let (tensor, config) = draw_good_fields(&mut work.random);
+    let good = pack(&tensor, &config);
+    let with = |place: usize, value: u8| {
+        let mut record = good.clone();
+        record[place] = value;
+        record
+    };
+    let past = pack(&Tensor { rank: 1, ..tensor }, &Config { pre: [0, 0, 1, 0], ..copy(1).config });
+    let bad = [with(record::at::MARK, 0), with(record::at::VERSION + 1, 1), with(record::at::RANK, 5), past];
+    let records = [&[good.clone()], &bad[..], &[good]].concat();
+    let list = Rest(list_of(&records));
+    for k in 0..records.len() as u64 + 2 {
+        work.call(0x34, &(k, list.clone()));
+        work.call(0x35, &(k, list.clone()));
+    }
+    for first in 0..=records.len() {
+        work.call(0x36, &Rest(list_of(&records[first..])));
+    }
+}
+
 /// Each pair of numbers of an append, and an entry past each rank at each dimension.
 pub fn every_pair(work: &mut Work) {
     for pair in pairs(APPEND_ORDER) {

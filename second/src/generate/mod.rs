@@ -128,6 +128,7 @@ fn once(work: &mut Work) {
     jobs::above_extent_limit(work);
     histories::beyond_steps(work);
     lists::every_fault(work);
+    lists::every_record(work);
     lists::every_pair(work);
     lists::long(work);
 }
