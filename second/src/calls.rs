@@ -104,13 +104,13 @@ const READ: Gives = Gives::First(&[0, 25, 26, 27, 1, 28]);
 const WRITE: Gives = Gives::First(&[0, 25, 1, 28]);
 /// "25 for under 7 bytes, 26, 27, then 30 where the length isn't 7 + 131 x count"
 const LIST: Gives = Gives::First(&[0, 25, 26, 27, 30]);
-/// "each record then as in 01; 39 past the last", behind the number of the record. 25 can't be provoked: a record of a list
-/// always has its 131 bytes.
+/// "each record then as in 01; 39 past the last", behind the number of the record. 25 can't be provoked: a record of a
+/// list always has its 131 bytes.
 const RECORD_OF_LIST: Gives = Gives::Behind(8, &[0, 39, 26, 27, 1, 28]);
 /// "38 if the buffer is shorter"
 const LIST_START: Gives = Gives::First(&[0, 38]);
-/// "Append: those four for the list so far, ... 37 if it has 65,535 records, 38 if under 131 bytes remain, 1, 28." 37 can't
-/// be provoked through a line: such a list has 8,585,092 bytes.
+/// "Append: those four for the list so far, ... 37 if it has 65,535 records, 38 if under 131 bytes remain, 1, 28." 37
+/// can't be provoked through a line: such a list has 8,585,092 bytes.
 const APPEND: Gives = Gives::First(&[0, 25, 26, 27, 30, 38, 1, 28]);
 /// 17: "above the limit for a fresh one".
 const FRESH: Gives = Gives::First(&[0, 17]);

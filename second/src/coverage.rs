@@ -1,6 +1,6 @@
 //! What a long comparison has to meet: each call with everything that it can give and with arguments of a wrong length,
-//! each state of a slot in each call that takes a table, each case of a destination offset and of a list, each reason for
-//! which a line is no call, and each number of `rmvshow` and `rmvlist`.
+//! each state of a slot in each call that takes a table, each case of a destination offset and of a list, each reason
+//! for which a line is no call, and each number of `rmvshow` and `rmvlist`.
 
 use crate::calls::{Call, Calls, Gives};
 use crate::lines::{unhex, NO_CALL, NO_DIGITS, NO_NEWLINE, TOO_LONG, WRONG_LENGTH};

@@ -94,8 +94,8 @@ fn past_the_last() -> Numbered {
     Numbered { number: 0, reading: Reading { status: 39, ..Reading::default() } }
 }
 
-/// The call `place_after`: the number after k. "The next is still read" behind a bad record; where there is no record k,
-/// nothing is after it, and it is k itself.
+/// The call `place_after`: the number after k. "The next is still read" behind a bad record; where there is no record
+/// k, nothing is after it, and it is k itself.
 pub fn place_after(bytes: &[u8], k: u64) -> u64 {
     if k < record_count(bytes) {
         k + 1
@@ -134,7 +134,8 @@ pub fn first_two(bytes: &[u8]) -> FirstTwo {
     }
 }
 
-/// The call `start`. "A writer starts an empty list of 7 bytes (38 if the buffer is shorter)"; what lies behind them stays.
+/// The call `start`. "A writer starts an empty list of 7 bytes (38 if the buffer is shorter)"; what lies behind them
+/// stays.
 pub fn start(mut buffer: Vec<u8>) -> Started {
     if buffer.len() < HEAD {
         return Started { status: 38, buffer: Memory(buffer) };

@@ -34,8 +34,8 @@ pub fn pairs(order: &[u8]) -> Vec<(u8, u8)> {
     pairs
 }
 
-/// Whether the case of this number holds, whatever comes before it in the order; not where the bytes that it asks for are
-/// not there.
+/// Whether the case of this number holds, whatever comes before it in the order; not where the bytes that it asks for
+/// are not there.
 pub fn applies(asked: &Asked, number: u8) -> bool {
     let Asked { tensor, config, length, buffer } = asked;
     let (length, all) = (*length, buffer.len() as u64);

@@ -112,8 +112,8 @@ fn spoil_head(random: &mut Random, list: &mut [u8], number: u8) {
     }
 }
 
-/// A record's number: below the count, at it, a little or far above it; one that would be small again in 16 or 32 bits, or
-/// whose place would be in 64.
+/// A record's number: below the count, at it, a little or far above it; one that would be small again in 16 or 32 bits,
+/// or whose place would be in 64.
 fn draw_number(random: &mut Random, count: u64) -> u64 {
     let small = random.below(count.max(1));
     match random.below(12) {
@@ -265,8 +265,8 @@ fn spoil_append(random: &mut Random, asked: &mut Asked, number: u8) {
     }
 }
 
-/// A list from its start on, each call given the buffer and the length that the one before handed back; then every record
-/// is read back.
+/// A list from its start on, each call given the buffer and the length that the one before handed back; then every
+/// record is read back.
 pub fn history(work: &mut Work) {
     let records = work.random.below(5) as usize;
     let length = HEAD + LENGTH * records + work.random.pick(&[0, 0, 1, 130]);

@@ -276,9 +276,10 @@ fn rmvlist_prints_the_example() {
 
 #[test]
 fn rmvlist_asks_the_room_question_of_each_record() {
-    // Permutation (0,0); strides (4,1) and destination offset (0,3), whose row would run past its end; elements of 4 bytes.
-    let far = [(87 + 4, 1), (103, 4), (107, 1)];
-    let records = [a_with(&[(119, 0)]), a_with(&far), a_with(&[(87 + 4, 3), (103, 4), (107, 1)]), a_with(&[(6, 4)])];
+    // Permutation (0,0); strides (4,1) with destination offset (0,1), and with (0,3), which runs past the row; elements
+    // of 4 bytes.
+    let set_off = |offset: u8| a_with(&[(87 + 4, offset), (103, 4), (107, 1)]);
+    let records = [a_with(&[(119, 0)]), set_off(1), set_off(3), a_with(&[(6, 4)])];
     let expected = "status 0 records 4\n\
         record 0 status 0 dim 0 rank 2 element 1 shape 2 3 room 6 dim 1\n\
         record 1 status 0 dim 0 rank 2 element 1 shape 2 3 room 0 dim 0 span 6 need 11\n\
