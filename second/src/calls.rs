@@ -2,6 +2,7 @@
 
 use crate::helpers::{self, Count, SubConfig, SubTensor};
 use crate::job::{self, Advanced, Job, Judged, Part};
+use crate::list::{self, Appended, FirstTwo, Numbered, Started};
 use crate::moves::{self, Answer, Config, Room};
 use crate::ready_made::{self, Made, Padding};
 use crate::record::{self, Reading};
@@ -19,6 +20,8 @@ pub enum Gives {
     OneKind,
     /// The first byte of the answer: the number of refusal, or the whole answer of a call that has none.
     First(&'static [u8]),
+    /// The number of refusal where another field comes before it: the byte behind so many of the answer.
+    Behind(usize, &'static [u8]),
     /// The first two bytes of the answer, with a name for each pair.
     FirstTwo(&'static [(&'static str, [u8; 2])]),
     /// The answer has no field for the number of refusal: it is the one that this call gives to the same arguments.
@@ -76,6 +79,10 @@ type Four = [u32; 4];
 
 /// `sub_part` takes the same arguments and is refused in the same cases.
 const MOVER_SUB_TENSOR: u8 = 0x25;
+/// `record_count` takes the same bytes and has no field for what is wrong with them.
+const LIST_FAULT: u8 = 0x32;
+/// `place_after` takes the same arguments and goes on from the records that there are.
+const RECORD_AT: u8 = 0x34;
 
 /// "Order.": the numbers of refusal that a call gives, behind 0.
 const SOURCE: Gives = Gives::First(&[0, 1, 2, 3, 4]);
@@ -95,6 +102,16 @@ const JOB: Gives = Gives::First(&[0, 20, 1, 2, 3, 4, 5, 6, 7, 8, 9, 10, 11, 12, 
 const READ: Gives = Gives::First(&[0, 25, 26, 27, 1, 28]);
 /// "Record write: 25 (room not 131 bytes), 1, 28."
 const WRITE: Gives = Gives::First(&[0, 25, 1, 28]);
+/// "25 for under 7 bytes, 26, 27, then 30 where the length isn't 7 + 131 x count"
+const LIST: Gives = Gives::First(&[0, 25, 26, 27, 30]);
+/// "each record then as in 01; 39 past the last", behind the number of the record. 25 can't be provoked: a record of a
+/// list always has its 131 bytes.
+const RECORD_OF_LIST: Gives = Gives::Behind(8, &[0, 39, 26, 27, 1, 28]);
+/// "38 if the buffer is shorter"
+const LIST_START: Gives = Gives::First(&[0, 38]);
+/// "Append: those four for the list so far, ... 37 if it has 65,535 records, 38 if under 131 bytes remain, 1, 28." 37
+/// can't be provoked through a line: such a list has 8,585,092 bytes.
+const APPEND: Gives = Gives::First(&[0, 25, 26, 27, 30, 38, 1, 28]);
 /// 17: "above the limit for a fresh one".
 const FRESH: Gives = Gives::First(&[0, 17]);
 /// "Prepare: 17 to 20, 1 to 13, 21, 22."
@@ -138,6 +155,7 @@ impl Calls {
         calls.extend(setting_calls());
         calls.extend(mover_calls());
         calls.extend(record_calls());
+        calls.extend(list_calls());
         calls.extend(table_calls());
         Calls(calls)
     }
@@ -145,7 +163,7 @@ impl Calls {
 
 fn plane_calls() -> Vec<Call> {
     vec![
-        call(0x00, "version", Gives::OneKind, |_: ()| -> u16 { 1 }),
+        call(0x00, "version", Gives::OneKind, |_: ()| -> u16 { 2 }),
         call(0x01, "source_of", SOURCE, |tensor: Tensor| -> Source { tensor::source_of(&tensor) }),
         call(0x02, "room", ROOM, |(tensor, config): (Tensor, Config)| -> Room { moves::room(&tensor, &config) }),
         call(0x03, "judge", MOVE, |(tensor, config, source, destination): (Tensor, Config, u64, u64)| -> Answer {
@@ -243,6 +261,24 @@ fn record_calls() -> Vec<Call> {
             let mut room = room;
             let fault = record::write(&tensor, &config, &mut room.0);
             Written { fault, room }
+        }),
+    ]
+}
+
+fn list_calls() -> Vec<Call> {
+    vec![
+        call(LIST_FAULT, "list_fault", LIST, |bytes: Rest| -> u8 { list::list_fault(&bytes.0) }),
+        call(0x33, "record_count", Gives::SameAs(LIST_FAULT), |bytes: Rest| -> u64 { list::record_count(&bytes.0) }),
+        call(RECORD_AT, "record_at", RECORD_OF_LIST, |(k, bytes): (u64, Rest)| -> Numbered {
+            list::record_at(&bytes.0, k)
+        }),
+        call(0x35, "place_after", Gives::SameAs(RECORD_AT), |(k, bytes): (u64, Rest)| -> u64 {
+            list::place_after(&bytes.0, k)
+        }),
+        call(0x36, "first_two", LIST, |bytes: Rest| -> FirstTwo { list::first_two(&bytes.0) }),
+        call(0x37, "list::start", LIST_START, |buffer: Memory| -> Started { list::start(buffer.0) }),
+        call(0x38, "append", APPEND, |(tensor, config, length, buffer): (Tensor, Config, u64, Memory)| -> Appended {
+            list::append(&tensor, &config, length, buffer.0)
         }),
     ]
 }

@@ -2,21 +2,23 @@
 
 use crate::calls::Calls;
 use crate::generate;
-use crate::lines::{answers, hex};
+use crate::lines::answers;
 use crate::report::Report;
 use crate::show::show;
+use crate::show_list::show_list;
 use std::io::{Read, Write};
 use std::process::{Child, Command, ExitCode, ExitStatus, Stdio};
 
-/// One in so many comparisons is a run of `rmvshow`, since each takes a process of its own.
-const CALLS_TO_A_SHOW: usize = 100;
+/// One in so many comparisons is a run of `rmvshow`, and one a run of `rmvlist`, since each takes a process of its own.
+const CALLS_TO_A_RUN: usize = 100;
 
 /// `count` comparisons in all.
 pub fn compare(count: usize, seed: u64, command: &[&str]) -> ExitCode {
     let mut report = Report::new(Calls::all());
-    let shows = count / CALLS_TO_A_SHOW;
-    let made = compare_calls(&mut report, count - shows, seed, command)
-        .and_then(|()| compare_shows(&mut report, shows, seed, command));
+    let runs = count / CALLS_TO_A_RUN;
+    let made = compare_calls(&mut report, count - 2 * runs, seed, command)
+        .and_then(|()| compare_shows(&mut report, runs, seed, command))
+        .and_then(|()| compare_lists(&mut report, runs, seed, command));
     if let Err(trouble) = made {
         report.trouble(&trouble);
     }
@@ -47,7 +49,16 @@ fn compare_calls(report: &mut Report, count: usize, seed: u64, command: &[&str])
 fn compare_shows(report: &mut Report, count: usize, seed: u64, command: &[&str]) -> Result<(), String> {
     for input in generate::show_inputs(count, seed) {
         let (output, ended) = run(command, "rmvshow", &input)?;
-        report.show(&hex(&input), &show(&input), &output, ended);
+        report.show(&input, &show(&input), &output, ended);
+    }
+    Ok(())
+}
+
+/// One process for each.
+fn compare_lists(report: &mut Report, count: usize, seed: u64, command: &[&str]) -> Result<(), String> {
+    for input in generate::list_inputs(count, seed) {
+        let (output, ended) = run(command, "rmvlist", &input)?;
+        report.list(&input, &show_list(&input), &output, ended);
     }
     Ok(())
 }

@@ -1,11 +1,13 @@
 //! What a long comparison has to meet: each call with everything that it can give and with arguments of a wrong length,
-//! each state of a slot in each call that takes a table, each case of a destination offset, each reason for which a
-//! line is no call, and each number of `rmvshow`.
+//! each state of a slot in each call that takes a table, each case of a destination offset and of a list, each reason
+//! for which a line is no call, and each number of `rmvshow` and `rmvlist`.
 
 use crate::calls::{Call, Calls, Gives};
 use crate::lines::{unhex, NO_CALL, NO_DIGITS, NO_NEWLINE, TOO_LONG, WRONG_LENGTH};
+use crate::list_cases;
 use crate::offset_cases;
 use crate::show;
+use crate::show_list;
 use crate::transfers::{DONE, FREE, PREPARED, RUNNING};
 
 /// The reasons behind `ff`; ff04 is counted with the call that the line names.
@@ -44,6 +46,7 @@ impl Coverage {
         }
         coverage.add("no call", REASONS.map(String::from).to_vec());
         coverage.add("rmvshow", show::NUMBERS.iter().map(u8::to_string).collect());
+        coverage.add("rmvlist", show_list::cases());
         coverage
     }
 
@@ -70,8 +73,9 @@ impl Coverage {
                 for place in call.state_places() {
                     self.meet(&name(call), state(byte_at(line, 1 + place)));
                 }
-                if offset_cases::counted(call.number) {
-                    for case in offset_cases::met(&unhex(line).expect("it is a call"), expected) {
+                if !cases_told_apart(call).is_empty() {
+                    let bytes = unhex(line).expect("it is a call");
+                    for case in [offset_cases::met(&bytes, expected), list_cases::met(&bytes, expected)].concat() {
                         self.meet(&name(call), &case);
                     }
                 }
@@ -84,6 +88,13 @@ impl Coverage {
     pub fn show(&mut self, expected: &str) {
         let number = expected.split(' ').nth(1).unwrap_or_default();
         self.meet("rmvshow", number);
+    }
+
+    /// Counts a run of `rmvlist` by what it is given and has to print.
+    pub fn list(&mut self, input: &[u8], expected: &str) {
+        for case in show_list::met(input, expected) {
+            self.meet("rmvlist", &case);
+        }
     }
 
     /// What was met and stands in no list, each once.
@@ -134,17 +145,20 @@ fn cases(calls: &Calls, call: &Call) -> Vec<String> {
     if !call.state_places().is_empty() {
         cases.extend(STATES.map(String::from));
     }
-    if offset_cases::counted(call.number) {
-        cases.extend(offset_cases::cases());
-    }
+    cases.extend(cases_told_apart(call));
     cases
+}
+
+/// What the numbers alone do not tell apart.
+fn cases_told_apart(call: &Call) -> Vec<String> {
+    [offset_cases::cases(call.number), list_cases::cases(call.number)].concat()
 }
 
 /// The list of a call.
 fn can_give(calls: &Calls, call: &Call) -> Vec<String> {
     match call.gives {
         Gives::OneKind => vec!["made".to_string()],
-        Gives::First(bytes) => bytes.iter().map(u8::to_string).collect(),
+        Gives::First(bytes) | Gives::Behind(_, bytes) => bytes.iter().map(u8::to_string).collect(),
         Gives::FirstTwo(pairs) => pairs.iter().map(|(name, _)| name.to_string()).collect(),
         Gives::SameAs(number) => can_give(calls, other(calls, number)),
     }
@@ -155,6 +169,7 @@ fn given(calls: &Calls, call: &Call, line: &[u8], answer: &[u8]) -> String {
     match call.gives {
         Gives::OneKind => "made".to_string(),
         Gives::First(_) => answer[0].to_string(),
+        Gives::Behind(place, _) => answer[place].to_string(),
         Gives::FirstTwo(pairs) => {
             let listed = pairs.iter().find(|(_, pair)| answer.starts_with(pair));
             listed.map_or(format!("{:?}", &answer[..2]), |(name, _)| name.to_string())

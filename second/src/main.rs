@@ -10,6 +10,8 @@ mod generate;
 mod helpers;
 mod job;
 mod lines;
+mod list;
+mod list_cases;
 mod moves;
 mod offset_cases;
 mod random;
@@ -17,6 +19,7 @@ mod ready_made;
 mod record;
 mod report;
 mod show;
+mod show_list;
 mod tensor;
 #[cfg(test)]
 mod tests;
@@ -28,11 +31,14 @@ use std::process::ExitCode;
 
 const USAGE: &str = "usage:
   second compare --calls N --seed S -- COMMAND [WORD..]
-      draws N calls and compares the answers of `COMMAND WORD.. rmvcalls` and `COMMAND WORD.. rmvshow`
+      draws N calls and compares the answers of `COMMAND WORD.. rmvcalls`, and what `COMMAND WORD.. rmvshow` and
+      `COMMAND WORD.. rmvlist` print
   second answer
       answers the calls on standard input as rmvcalls should
   second show
-      prints for the record on standard input what rmvshow should";
+      prints for the record on standard input what rmvshow should
+  second list
+      prints for the list of records on standard input what rmvlist should";
 
 fn main() -> ExitCode {
     let words: Vec<String> = std::env::args().skip(1).collect();
@@ -53,6 +59,7 @@ fn main() -> ExitCode {
             print(&out)
         }
         ["show"] => print(show::show(&input()).as_bytes()),
+        ["list"] => print(show_list::show_list(&input()).as_bytes()),
         _ => usage(),
     }
 }

@@ -26,14 +26,12 @@ const THIRTEEN: &str = "12 and 13";
 const OTHERS: [&str; 8] =
     [INNER, WIDER, FIRST, UNDER_ZERO, PAST_BEFORE_TOO_LARGE, TOO_LARGE_BEFORE_PAST, ELEVEN, THIRTEEN];
 
-/// Whether they are counted for the call of this number.
-pub fn counted(number: u8) -> bool {
-    [JUDGE, MOVE_PLANE].contains(&number)
-}
-
-/// All of them.
-pub fn cases() -> Vec<String> {
+/// All cases of the call of this number.
+pub fn cases(number: u8) -> Vec<String> {
     let mut cases = Vec::new();
+    if ![JUDGE, MOVE_PLANE].contains(&number) {
+        return cases;
+    }
     for (case, first) in BY_DIMENSION {
         cases.extend((first..4).map(|i| at(case, i)));
     }

@@ -78,21 +78,26 @@ pub fn write(tensor: &Tensor, config: &Config, room: &mut [u8]) -> Fault {
 /// size is not looked at.
 fn check_tail(tensor: &Tensor, config: &Config) -> Result<(), Fault> {
     for d in check_rank(tensor.rank)?..4 {
-        let wide = [
-            tensor.shape[d],
-            tensor.stride[d],
-            config.offset[d],
-            config.size[d],
-            config.step[d],
-            config.dst_offset[d],
-            config.dst_stride[d],
-        ];
-        let bytes = [config.perm[d], config.pre[d], config.post[d]];
-        if wide.iter().any(|&entry| entry != 0) || bytes.iter().any(|&entry| entry != 0) {
+        if has_entry(tensor, config, d) {
             return refuse(28, d);
         }
     }
     Ok(())
+}
+
+/// Whether any group has an entry in this dimension that is not 0.
+pub fn has_entry(tensor: &Tensor, config: &Config, d: usize) -> bool {
+    let wide = [
+        tensor.shape[d],
+        tensor.stride[d],
+        config.offset[d],
+        config.size[d],
+        config.step[d],
+        config.dst_offset[d],
+        config.dst_stride[d],
+    ];
+    let bytes = [config.perm[d], config.pre[d], config.post[d]];
+    wide.iter().any(|&entry| entry != 0) || bytes.iter().any(|&entry| entry != 0)
 }
 
 /// The fields of a record of 131 bytes, without a look at them.

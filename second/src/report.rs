@@ -54,18 +54,29 @@ impl Report {
         }
     }
 
-    /// Compares the output of one run of `rmvshow`, which has to end well whatever it prints.
+    /// Compares the output of one run of `rmvshow`.
     pub fn show(&mut self, input: &[u8], expected: &str, got: &[u8], ended: ExitStatus) {
-        self.compared += 1;
         self.coverage.show(expected);
+        self.printed("rmvshow", input, expected, got, ended);
+    }
+
+    /// Compares the output of one run of `rmvlist`.
+    pub fn list(&mut self, input: &[u8], expected: &str, got: &[u8], ended: ExitStatus) {
+        self.coverage.list(input, expected);
+        self.printed("rmvlist", input, expected, got, ended);
+    }
+
+    /// A program has to end well whatever it prints.
+    fn printed(&mut self, program: &str, input: &[u8], expected: &str, got: &[u8], ended: ExitStatus) {
+        self.compared += 1;
         if expected.as_bytes() == got && ended.success() {
             return;
         }
         self.differ += 1;
         if self.differ <= PRINTED {
             let byte = first_difference(expected.as_bytes(), got);
-            println!("rmvshow differs: it ended with {ended}, and what it printed is as expected up to byte {byte}");
-            print_difference(input, expected.as_bytes(), got);
+            println!("{program} differs: it ended with {ended}, and what it printed is as expected up to byte {byte}");
+            print_difference(&hex(input), expected.as_bytes(), got);
         }
     }
 

@@ -6,6 +6,8 @@ mod histories;
 mod jobs;
 mod joins;
 mod limits;
+mod list_shows;
+mod lists;
 mod moving;
 mod numbers;
 mod offsets;
@@ -18,6 +20,7 @@ mod values;
 use crate::lines::hex;
 use crate::random::Random;
 use crate::wire::Wire;
+pub use list_shows::list_inputs;
 pub use shows::show_inputs;
 
 /// The lines drawn so far, without their newlines.
@@ -73,6 +76,10 @@ const KINDS: &[Kind] = &[
     (6, joins::join),
     (22, records::read),
     (16, records::write),
+    (14, lists::read),
+    (4, lists::start),
+    (18, lists::append),
+    (2, lists::history),
     (2, histories::fresh_table),
     (3, histories::short),
     (1, histories::narrow),
@@ -112,7 +119,7 @@ pub fn calls(count: usize, seed: u64) -> Vec<u8> {
     input
 }
 
-/// What is drawn once in a run: lines of wrong lengths, and the longest lines.
+/// What is drawn once in a run: lines of wrong lengths, the longest lines, and lists spoiled in every way.
 fn once(work: &mut Work) {
     frames::wrong_lengths(work);
     frames::longest(work);
@@ -120,6 +127,10 @@ fn once(work: &mut Work) {
     moving::largest_offset(work);
     jobs::above_extent_limit(work);
     histories::beyond_steps(work);
+    lists::every_fault(work);
+    lists::every_record(work);
+    lists::every_pair(work);
+    lists::long(work);
 }
 
 /// Long lines.

@@ -31,7 +31,7 @@ pub fn clear_tail(tensor: &mut Tensor, config: &mut Config) {
 }
 
 /// Any fields, not only those of moves that are accepted.
-fn draw_fields(random: &mut Random) -> (Tensor, Config) {
+pub fn draw_fields(random: &mut Random) -> (Tensor, Config) {
     let (mut tensor, mut config) = if random.chance(60) {
         let mut drawn: Drawn = good(random, Scale::Wide);
         vary(random, &mut drawn, Lent::NumbersOnly);
@@ -49,7 +49,7 @@ fn draw_fields(random: &mut Random) -> (Tensor, Config) {
 }
 
 /// Puts a number into one entry, mostly at or past the rank (28).
-fn set_tail_entry(random: &mut Random, tensor: &mut Tensor, config: &mut Config) {
+pub fn set_tail_entry(random: &mut Random, tensor: &mut Tensor, config: &mut Config) {
     let d = random.between(tensor.rank.min(3) as u64, 3) as usize;
     let value = any_u32(random).max(1);
     let byte = any_u8(random).max(1);

@@ -5,21 +5,27 @@ use crate::calls::{Calls, Gives};
 use crate::coverage::Coverage;
 use crate::generate;
 use crate::lines::answers;
+use crate::list_cases;
 use crate::offset_cases;
 use crate::report::ENOUGH;
 use crate::show::show;
+use crate::show_list::show_list;
 use crate::wire::bytes_of;
 
 /// What a run of so many comparisons meets.
 fn drawn(count: usize, seed: u64) -> Coverage {
     let calls = Calls::all();
     let mut coverage = Coverage::new(&calls);
-    let input = generate::calls(count, seed);
+    let runs = count / 100;
+    let input = generate::calls(count - 2 * runs, seed);
     for (line, answer) in input.split(|&character| character == b'\n').zip(answers(&calls, &input)) {
         coverage.call(&calls, line, &answer);
     }
-    for input in generate::show_inputs(count / 100, seed) {
+    for input in generate::show_inputs(runs, seed) {
         coverage.show(&show(&input));
+    }
+    for input in generate::list_inputs(runs, seed) {
+        coverage.list(&input, &show_list(&input));
     }
     coverage
 }
@@ -50,13 +56,21 @@ fn what_was_not_met_is_named() {
         "45 poll: running",
         "no call: ff02",
         "rmvshow: 13",
+        "33 record_count: 30",
+        "34 record_at: 39 where k x 131 wraps",
+        "35 place_after: 39",
+        "36 first_two: 2 records",
+        "38 append: 38 and 1",
+        "rmvlist: room 12",
+        "rmvlist: 1000 records",
     ] {
         assert!(missing.contains(&case.to_string()), "{case}");
     }
     coverage.call(&calls, b"00", &[0, 1, 0]);
     coverage.call(&calls, b"41", &[0xff, 4]);
     coverage.show("status 13 dim 0\n");
-    let met = ["00 version: made", "41 prepare: ff04", "rmvshow: 13"];
+    coverage.list(&[], "status 25\n");
+    let met = ["00 version: made", "41 prepare: ff04", "rmvshow: 13", "rmvlist: list 25"];
     let left: Vec<String> = missing.into_iter().filter(|case| !met.contains(&case.as_str())).collect();
     assert_eq!(coverage.missing(), left);
     assert_eq!(coverage.unlisted(), [] as [&str; 0]);
@@ -70,9 +84,21 @@ fn a_number_that_a_call_can_not_give_is_named() {
     coverage.call(&calls, b"02", &[0x02, 5]);
     coverage.call(&calls, b"0403", &[0x04, 3]);
     coverage.call(&calls, b"30", &[0xff, 4]);
+    coverage.call(&calls, b"350000000000000000", &[0x35, 0, 0, 0, 0, 0, 0, 0, 0]);
+    // A record of a list always has its 131 bytes.
+    coverage.call(&calls, b"340000000000000000", &[0x34, 0, 0, 0, 0, 0, 0, 0, 0, 25]);
     coverage.show("status 10 dim 0\n");
     coverage.show("status 10 dim 0\n");
-    assert_eq!(coverage.unlisted(), ["02 room: 5", "04 element_size: 3", "30 record::read: ff04", "rmvshow: 10"]);
+    coverage.list(&[], "status 0 records 1\nrecord 0 status 25 dim 0\n");
+    let unlisted = [
+        "02 room: 5",
+        "04 element_size: 3",
+        "30 record::read: ff04",
+        "34 record_at: 25",
+        "rmvlist: record 25",
+        "rmvshow: 10",
+    ];
+    assert_eq!(coverage.unlisted(), unlisted);
 }
 
 #[test]
@@ -97,13 +123,93 @@ fn cases_of_destination_offsets_are_told_apart() {
     assert_eq!(met([4, 1], [0, 2], 7), "");
 }
 
-/// An answer that starts with a number of refusal is told apart by it; only `Answer::refused` hands back the number
-/// that it was given.
+/// The cases of a call with these bytes.
+fn list_met(line: &[u8]) -> String {
+    let answer = (Calls::all().find(line[0]).unwrap().answer)(&line[1..]).unwrap();
+    list_cases::met(line, &answer).join("; ")
+}
+
+#[test]
+fn cases_of_lists_are_told_apart() {
+    let list = |bytes: &[u8]| list_met(&[&[0x32], bytes].concat());
+    assert_eq!(list(b"RML\x01\0\0\0"), "");
+    assert_eq!(list(b"RM"), "25 of bytes: 2");
+    assert_eq!(list(b"RMV\x01\0\0"), "25 and 26; 25 of bytes: 6");
+    assert_eq!(list(b"RMV\x01\0\0\0"), "26 by byte 2");
+    assert_eq!(list(b"rMV\x02\0\x01\0"), "26 and 27; 26 and 30");
+    assert_eq!(list(b"RML\x01\x01\0\0"), "27 by the high byte");
+    assert_eq!(list(b"RML\x02\0\0\0\0"), "27 and 30; 27 by the low byte");
+    assert_eq!(list(b"RML\x01\0\x01\0"), "30 a record less");
+    assert_eq!(list(b"RML\x01\0\xff\xff"), "30 with count 65535");
+    assert_eq!(list(b"RML\x01\0\0\0\0"), "30 a byte more; 30 with count 0");
+}
+
+#[test]
+fn cases_of_records_in_lists_are_told_apart() {
+    let good = super::records::record_a();
+    let bad = [&[0], &good[1..]].concat();
+    let list = |records: &[&Vec<u8>]| {
+        let head = [b"RML\x01\0".to_vec(), vec![records.len() as u8, 0]].concat();
+        records.iter().fold(head, |bytes, &record| [bytes, record.clone()].concat())
+    };
+    let at = |k: u64, bytes: &[u8]| list_met(&[&[0x34], &k.to_le_bytes()[..], bytes].concat());
+    let three = list(&[&good, &bad, &good]);
+    assert_eq!(
+        (at(0, &three), at(1, &three), at(2, &three)),
+        (String::new(), "bad between".to_string(), "good behind a bad one".to_string())
+    );
+    assert_eq!((at(0, &list(&[&bad, &good])), at(1, &list(&[&good, &bad]))), ("bad first".into(), "bad last".into()));
+    assert_eq!((at(3, &three), at(4, &three)), ("39 at the count".to_string(), "39 behind the count".to_string()));
+    assert_eq!(at(u64::MAX, &three), "39 behind the count; 39 where k x 131 wraps");
+    assert_eq!(at(0, &three[..399]), "39 of a refused list");
+    let two = |bytes: &[u8]| list_met(&[&[0x36], bytes].concat());
+    assert_eq!((two(&list(&[])), two(&list(&[&bad]))), ("no record".to_string(), "1 record".to_string()));
+    assert_eq!((two(&list(&[&bad, &good])), two(&three)), ("2 records; bad, then good".into(), "more records".into()));
+    assert_eq!(two(&three[1..]), "");
+}
+
+#[test]
+fn cases_of_appends_are_told_apart() {
+    let tensor = plane(&[2, 2]);
+    let with_rank = |rank: u8, length: u64, buffer: &[u8]| {
+        let tensor = crate::tensor::Tensor { rank, ..tensor };
+        list_met(&[&[0x38], &bytes_of(&(tensor, default(&tensor), length))[..], buffer].concat())
+    };
+    let met = |length: u64, buffer: &[u8]| with_rank(2, length, buffer);
+    let empty = |room: usize| [b"RML\x01\0\0\0".to_vec(), vec![0; room]].concat();
+    assert_eq!(
+        (met(7, &empty(131)), met(7, &empty(132))),
+        ("just room; first record".to_string(), "more room; first record".to_string())
+    );
+    let bad = [b"RML\x01\0\x01\0".to_vec(), vec![0; 262]].concat();
+    assert_eq!(met(138, &bad), "just room; behind a bad one");
+    assert_eq!((met(7, &empty(130)), met(7, &empty(0))), ("38 by a byte".to_string(), "38 with none left".to_string()));
+    assert_eq!(with_rank(5, 7, &empty(100)), "38 and 1");
+    assert_eq!(with_rank(1, 7, &empty(100)), "38 and 28");
+    assert_eq!(
+        (with_rank(0, 7, &empty(131)), with_rank(1, 7, &empty(131))),
+        ("1 and 28".to_string(), "28 at 1".to_string())
+    );
+    assert_eq!(met(6, &empty(131)), "25 and 30; 25 said short");
+    assert_eq!(met(139, &empty(131)), "25 and 30; 25 and 38; 25 said long");
+    assert_eq!((met(8, &empty(262)), met(138, &empty(262))), ("30 within a record".to_string(), String::new()));
+    assert_eq!(met(8, &empty(131)), "30 and 38; 30 within a record");
+}
+
+/// An answer that has a number of refusal is told apart by it; only `Answer::refused` hands back the number that it was
+/// given.
 #[test]
 fn no_number_of_refusal_is_passed_over() {
     for call in Calls::all().0 {
-        let has_number = call.places[1].0.ends_with("status");
-        let is_counted = matches!(call.gives, Gives::First(_) | Gives::FirstTwo(_));
+        // Behind the number of the call.
+        let before = call.places[1..].iter().take_while(|(name, _)| !name.ends_with("status"));
+        let place: usize = before.map(|&(_, length)| length.min(1_000)).sum();
+        let has_number = call.places.iter().any(|(name, _)| name.ends_with("status"));
+        let is_counted = match call.gives {
+            Gives::First(_) | Gives::FirstTwo(_) => place == 0,
+            Gives::Behind(bytes, _) => place == bytes,
+            Gives::OneKind | Gives::SameAs(_) => false,
+        };
         assert!(!has_number || is_counted || call.name == "Answer::refused", "{}", call.name);
     }
 }

@@ -4,6 +4,7 @@ mod coverage;
 mod errors;
 mod examples;
 mod framing;
+mod lists;
 mod offsets;
 mod readings;
 mod records;

@@ -7,7 +7,7 @@ use crate::show::show;
 use crate::tensor::{Fault, Tensor};
 
 /// Example A as a record: mark, version, rank, element size, then the groups.
-fn record_a() -> Vec<u8> {
+pub fn record_a() -> Vec<u8> {
     let mut bytes = vec![b'R', b'M', b'V', 1, 0, 2, 1];
     for group in [[2u32, 3], [0, 0], [0, 0], [0, 0], [1, 1], [0, 0], [0, 0]] {
         for entry in four(&group) {

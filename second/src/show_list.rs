@@ -1,0 +1,104 @@
+//! What the program `rmvlist` prints.
+
+use crate::list::{list_fault, record_count, ListReader, Numbered};
+use crate::moves::room;
+use std::fmt::Write;
+
+/// "a list of up to 1,000 records, 131,007 bytes"
+pub const INPUT_LIMIT: usize = 131_007;
+
+/// "An input that is longer than 131,007 bytes gets one line, whatever it holds"
+const LONGER: &str = "input longer than 131007 bytes, which are 1000 records\n";
+
+/// The numbers that it can tell of a list.
+const LIST: &[u8] = &[0, 25, 26, 27, 30];
+/// Of a record: those of a record read, but for 25, since it always has its 131 bytes.
+const RECORD: &[u8] = &[0, 26, 27, 1, 28];
+/// Of a room question: 1 was given when the record was read.
+const ROOM: &[u8] = &[0, 2, 3, 4, 6, 7, 8, 9, 10, 11, 12];
+
+/// The longest inputs, and those that are just longer.
+const LONGEST_LIST: &str = "1000 records";
+const LONGEST_INPUT: &str = "131007 bytes that are no list";
+const LONGER_LIST: &str = "1001 records";
+const BYTE_MORE: &str = "131008 bytes";
+
+/// The output for these bytes of standard input.
+pub fn show_list(input: &[u8]) -> String {
+    if input.len() > INPUT_LIMIT {
+        return LONGER.to_string();
+    }
+    let status = list_fault(input);
+    // "A refused list prints its status alone"
+    if status != 0 {
+        return format!("status {status}\n");
+    }
+    let count = record_count(input);
+    let mut out = format!("status 0 records {count}\n");
+    let mut reader = ListReader::open(input);
+    for _ in 0..count {
+        out += &line(&reader.next_record());
+    }
+    out
+}
+
+/// "a line a record: its number, status and dimension, and for one that is not refused rank, element size, shape, and
+/// what the room question says of it: status and dimension, and span and need where that status is 0". The shape shows
+/// as many entries as the rank.
+fn line(numbered: &Numbered) -> String {
+    let reading = &numbered.reading;
+    let mut out = format!("record {} status {} dim {}", numbered.number, reading.status, reading.dimension);
+    if reading.status == 0 {
+        let tensor = &reading.tensor;
+        let _ = write!(out, " rank {} element {} shape", tensor.rank, tensor.element_size);
+        for entry in &tensor.shape[..tensor.rank as usize] {
+            let _ = write!(out, " {entry}");
+        }
+        let room = room(tensor, &reading.config);
+        let _ = write!(out, " room {} dim {}", room.answer.status, room.answer.dimension);
+        if room.answer.status == 0 {
+            let _ = write!(out, " span {} need {}", room.span, room.answer.need);
+        }
+    }
+    out + "\n"
+}
+
+/// All numbers that it can tell.
+pub fn numbers() -> Vec<String> {
+    let mut cases = Vec::new();
+    for (of, numbers) in [("list", LIST), ("record", RECORD), ("room", ROOM)] {
+        cases.extend(numbers.iter().map(|number| format!("{of} {number}")));
+    }
+    cases
+}
+
+/// All that a long comparison has to meet.
+pub fn cases() -> Vec<String> {
+    let longest = [LONGEST_LIST, LONGEST_INPUT, LONGER_LIST, BYTE_MORE].map(String::from);
+    [numbers(), longest.to_vec()].concat()
+}
+
+/// The cases that an input is, by what has to be printed for it.
+pub fn met(input: &[u8], expected: &str) -> Vec<String> {
+    if expected == LONGER {
+        let case = if input.len() == INPUT_LIMIT + 1 { BYTE_MORE } else { LONGER_LIST };
+        return vec![case.to_string()];
+    }
+    let mut met = Vec::new();
+    for line in expected.lines() {
+        let words: Vec<&str> = line.split(' ').collect();
+        match words[..] {
+            ["status", number, ..] => met.push(format!("list {number}")),
+            ["record", _, "status", number, ..] => met.push(format!("record {number}")),
+            _ => met.push(line.to_string()),
+        }
+        if let Some(room) = words.iter().position(|&word| word == "room") {
+            met.push(format!("room {}", words[room + 1]));
+        }
+    }
+    if input.len() == INPUT_LIMIT {
+        let case = if list_fault(input) == 0 { LONGEST_LIST } else { LONGEST_INPUT };
+        met.push(case.to_string());
+    }
+    met
+}
