@@ -1,5 +1,6 @@
 // preview: a small picture becomes a thumbnail and a turned picture, and colour and alpha become one plane. A program to copy from:
-// first a whole move between two lent slices, then two planes joined by two moves, then two transfers that take turns over one memory.
+// first a whole move between two lent slices, then two planes joined by two moves, then two transfers that take turns over one memory,
+// and at last the same two moves as a list of records, written and gone through.
 use libc::STDOUT_FILENO;
 use plane::Config;
 use plane::Tensor;
@@ -28,6 +29,8 @@ const BUDGET: u64 = 4; // elements that one step may move
 // The bytes of the picture: their digits are row and column.
 const PIXELS: [u8; PICTURE] =
     *b"\x11\x12\x13\x14\x15\x16\x21\x22\x23\x24\x25\x26\x31\x32\x33\x34\x35\x36\x41\x42\x43\x44\x45\x46";
+
+const LISTED: usize = list::HEAD + 2 * record::LENGTH; // bytes of a list of two records
 
 // A picture in two planes, colour and alpha.
 const ROWS: usize = 2;
@@ -225,6 +228,32 @@ fn transfer_both(mem: &mut [u8]) {
     run_both(large.table, mem, small.handle, large.handle);
 }
 
+// Appends the two moves to a list that was just started, as a camera stores them beside the picture. Each goes behind the length that
+// the one before it told.
+fn append_both(buffer: &mut [u8]) {
+    let small = list::append(buffer, list::HEAD, picture(), thumbnail());
+    let large = list::append(buffer, small.length, picture(), turned());
+    print_status(b"appended", small.status);
+    print_status(b"appended", large.status);
+}
+
+// Makes the move of record k. A bad record has its number of refusal, and those behind it are still read.
+fn move_record(bytes: &[u8], k: usize, source: &[u8], buffer: &mut [u8]) {
+    let r = list::record_at(bytes, k);
+    if r.reading.status != 0 {
+        print_status(b"bad record", r.reading.status);
+        return;
+    }
+    move_into(r.reading.tensor, r.reading.config, source, buffer);
+}
+
+// Makes the move of each record. A refused list has none.
+fn move_listed(bytes: &[u8], source: &[u8], buffer: &mut [u8]) {
+    for k in 0..list::record_count(bytes) {
+        move_record(bytes, k, source, buffer);
+    }
+}
+
 fn main() {
     let pixels = PIXELS;
     let mut mem = [0u8; MEMORY];
@@ -237,4 +266,8 @@ fn main() {
     transfer_both(&mut mem);
     print_plane(&mem[SMALL_AT..TURNED_AT], WIDTH as u32 / 2);
     print_plane(&mem[TURNED_AT..MEMORY], HEIGHT as u32);
+    let mut burst = [0u8; LISTED];
+    print_status(b"started", list::start(&mut burst));
+    append_both(&mut burst);
+    move_listed(&burst, &pixels, &mut mem);
 }
