@@ -17,7 +17,7 @@ use Rattle.list.specs.Layout.{headLength, countPlace, headBytes}
 use Rattle.list.specs.Lists.{countIn}
 use Rattle.list.specs.Writers.{startFault}
 use Rattle.list.specs.Claims.{StartAlone, AppendAlone}
-use Rattle.list.proofs.Writing.{start-kept, start-given, append-given, append-told, append-behind, head-within}
+use Rattle.list.proofs.Writing.{start-same, start-given, append-given, append-told, append-behind, head-within}
 use Rattle.list.proofs.Listing.{length-head}
 
 -- entries stored from i on leave those before and behind them
@@ -33,7 +33,7 @@ start-alone buffer = elim (ℕ-discrete (startFault buffer .status) 0) [
     ap length e ∙ length-sets buffer 0 (headBytes 0),
     λ i h. ap (λ (l : List ℕ). at l i) e ∙ sets-beside (headBytes 0) buffer 0 i (inr (let l = length-head 0 in omega arith)),
   )
-  | no z ↦ let e = start-kept buffer z in (ap length e, λ i h. ap (λ (l : List ℕ). at l i) e)
+  | no z ↦ let e = start-same buffer z in (ap length e, λ i h. ap (λ (l : List ℕ). at l i) e)
 ]
 
 -- a byte that is neither the count's nor the new record's

@@ -27,7 +27,7 @@ use Rattle.list.specs.Writers.{startFault, appendFault, noAppend, append
 use Rattle.list.specs.Orders.{listRules, recordRules, startRules, behindRules, appendRules}
 use Rattle.list.specs.Claims.{ListExact, RecordExact, StartExact, AppendExact, RecordZeros, AppendZeros, StartKept, AppendKept}
 use Rattle.list.proofs.Answers.{in-or-past, when-plain, list-plain, at-past, at-in}
-use Rattle.list.proofs.Writing.{start-kept, append-kept, append-refused, append-told}
+use Rattle.list.proofs.Writing.{start-same, append-same, append-refused, append-told}
 
 -- ---- the calls are held to their lists
 
@@ -89,11 +89,11 @@ append-zeros buffer n t c h = elim (ℕ-discrete (appendFault buffer n t c .stat
   | no z ↦ let e = append-refused buffer n t c z in e ∙ ap (λ (a : Appended). noAppend (fault (a .status) (a .dim))) (sym e)
 ]
 
-pub start-refused : StartKept
-start-refused buffer h = start-kept buffer h
+pub start-kept : StartKept
+start-kept buffer h = start-same buffer h
 
-pub append-left : AppendKept
-append-left buffer n t c h = append-kept buffer n t c h
+pub append-kept : AppendKept
+append-kept buffer n t c h = append-same buffer n t c h
 
 -- ---- a record of a list
 

@@ -26,9 +26,9 @@ use Rattle.list.proofs.Answers.{list-plain, good}
 -- ---- an empty list
 
 module _ (buffer : List ℕ) where
-  pub start-kept : (startFault buffer .status ≡ 0 → ⊥) → startedBuffer buffer ≡ buffer
+  pub start-same : (startFault buffer .status ≡ 0 → ⊥) → startedBuffer buffer ≡ buffer
   unfolding startedBuffer
-  start-kept h = if-fault (startFault buffer) buffer (sets buffer 0 (headBytes 0)) h
+  start-same h = if-fault (startFault buffer) buffer (sets buffer 0 (headBytes 0)) h
 
   pub start-given : startFault buffer .status ≡ 0 → startedBuffer buffer ≡ sets buffer 0 (headBytes 0)
   unfolding startedBuffer
@@ -37,7 +37,7 @@ module _ (buffer : List ℕ) where
   -- as the code comes to it
   pub start-38 : length buffer < headLength → (38 ≡ startFault buffer .status) × (buffer ≡ startedBuffer buffer)
   unfolding startFault
-  start-38 h = let e = when-bad 38 0 _ (lt-ltb (length buffer) headLength h) in (sym (status e), sym (start-kept (is-fault 38 0 (omega arith) e)))
+  start-38 h = let e = when-bad 38 0 _ (lt-ltb (length buffer) headLength h) in (sym (status e), sym (start-same (is-fault 38 0 (omega arith) e)))
 
   pub start-0 : headLength ≤ length buffer → startFault buffer .status ≡ 0
   unfolding startFault
@@ -46,9 +46,9 @@ module _ (buffer : List ℕ) where
 -- ---- one record more, behind the list that the first n bytes are
 
 module _ (buffer : List ℕ) (n : ℕ) (t : Tensor) (c : Config) where
-  pub append-kept : (appendFault buffer n t c .status ≡ 0 → ⊥) → appendedBuffer buffer n t c ≡ buffer
+  pub append-same : (appendFault buffer n t c .status ≡ 0 → ⊥) → appendedBuffer buffer n t c ≡ buffer
   unfolding appendedBuffer
-  append-kept h = if-fault (appendFault buffer n t c) buffer _ h
+  append-same h = if-fault (appendFault buffer n t c) buffer _ h
 
   pub append-given : appendFault buffer n t c .status ≡ 0 → appendedBuffer buffer n t c ≡ sets (sets buffer n (recordBytes t c)) countPlace (little 2 (countIn buffer + 1))
   unfolding appendedBuffer
@@ -78,7 +78,7 @@ module _ (buffer : List ℕ) (n : ℕ) (t : Tensor) (c : Config) where
   pub stopped-at : {f : Fault} {r : Appended} → appendFault buffer n t c ≡ f → (f .status ≡ 0 → ⊥) → r ≡ noAppend f → Answered r buffer
   stopped-at e h q =
       let b : appendFault buffer n t c .status ≡ 0 → ⊥ = λ z. h (sym (status e) ∙ z) in
-      (q ∙ ap noAppend (sym e) ∙ sym (append-refused b), sym (append-kept b))
+      (q ∙ ap noAppend (sym e) ∙ sym (append-refused b), sym (append-same b))
 
   pub append-25 : length buffer < n → appendFault buffer n t c ≡ fault 25 0
   unfolding appendFault
