@@ -1,8 +1,6 @@
 -- What "the contract decides the outcome" says. `pre` and `post` are a call's contract as the checker reads it off the source: κ are
 -- lifetimes, a the arguments, x and y results, s and t what was lent, as it is at the exit.
-use Prim.Native.Nat.{ℕ}
 use mathlib.Core.Path.{_≡_}
-use mathlib.Core.List.{List}
 
 -- nothing is asked of the caller, and two results that the contract allows are one
 pub record Decided
@@ -16,9 +14,3 @@ pub record OneLeft
     {K : Type 0} {A R E : K → Type 0} {B : Type 0}
     (post : (κ : K) → A κ → R κ → E κ → Type 0) (left : (κ : K) → R κ → E κ → B) : Type 0 where
   pub one : (κ : K) (a : A κ) (x y : R κ) (s t : E κ) → post κ a x s → post κ a y t → left κ x s ≡ left κ y t
-
--- bytes that are left
-abbrev pub OneBytes :
-    {K : Type 0} {A R E : K → Type 0} →
-    ((κ : K) → A κ → R κ → E κ → Type 0) → ((κ : K) → R κ → E κ → List ℕ) → Type 0
-OneBytes post bytes = OneLeft post bytes

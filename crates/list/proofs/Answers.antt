@@ -16,14 +16,14 @@ use Rattle.plane.specs.Arrays.{at}
 use Rattle.record.specs.Layout.{recordLength}
 use Rattle.record.specs.Records.{readOf}
 use Rattle.record.proofs.Digits.{number-two}
-use Rattle.list.specs.Layout.{headLength, versionPlace, theVersion, listLength}
-use Rattle.list.specs.Lists.{countIn, badHead, badMark, badVersion, badCount, listFault, recordCount, recordIn, noRecord, recordAt, placeAfter}
+use Rattle.list.specs.Layout.{listHeadLength, versionPlace, listVersion, listLength}
+use Rattle.list.specs.Lists.{countIn, badHead, badListMark, badListVersion, badCount, listFault, recordCount, recordIn, noRecord, recordAt, placeAfter}
 
 -- ---- the head
 
 -- the two bytes of the version, each by itself
-pub version-by-bytes : (bs : List ℕ) → headLength ≤ length bs → (not (eqb (at bs 3) 1) || not (eqb (at bs 4) 0)) ≡ badVersion bs
-version-by-bytes bs h = by-bytes (at bs 3) (at bs 4) ∙ ap (λ (n : ℕ). not (eqb n theVersion)) (sym (number-two versionPlace bs (omega arith)))
+pub version-by-bytes : (bs : List ℕ) → listHeadLength ≤ length bs → (not (eqb (at bs 3) 1) || not (eqb (at bs 4) 0)) ≡ badListVersion bs
+version-by-bytes bs h = by-bytes (at bs 3) (at bs 4) ∙ ap (λ (n : ℕ). not (eqb n listVersion)) (sym (number-two versionPlace bs (omega arith)))
   where
     by-bytes : (low high : ℕ) → (not (eqb low 1) || not (eqb high 0)) ≡ not (eqb (low + 256 * high) 1)
     by-bytes low high = elim (ℕ-discrete low 1) [
@@ -35,24 +35,24 @@ version-by-bytes bs h = by-bytes (at bs 3) (at bs 4) ∙ ap (λ (n : ℕ). not (
     ]
 
 module _ (bs : List ℕ) where
-  pub list-25 : length bs < headLength → listFault bs ≡ fault 25 0
+  pub list-25 : length bs < listHeadLength → listFault bs ≡ fault 25 0
   unfolding listFault
-  list-25 h = given 25 0 _ _ (omega arith) (lt-ltb (length bs) headLength h)
+  list-25 h = given 25 0 _ _ (omega arith) (lt-ltb (length bs) listHeadLength h)
 
-  module _ (h : headLength ≤ length bs) where
-    pub list-26 : badMark bs ≡ true → listFault bs ≡ fault 26 0
+  module _ (h : listHeadLength ≤ length bs) where
+    pub list-26 : badListMark bs ≡ true → listFault bs ≡ fault 26 0
     unfolding listFault
-    list-26 m = spared 25 0 _ _ (le-ltb (length bs) headLength h) ∙ given 26 0 _ _ (omega arith) m
+    list-26 m = spared 25 0 _ _ (le-ltb (length bs) listHeadLength h) ∙ given 26 0 _ _ (omega arith) m
 
-    module _ (m : badMark bs ≡ false) where
-      pub list-27 : badVersion bs ≡ true → listFault bs ≡ fault 27 0
+    module _ (m : badListMark bs ≡ false) where
+      pub list-27 : badListVersion bs ≡ true → listFault bs ≡ fault 27 0
       unfolding listFault
-      list-27 v = spared 25 0 _ _ (le-ltb (length bs) headLength h) ∙ spared 26 0 _ _ m ∙ given 27 0 _ _ (omega arith) v
+      list-27 v = spared 25 0 _ _ (le-ltb (length bs) listHeadLength h) ∙ spared 26 0 _ _ m ∙ given 27 0 _ _ (omega arith) v
 
-      module _ (v : badVersion bs ≡ false) where
+      module _ (v : badListVersion bs ≡ false) where
         list-rest : listFault bs ≡ when 30 0 (badCount bs)
         unfolding listFault
-        list-rest = spared 25 0 _ _ (le-ltb (length bs) headLength h) ∙ spared 26 0 _ _ m ∙ spared 27 0 _ _ v
+        list-rest = spared 25 0 _ _ (le-ltb (length bs) listHeadLength h) ∙ spared 26 0 _ _ m ∙ spared 27 0 _ _ v
 
         pub list-30 : (length bs ≡ listLength (countIn bs) → ⊥) → listFault bs ≡ fault 30 0
         list-30 n = list-rest ∙ when-bad 30 0 _ (ap not (ne-eqb (length bs) (listLength (countIn bs)) n))
@@ -78,20 +78,20 @@ list-plain bs = or-plain _ _ (when-plain 25 _) (or-plain _ _ (when-plain 26 _) (
 
 -- what a list has that is not refused
 pub record Good (bs : List ℕ) : Type 0 where
-  pub head : headLength ≤ length bs
-  pub mark : badMark bs ≡ false
-  pub version : badVersion bs ≡ false
+  pub head : listHeadLength ≤ length bs
+  pub mark : badListMark bs ≡ false
+  pub version : badListVersion bs ≡ false
   pub long : length bs ≡ listLength (countIn bs)
 
 pub good : (bs : List ℕ) → listFault bs .status ≡ 0 → Good bs
 unfolding listFault
 good bs z =
     let x = or-clear (when 25 0 (badHead bs)) _ z in
-    let y = or-clear (when 26 0 (badMark bs)) _ (x .1) in
-    let w = or-clear (when 27 0 (badVersion bs)) _ (y .1) in record {
+    let y = or-clear (when 26 0 (badListMark bs)) _ (x .1) in
+    let w = or-clear (when 27 0 (badListVersion bs)) _ (y .1) in record {
       head = ltb-false _ _ (when-clear 25 0 (badHead bs) (omega arith) (x .0));
-      mark = when-clear 26 0 (badMark bs) (omega arith) (y .0);
-      version = when-clear 27 0 (badVersion bs) (omega arith) (w .0);
+      mark = when-clear 26 0 (badListMark bs) (omega arith) (y .0);
+      version = when-clear 27 0 (badListVersion bs) (omega arith) (w .0);
       long = eqb-true _ _ (not-false _ (when-clear 30 0 (badCount bs) (omega arith) (w .1)));
     }
 

@@ -17,16 +17,16 @@ use Rattle.record.specs.Records.{recordBytes, fieldsFault}
 use Rattle.record.proofs.Parts.{sets-next}
 use Rattle.record.proofs.Laying.{length-record}
 use Rattle.list.specs.declared.Appended.{Appended}
-use Rattle.list.specs.Layout.{headLength, countPlace, most, headBytes, listLength}
-use Rattle.list.specs.Lists.{countIn, listFault}
+use Rattle.list.specs.Layout.{listHeadLength, countPlace, most, listHead, listLength}
+use Rattle.list.specs.Lists.{listFault, recordCount}
 use Rattle.list.specs.Writers.{startFault, startedBuffer, appendFault, appendOf, appendedBuffer}
 use Rattle.list.specs.RoundTrip.{Written}
 use Rattle.list.proofs.Writing.{start-given, append-given, append-told}
-use Rattle.list.proofs.Listing.{Sound, length-head, length-listed, count-listed, listed-opens}
+use Rattle.list.proofs.Listing.{Sound, length-head, length-listed, listed-opens, listed-count}
 
 -- w is the buffer with a list of n records at its start, and tells where that ends
 pub record Lies (buffer : List ℕ) (n : ℕ) (body : List ℕ) (w : Written) : Type 0 where
-  pub is : w .buffer ≡ sets buffer 0 (headBytes n ++ body)
+  pub is : w .buffer ≡ sets buffer 0 (listHead n ++ body)
   pub ends : w .length ≡ listLength n
   pub sound : Sound n body
   pub room : listLength n ≤ length buffer
@@ -34,48 +34,46 @@ pub record Lies (buffer : List ℕ) (n : ℕ) (body : List ℕ) (w : Written) : 
 -- ---- start
 
 -- an accepted start leaves a list of no records
-pub start-lies : (buffer : List ℕ) → startFault buffer .status ≡ 0 → Lies buffer 0 [] (record { buffer = startedBuffer buffer; length = headLength })
+pub start-lies : (buffer : List ℕ) → startFault buffer .status ≡ 0 → Lies buffer 0 [] (record { buffer = startedBuffer buffer; length = listHeadLength })
 unfolding startFault little
 start-lies buffer z = record {
   is = start-given buffer z;
   ends = refl;
   sound = record { few = omega arith; long = refl };
-  room = ltb-false _ _ (when-clear 38 0 (ltb (length buffer) headLength) (omega arith) z);
+  room = ltb-false _ _ (when-clear 38 0 (ltb (length buffer) listHeadLength) (omega arith) z);
 }
 
 -- ---- append
 
 -- the count stored over the count of a list that a buffer has room for
-count-stored : (n m : ℕ) (body buffer : List ℕ) → length (headBytes n ++ body) ≤ length buffer → sets (sets buffer 0 (headBytes n ++ body)) countPlace (little 2 m) ≡ sets buffer 0 (headBytes m ++ body)
+count-stored : (n m : ℕ) (body buffer : List ℕ) → length (listHead n ++ body) ≤ length buffer → sets (sets buffer 0 (listHead n ++ body)) countPlace (little 2 m) ≡ sets buffer 0 (listHead m ++ body)
 unfolding little
 count-stored n m body buffer h =
-    ap (λ (a : List ℕ). sets a countPlace (little 2 m)) (sets-eq (headBytes n ++ body) buffer 0 (omega arith)) ∙
-    sym (sets-eq (headBytes m ++ body) buffer 0 (omega arith))
+    ap (λ (a : List ℕ). sets a countPlace (little 2 m)) (sets-eq (listHead n ++ body) buffer 0 (omega arith)) ∙
+    sym (sets-eq (listHead m ++ body) buffer 0 (omega arith))
 
 module _ (buffer : List ℕ) (n : ℕ) (body : List ℕ) (w : Written) (s : Lies buffer n body w) where
   -- the list, and then what the buffer has behind it
-  lies-whole : w .buffer ≡ headBytes n ++ body ++ drop (listLength n) buffer
+  lies-whole : w .buffer ≡ listHead n ++ body ++ drop (listLength n) buffer
   lies-whole =
       let l = length-listed n body (s .sound .long) in
       let r = s .room in
-      s .is ∙ sets-eq (headBytes n ++ body) buffer 0 (omega arith) ∙
-      ap (λ (k : ℕ). headBytes n ++ body ++ drop k buffer) (let z : 0 + length (headBytes n ++ body) ≡ listLength n = omega arith in z)
+      s .is ∙ sets-eq (listHead n ++ body) buffer 0 (omega arith) ∙
+      ap (λ (k : ℕ). listHead n ++ body ++ drop k buffer) (let z : 0 + length (listHead n ++ body) ≡ listLength n = omega arith in z)
 
   -- as long as the buffer was
   pub lies-length : length (w .buffer) ≡ length buffer
-  lies-length = ap length (s .is) ∙ length-sets buffer 0 (headBytes n ++ body)
+  lies-length = ap length (s .is) ∙ length-sets buffer 0 (listHead n ++ body)
 
   -- the list alone
-  pub lies-taken : take (w .length) (w .buffer) ≡ headBytes n ++ body
+  pub lies-taken : take (w .length) (w .buffer) ≡ listHead n ++ body
   lies-taken =
       ap₂ take (s .ends) lies-whole ∙
-      take-at (headBytes n ++ body) (drop (listLength n) buffer) (listLength n) (length-listed n body (s .sound .long))
+      take-at (listHead n ++ body) (drop (listLength n) buffer) (listLength n) (length-listed n body (s .sound .long))
 
-  -- the count that the buffer tells is the list's
-  pub lies-count : countIn (w .buffer) ≡ n
-  lies-count =
-      ap countIn (lies-whole ∙ append-assoc (headBytes n) body (drop (listLength n) buffer)) ∙
-      count-listed n (body ++ drop (listLength n) buffer) (s .sound .few)
+  -- it has its n records
+  lies-count : recordCount (take (w .length) (w .buffer)) ≡ n
+  lies-count = ap recordCount lies-taken ∙ listed-count n body (s .sound)
 
   module _ (t : Tensor) (c : Config) where
     -- what can be wrong with an append behind it: 37, 38, 1 and 28
@@ -126,16 +124,16 @@ module _ (buffer : List ℕ) (n : ℕ) (body : List ℕ) (w : Written) (s : Lies
               ap (λ (a : Appended). a .length) (append-told (w .buffer) (w .length) t c z) ∙
               (let e = s .ends in let q : w .length + recordLength ≡ listLength (suc n) = omega arith in q)
 
-          behind : sets (w .buffer) (w .length) (recordBytes t c) ≡ sets buffer 0 (headBytes n ++ (body ++ recordBytes t c))
+          behind : sets (w .buffer) (w .length) (recordBytes t c) ≡ sets buffer 0 (listHead n ++ (body ++ recordBytes t c))
           behind =
               let e = s .ends in
               let l = length-listed n body (s .sound .long) in
               ap (λ (a : List ℕ). sets a (w .length) (recordBytes t c)) (s .is) ∙
-              sets-next (headBytes n ++ body) (recordBytes t c) buffer 0 (w .length) (omega arith) ∙
-              ap (sets buffer 0) (append-assoc (headBytes n) body (recordBytes t c))
+              sets-next (listHead n ++ body) (recordBytes t c) buffer 0 (w .length) (omega arith) ∙
+              ap (sets buffer 0) (append-assoc (listHead n) body (recordBytes t c))
 
-          laid : appendedBuffer (w .buffer) (w .length) t c ≡ sets buffer 0 (headBytes (suc n) ++ (body ++ recordBytes t c))
+          laid : appendedBuffer (w .buffer) (w .length) t c ≡ sets buffer 0 (listHead (suc n) ++ (body ++ recordBytes t c))
           laid =
               append-given (w .buffer) (w .length) t c z ∙
               ap₂ (λ (a : List ℕ) (k : ℕ). sets a countPlace (little 2 k)) behind (ap (λ (k : ℕ). k + 1) lies-count ∙ add-one n) ∙
-              count-stored n (suc n) (body ++ recordBytes t c) buffer (let l = long in let r = room in let h = length-append (headBytes n) (body ++ recordBytes t c) in let k = length-head n in omega arith)
+              count-stored n (suc n) (body ++ recordBytes t c) buffer (let l = long in let r = room in let h = length-append (listHead n) (body ++ recordBytes t c) in let k = length-head n in omega arith)

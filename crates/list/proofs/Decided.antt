@@ -14,7 +14,7 @@ use contract.Notation.{Connectives, connectives}
 use denote.Ref.{now}
 use denote.Triple.Entry.{Args, Res}
 use denote.Triple.Clauses.{AtExit}
-use Rattle.faults.specs.Decided.{Decided, OneLeft, OneBytes}
+use Rattle.faults.specs.Decided.{Decided, OneLeft}
 use Rattle.faults.proofs.Deciding.{by-equation, by-first}
 use Rattle.list.specs.Readers.{opened, answer, advanced, firstTwoOf}
 use Rattle.list.proofs.head.list_fault.Reads as list-fault
@@ -42,13 +42,13 @@ place-after-decided = by-equation
 pub start-decided : Decided start.Pre start.Post
 start-decided = by-first
 
-pub start-buffer : OneBytes start.Post (λ κ r s. now (s .0))
+pub start-buffer : OneLeft start.Post (λ κ r s. now (s .0))
 start-buffer = record { one = λ κ a x y s t p q. p .1 ∙ sym (q .1) }
 
 pub append-decided : Decided append.Pre append.Post
 append-decided = by-first
 
-pub append-buffer : OneBytes append.Post (λ κ r s. now (s .0))
+pub append-buffer : OneLeft append.Post (λ κ r s. now (s .0))
 append-buffer = record { one = λ κ a x y s t p q. p .1 ∙ sym (q .1) }
 
 -- ---- through the reader

@@ -27,7 +27,7 @@ use Rattle.list.specs.Writers.{startFault, appendFault, noAppend, append
 use Rattle.list.specs.Orders.{listRules, recordRules, startRules, behindRules, appendRules}
 use Rattle.list.specs.Claims.{ListExact, RecordExact, StartExact, AppendExact, RecordZeros, AppendZeros, StartKept, AppendKept}
 use Rattle.list.proofs.Answers.{in-or-past, when-plain, list-plain, at-past, at-in}
-use Rattle.list.proofs.Writing.{start-same, append-same, append-refused, append-told}
+use Rattle.list.proofs.Writing.{start-same, append-same, append-refused, append-told, append-status}
 
 -- ---- the calls are held to their lists
 
@@ -70,30 +70,20 @@ start-exact buffer = exact (startRules buffer) (positive-start buffer) (startFau
 
 pub append-exact : AppendExact
 append-exact buffer n t c =
-    exact (appendRules buffer n t c) (positive-append buffer n t c) f (append-chain buffer n t c) number
+    exact (appendRules buffer n t c) (positive-append buffer n t c) (appendFault buffer n t c) (append-chain buffer n t c) (append-status buffer n t c)
     (λ z. ap (λ (a : Appended). a .dim) (append-told buffer n t c z))
     (λ h. ap (λ (a : Appended). a .dim) (append-refused buffer n t c h))
-  where
-    f : Fault
-    f = appendFault buffer n t c
-
-    number : appendOf buffer n t c .status ≡ f .status
-    number = elim (ℕ-discrete (f .status) 0) [
-      | yes z ↦ ap (λ (a : Appended). a .status) (append-told buffer n t c z) ∙ sym z
-      | no z ↦ ap (λ (a : Appended). a .status) (append-refused buffer n t c z)
-    ]
 
 pub append-zeros : AppendZeros
-append-zeros buffer n t c h = elim (ℕ-discrete (appendFault buffer n t c .status) 0) [
-  | yes z ↦ absurd (h (ap (λ (a : Appended). a .status) (append-told buffer n t c z)))
-  | no z ↦ let e = append-refused buffer n t c z in e ∙ ap (λ (a : Appended). noAppend (fault (a .status) (a .dim))) (sym e)
-]
+append-zeros buffer n t c h =
+    let e = append-refused buffer n t c (λ z. h (append-status buffer n t c ∙ z)) in
+    e ∙ ap (λ (a : Appended). noAppend (fault (a .status) (a .dim))) (sym e)
 
 pub start-kept : StartKept
 start-kept buffer h = start-same buffer h
 
 pub append-kept : AppendKept
-append-kept buffer n t c h = append-same buffer n t c h
+append-kept buffer n t c h = append-same buffer n t c (λ z. h (append-status buffer n t c ∙ z))
 
 -- ---- a record of a list
 

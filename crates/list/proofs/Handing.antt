@@ -8,8 +8,8 @@ use denote.Ref.{RefT, now}
 use Rattle.list.specs.declared.Numbered.{Numbered}
 use Rattle.list.specs.declared.Opened.{Opened}
 use Rattle.list.specs.Lists.{recordCount, recordAt, placeAfter}
-use Rattle.list.specs.Readers.{opened, answer, advanced, later, firstTwoOf}
-use Rattle.list.specs.Claims.{RefusedNone, GoodEnds, RecordsNumbered, RecordsEnd, HandedOut, HandedAll}
+use Rattle.list.specs.Readers.{opened, answer, advanced, afterCalls, firstTwoOf}
+use Rattle.list.specs.Claims.{RefusedNone, GoodEnds, RecordsNumbered, RecordsEnd, HandedOut, ReaderStays, RefusedHands, HandedAll}
 use Rattle.list.proofs.Answers.{in-or-past, count-none, at-past, at-in, after-past, after-in}
 use Rattle.list.proofs.Listing.{opened-ends}
 
@@ -55,23 +55,31 @@ module _ (bs : List ℕ) where
       past l = at-past bs (min n (recordCount bs)) (omega arith) ∙ sym (at-past bs n l)
 
 -- a reader after n records
-later-is : (bytes : RefT (List ℕ)) (n : ℕ) → later n (opened bytes .reader) ≡ record { bytes = bytes; next = min n (recordCount (now bytes)) }
-unfolding later
-later-is bytes zero = ap (λ (n : ℕ). record { bytes = bytes; next = n }) (omega arith)
-later-is bytes (suc n) = ap advanced (later-is bytes n) ∙ ap (λ (k : ℕ). record { bytes = bytes; next = k }) (place-later (now bytes) n)
+after-calls : (bytes : RefT (List ℕ)) (n : ℕ) → afterCalls n (opened bytes .reader) ≡ record { bytes = bytes; next = min n (recordCount (now bytes)) }
+unfolding afterCalls
+after-calls bytes zero = ap (λ (n : ℕ). record { bytes = bytes; next = n }) (omega arith)
+after-calls bytes (suc n) = ap advanced (after-calls bytes n) ∙ ap (λ (k : ℕ). record { bytes = bytes; next = k }) (place-later (now bytes) n)
 
 pub handed-out : HandedOut
-handed-out bytes n = ap answer (later-is bytes n) ∙ record-later (now bytes) n
+handed-out bytes n = ap answer (after-calls bytes n) ∙ record-later (now bytes) n
+
+pub reader-stays : ReaderStays
+reader-stays r h = (at-past (now (r .bytes)) (r .next) h, ap (λ (k : ℕ). record { bytes = r .bytes; next = k }) (after-past (now (r .bytes)) (r .next) h))
+
+pub refused-hands : RefusedHands
+refused-hands bytes n h =
+    let z = count-none (now bytes) h in
+    (z, handed-out bytes n ∙ at-past (now bytes) n (omega arith))
 
 pub handed-all : HandedAll
 handed-all bytes n h = (
   handed-out bytes n ∙ at-past (now bytes) n h,
-  later-is bytes (suc n) ∙ ap (λ (k : ℕ). record { bytes = bytes; next = k }) (omega arith) ∙ sym (later-is bytes n),
+  after-calls bytes (suc n) ∙ ap (λ (k : ℕ). record { bytes = bytes; next = k }) (omega arith) ∙ sym (after-calls bytes n),
 )
 
 -- what is opened, and asked for twice, comes to the answer in the words of the plain functions
 pub by-reader : (bytes : RefT (List ℕ)) (r : Opened) (n n′ : Numbered) → r ≡ opened bytes → n ≡ answer (r .reader) → n′ ≡ answer (advanced (r .reader)) → record { status = r .status; count = r .count; first = n; second = n′ } ≡ firstTwoOf (now bytes)
-unfolding firstTwoOf later
+unfolding firstTwoOf afterCalls
 by-reader bytes r n n′ e one two =
     let first = one ∙ ap (λ (o : Opened). answer (o .reader)) e in
     let second = two ∙ ap (λ (o : Opened). answer (advanced (o .reader))) e ∙ handed-out bytes 1 in

@@ -125,7 +125,7 @@ module _ {M : Type 1} (𝓤 : URA M) (H : Heap 𝓤) (A : Atoms 𝓤) (W : Given
   to-place-after = (((κ, tt), (q, tt), tt, (h .bytes, (h .next, tt)), passed), tt)
 
   abbrev Tok : Item 𝓤
-  Tok = ‵ (flft κ q) ⊛ ‵ ftrue
+  Tok = Token 𝓤 H A W κ q (h .bytes)
 
   abbrev Fields : Fml
   Fields = owns (ShrSlice (named 0) κ u8 ∷ usize ∷ []) (h .bytes, (h .next, tt)) passed

@@ -15,40 +15,40 @@ use Rattle.record.specs.Records.{readOf}
 use Rattle.record.specs.RoundTrip.{Bytes}
 use Rattle.record.proofs.Parts.{part-cons, length-part, part-append}
 use Rattle.record.proofs.Digits.{bytes-part, number-little, little-number, number-fits, number-two}
-use Rattle.list.specs.Layout.{headLength, theVersion, versionPlace, countPlace, most, headBytes, listLength}
-use Rattle.list.specs.Lists.{countIn, badHead, badMark, badVersion, badCount, listFault, recordCount, recordAt}
+use Rattle.list.specs.Layout.{listHeadLength, listVersion, versionPlace, countPlace, most, listHead, listLength}
+use Rattle.list.specs.Lists.{countIn, badHead, badListMark, badListVersion, badCount, listFault, recordCount, recordAt}
 use Rattle.list.proofs.Answers.{good, count-given, at-in}
 
 -- ---- a head, and what follows it
 
 -- a head has its length
-pub length-head : (n : ℕ) → length (headBytes n) ≡ headLength
+pub length-head : (n : ℕ) → length (listHead n) ≡ listHeadLength
 unfolding little
 length-head n = refl
 
 -- a list has the bytes of its head and those of its records
-pub length-listed : (n : ℕ) (body : List ℕ) → length body ≡ recordLength * n → length (headBytes n ++ body) ≡ listLength n
+pub length-listed : (n : ℕ) (body : List ℕ) → length body ≡ recordLength * n → length (listHead n ++ body) ≡ listLength n
 length-listed n body l =
-    let e = length-append (headBytes n) body in
+    let e = length-append (listHead n) body in
     let h = length-head n in
     omega arith
 
 -- a part behind the head
-part-listed : (n : ℕ) (body : List ℕ) (p w : ℕ) → part (headLength + p) w (headBytes n ++ body) ≡ part p w body
+part-listed : (n : ℕ) (body : List ℕ) (p w : ℕ) → part (listHeadLength + p) w (listHead n ++ body) ≡ part p w body
 unfolding little
-part-listed n body p w = part-append (headBytes n) body p w
+part-listed n body p w = part-append (listHead n) body p w
 
 -- a count that two bytes can tell is told
-pub count-listed : (n : ℕ) (body : List ℕ) → n ≤ most → countIn (headBytes n ++ body) ≡ n
+pub count-listed : (n : ℕ) (body : List ℕ) → n ≤ most → countIn (listHead n ++ body) ≡ n
 unfolding little
 count-listed n body h = number-little 2 n (omega arith)
 
 -- its mark and its version are good
-mark-listed : (n : ℕ) (body : List ℕ) → badMark (headBytes n ++ body) ≡ false
+mark-listed : (n : ℕ) (body : List ℕ) → badListMark (listHead n ++ body) ≡ false
 unfolding some
 mark-listed n body = refl
 
-version-listed : (n : ℕ) (body : List ℕ) → badVersion (headBytes n ++ body) ≡ false
+version-listed : (n : ℕ) (body : List ℕ) → badListVersion (listHead n ++ body) ≡ false
 unfolding little number
 version-listed n body = refl
 
@@ -60,23 +60,23 @@ pub record Sound (n : ℕ) (body : List ℕ) : Type 0 where
 
 module _ (n : ℕ) (body : List ℕ) (s : Sound n body) where
   -- it opens
-  pub listed-opens : listFault (headBytes n ++ body) .status ≡ 0
+  pub listed-opens : listFault (listHead n ++ body) .status ≡ 0
   unfolding listFault
   listed-opens =
-      let bs = headBytes n ++ body in
+      let bs = listHead n ++ body in
       let l = length-listed n body (s .long) in
-      let h : badHead bs ≡ false = le-ltb (length bs) headLength (omega arith) in
+      let h : badHead bs ≡ false = le-ltb (length bs) listHeadLength (omega arith) in
       let c : badCount bs ≡ false = ap not (eq-eqb (length bs) (listLength (countIn bs)) (l ∙ ap listLength (sym (count-listed n body (s .few))))) in
       status (spared 25 0 _ _ h ∙ spared 26 0 _ _ (mark-listed n body) ∙ spared 27 0 _ _ (version-listed n body) ∙ when-good 30 0 _ c)
 
   -- it has n records
-  pub listed-count : recordCount (headBytes n ++ body) ≡ n
-  listed-count = count-given (headBytes n ++ body) listed-opens ∙ count-listed n body (s .few)
+  pub listed-count : recordCount (listHead n ++ body) ≡ n
+  listed-count = count-given (listHead n ++ body) listed-opens ∙ count-listed n body (s .few)
 
   -- and they are the parts of its body
-  pub listed-record : (k : ℕ) → k < n → recordAt (headBytes n ++ body) k ≡ record { number = k; reading = readOf (part (recordLength * k) recordLength body) }
+  pub listed-record : (k : ℕ) → k < n → recordAt (listHead n ++ body) k ≡ record { number = k; reading = readOf (part (recordLength * k) recordLength body) }
   listed-record k h =
-      at-in (headBytes n ++ body) k (rw listed-count h) ∙
+      at-in (listHead n ++ body) k (rw listed-count h) ∙
       ap (λ (bs : List ℕ). record { number = k; reading = readOf bs }) (part-listed n body (recordLength * k) recordLength)
 
 -- ---- bytes that open
@@ -88,15 +88,15 @@ module _ (bs : List ℕ) (z : listFault bs .status ≡ 0) where
 
   module _ (b : Bytes bs) where
     -- one byte more of a part
-    next : (p n x : ℕ) (rest : List ℕ) → ltb p headLength ≡ true → x ≡ at bs p → rest ≡ part (p + 1) n bs → x ∷ rest ≡ part p (suc n) bs
-    next p n x rest h e r = let l = good bs z .head in (λ i. e i ∷ r i) ∙ sym (part-cons p n bs (let q = ltb-true p headLength h in omega arith))
+    next : (p n x : ℕ) (rest : List ℕ) → ltb p listHeadLength ≡ true → x ≡ at bs p → rest ≡ part (p + 1) n bs → x ∷ rest ≡ part p (suc n) bs
+    next p n x rest h e r = let l = good bs z .head in (λ i. e i ∷ r i) ∙ sym (part-cons p n bs (let q = ltb-true p listHeadLength h in omega arith))
 
     -- their version's bytes
     version-bytes : (at bs 3 ≡ 1) × (at bs 4 ≡ 0)
     version-bytes =
         let l = good bs z .head in
         let n = number-two versionPlace bs (omega arith) in
-        let e : number (part versionPlace 2 bs) ≡ theVersion = eqb-true _ _ (not-false _ (good bs z .version)) in
+        let e : number (part versionPlace 2 bs) ≡ listVersion = eqb-true _ _ (not-false _ (good bs z .version)) in
         let low = b 3 in
         let high = b 4 in
         (omega arith, omega arith)
@@ -109,7 +109,7 @@ module _ (bs : List ℕ) (z : listFault bs .status ≡ 0) where
         ap (λ (w : ℕ). little w (countIn bs)) (sym n) ∙ little-number (part countPlace 2 bs) (bytes-part bs b countPlace 2)
 
     -- their head says the count
-    head-bytes : headBytes (countIn bs) ≡ part 0 headLength bs
+    head-bytes : listHead (countIn bs) ≡ part 0 listHeadLength bs
     unfolding some little
     head-bytes =
         let x = either-clear _ _ (good bs z .mark) in
@@ -122,17 +122,17 @@ module _ (bs : List ℕ) (z : listFault bs .status ≡ 0) where
         (next 4 2 0 _ refl (sym (v .1)) count-bytes))))
 
     -- so they are a list
-    pub opened-is : bs ≡ headBytes (recordCount bs) ++ drop headLength bs
+    pub opened-is : bs ≡ listHead (recordCount bs) ++ drop listHeadLength bs
     opened-is =
-        sym (take-append-drop headLength bs) ∙
-        ap (λ (h : List ℕ). h ++ drop headLength bs) (sym head-bytes ∙ ap headBytes (sym (count-given bs z)))
+        sym (take-append-drop listHeadLength bs) ∙
+        ap (λ (h : List ℕ). h ++ drop listHeadLength bs) (sym head-bytes ∙ ap listHead (sym (count-given bs z)))
 
     -- whose count two bytes tell, and which is as long as it says
-    pub opened-sound : Sound (recordCount bs) (drop headLength bs)
+    pub opened-sound : Sound (recordCount bs) (drop listHeadLength bs)
     opened-sound =
         let l = good bs z .head in
         let e = opened-ends in
-        let d = length-drop headLength bs in
+        let d = length-drop listHeadLength bs in
         let p = length-part countPlace 2 bs (omega arith) in
         let f = number-fits (part countPlace 2 bs) (bytes-part bs b countPlace 2) in
         let g : countIn bs < 256 ^ 2 = rw p at f in

@@ -23,7 +23,7 @@ use Rattle.record.proofs.Laying.{length-record}
 use Rattle.record.proofs.Answers.{write-fields, room-written}
 use Rattle.record.proofs.RoundTrip.{read-back, write-back}
 use Rattle.list.specs.declared.Numbered.{Numbered}
-use Rattle.list.specs.Layout.{headLength, most, headBytes, listLength}
+use Rattle.list.specs.Layout.{listHeadLength, most, listHead, listLength}
 use Rattle.list.specs.Lists.{listFault, recordCount, recordIn, recordAt}
 use Rattle.list.specs.Writers.{appendFault, appendOf, appendedBuffer}
 use Rattle.list.specs.RoundTrip.{Move, listBytes, numbered, moveIn, Written, written, AllAccepted, WrittenReads, WrittenBytes, ReadWrites, AppendReads}
@@ -124,13 +124,13 @@ module _ (bs : List ℕ) (b : Bytes bs) (z : listFault bs .status ≡ 0) where
     moves-are =
         let n = recordCount bs in
         let e = opened-ends bs z in
-        let d = length-drop headLength bs in
+        let d = length-drop listHeadLength bs in
         let p = place n in
-        ap (λ (body : List ℕ). headBytes n ++ body)
-        (joined-same n _ (λ k. part (headLength + sum k (λ _. recordLength)) recordLength bs)
-        (λ k h. move-writes k h (good k h) .1 ∙ ap (λ (q : ℕ). part (headLength + q) recordLength bs) (place k)) ∙
-        joined-parts n headLength (λ _. recordLength) bs ∙
-        take-all (sum n (λ _. recordLength)) (drop headLength bs) (omega arith)) ∙
+        ap (λ (body : List ℕ). listHead n ++ body)
+        (joined-same n _ (λ k. part (listHeadLength + sum k (λ _. recordLength)) recordLength bs)
+        (λ k h. move-writes k h (good k h) .1 ∙ ap (λ (q : ℕ). part (listHeadLength + q) recordLength bs) (place k)) ∙
+        joined-parts n listHeadLength (λ _. recordLength) bs ∙
+        take-all (sum n (λ _. recordLength)) (drop listHeadLength bs) (omega arith)) ∙
         sym (opened-is bs z b)
 
 -- the theorem: bytes that open, and whose records all read, are what start and appends of those fields write
@@ -147,7 +147,7 @@ read-writes bs b z good buffer room =
 
 module _ (n : ℕ) (body : List ℕ) (s : Sound n body) (t : Tensor) (c : Config) (s′ : Sound (suc n) (body ++ recordBytes t c)) where
   -- the records before are those of the list before
-  before-same : (k : ℕ) → k < n → recordAt (headBytes (suc n) ++ (body ++ recordBytes t c)) k ≡ recordAt (headBytes n ++ body) k
+  before-same : (k : ℕ) → k < n → recordAt (listHead (suc n) ++ (body ++ recordBytes t c)) k ≡ recordAt (listHead n ++ body) k
   before-same k h =
       let l = s .long in
       listed-record (suc n) (body ++ recordBytes t c) s′ k (omega arith) ∙
@@ -155,7 +155,7 @@ module _ (n : ℕ) (body : List ℕ) (s : Sound n body) (t : Tensor) (c : Config
       sym (listed-record n body s k h)
 
   -- the last is the new one
-  last-reads : Fits t c → fieldsFault t c .status ≡ 0 → recordAt (headBytes (suc n) ++ (body ++ recordBytes t c)) n ≡ numbered n (record { tensor = t; config = c })
+  last-reads : Fits t c → fieldsFault t c .status ≡ 0 → recordAt (listHead (suc n) ++ (body ++ recordBytes t c)) n ≡ numbered n (record { tensor = t; config = c })
   last-reads f z =
       let l = length-record t c in
       listed-record (suc n) (body ++ recordBytes t c) s′ n (omega arith) ∙
@@ -164,7 +164,7 @@ module _ (n : ℕ) (body : List ℕ) (s : Sound n body) (t : Tensor) (c : Config
       ap readOf (take-all recordLength (recordBytes t c) (omega arith)) ∙ record-reads t c f z)
 
 -- bytes at a buffer's start that open lie in it as a list
-old-lies : (buffer : List ℕ) (n : ℕ) → Bytes buffer → n ≤ length buffer → listFault (take n buffer) .status ≡ 0 → let old = take n buffer in Lies buffer (recordCount old) (drop headLength old) (record { buffer = buffer; length = n })
+old-lies : (buffer : List ℕ) (n : ℕ) → Bytes buffer → n ≤ length buffer → listFault (take n buffer) .status ≡ 0 → let old = take n buffer in Lies buffer (recordCount old) (drop listHeadLength old) (record { buffer = buffer; length = n })
 old-lies buffer n b h z =
     let old = take n buffer in
     let l = length-take-le n buffer h in
@@ -192,7 +192,7 @@ append-reads buffer n t c b f z = (
     count = recordCount (take n buffer)
 
     body : List ℕ
-    body = drop headLength (take n buffer)
+    body = drop listHeadLength (take n buffer)
 
     more : List ℕ
     more = body ++ recordBytes t c
@@ -206,10 +206,10 @@ append-reads buffer n t c b f z = (
     lies′ : Lies buffer (suc count) more (record { buffer = appendedBuffer buffer n t c; length = appendOf buffer n t c .length })
     lies′ = append-lies buffer count body at-first lies t c z
 
-    old-is : take n buffer ≡ headBytes count ++ body
+    old-is : take n buffer ≡ listHead count ++ body
     old-is = lies-taken buffer count body at-first lies
 
-    is : take (n + recordLength) (appendedBuffer buffer n t c) ≡ headBytes (suc count) ++ more
+    is : take (n + recordLength) (appendedBuffer buffer n t c) ≡ listHead (suc count) ++ more
     is =
         let l = lies .ends in
         let e = lies′ .ends in

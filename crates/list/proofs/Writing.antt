@@ -1,5 +1,6 @@
 -- What start and append come to where a test in code stops them, and where none does. Assumes nothing.
 use Prim.Native.Nat.{ℕ, _+_, _-_, _≤_, _<_}
+use native.Mathlib.Decide.{ℕ-discrete}
 use native.Mathlib.Omega.{arith}
 use mathlib.Core.Path.{_≡_, refl, sym, ap, _∙_}
 use mathlib.Core.List.{List, _++_, append-assoc}
@@ -13,35 +14,36 @@ use Rattle.faults.specs.Faults.{fault, when}
 use Rattle.faults.proofs.Faults.{status, is-fault, given, spared, passed, stopped, if-fault, if-none, or-clear, when-bad, when-good, when-clear}
 use Rattle.plane.specs.declared.Tensor.{Tensor}
 use Rattle.plane.specs.declared.Config.{Config}
-use Rattle.record.specs.Layout.{little, recordLength}
+use Rattle.record.specs.Layout.{little, number, recordLength}
 use Rattle.record.specs.Records.{recordBytes, fieldsFault, writeFault, writtenRoom}
 use Rattle.record.proofs.Answers.{write-fields, room-kept, room-written}
+use Rattle.record.proofs.Parts.{part-part}
 use Rattle.record.proofs.Laying.{length-record}
 use Rattle.list.specs.declared.Appended.{Appended}
-use Rattle.list.specs.Layout.{headLength, countPlace, most, headBytes}
-use Rattle.list.specs.Lists.{countIn, listFault}
+use Rattle.list.specs.Layout.{listHeadLength, countPlace, most, listHead}
+use Rattle.list.specs.Lists.{countIn, listFault, recordCount}
 use Rattle.list.specs.Writers.{startFault, startedBuffer, appendFault, noAppend, appendOf, appendedBuffer}
-use Rattle.list.proofs.Answers.{list-plain, good}
+use Rattle.list.proofs.Answers.{list-plain, good, count-given}
 
 -- ---- an empty list
 
 module _ (buffer : List ℕ) where
   pub start-same : (startFault buffer .status ≡ 0 → ⊥) → startedBuffer buffer ≡ buffer
   unfolding startedBuffer
-  start-same h = if-fault (startFault buffer) buffer (sets buffer 0 (headBytes 0)) h
+  start-same h = if-fault (startFault buffer) buffer (sets buffer 0 (listHead 0)) h
 
-  pub start-given : startFault buffer .status ≡ 0 → startedBuffer buffer ≡ sets buffer 0 (headBytes 0)
+  pub start-given : startFault buffer .status ≡ 0 → startedBuffer buffer ≡ sets buffer 0 (listHead 0)
   unfolding startedBuffer
-  start-given z = if-none (startFault buffer) buffer (sets buffer 0 (headBytes 0)) z
+  start-given z = if-none (startFault buffer) buffer (sets buffer 0 (listHead 0)) z
 
   -- as the code comes to it
-  pub start-38 : length buffer < headLength → (38 ≡ startFault buffer .status) × (buffer ≡ startedBuffer buffer)
+  pub start-38 : length buffer < listHeadLength → (38 ≡ startFault buffer .status) × (buffer ≡ startedBuffer buffer)
   unfolding startFault
-  start-38 h = let e = when-bad 38 0 _ (lt-ltb (length buffer) headLength h) in (sym (status e), sym (start-same (is-fault 38 0 (omega arith) e)))
+  start-38 h = let e = when-bad 38 0 _ (lt-ltb (length buffer) listHeadLength h) in (sym (status e), sym (start-same (is-fault 38 0 (omega arith) e)))
 
-  pub start-0 : headLength ≤ length buffer → startFault buffer .status ≡ 0
+  pub start-0 : listHeadLength ≤ length buffer → startFault buffer .status ≡ 0
   unfolding startFault
-  start-0 h = status (when-good 38 0 _ (le-ltb (length buffer) headLength h))
+  start-0 h = status (when-good 38 0 _ (le-ltb (length buffer) listHeadLength h))
 
 -- ---- one record more, behind the list that the first n bytes are
 
@@ -50,7 +52,7 @@ module _ (buffer : List ℕ) (n : ℕ) (t : Tensor) (c : Config) where
   unfolding appendedBuffer
   append-same h = if-fault (appendFault buffer n t c) buffer _ h
 
-  pub append-given : appendFault buffer n t c .status ≡ 0 → appendedBuffer buffer n t c ≡ sets (sets buffer n (recordBytes t c)) countPlace (little 2 (countIn buffer + 1))
+  pub append-given : appendFault buffer n t c .status ≡ 0 → appendedBuffer buffer n t c ≡ sets (sets buffer n (recordBytes t c)) countPlace (little 2 (recordCount (take n buffer) + 1))
   unfolding appendedBuffer
   append-given z = if-none (appendFault buffer n t c) buffer _ z
 
@@ -61,6 +63,13 @@ module _ (buffer : List ℕ) (n : ℕ) (t : Tensor) (c : Config) where
   pub append-told : appendFault buffer n t c .status ≡ 0 → appendOf buffer n t c ≡ record { status = 0; dim = 0; length = n + recordLength }
   unfolding appendOf
   append-told z = if-none (appendFault buffer n t c) (noAppend (appendFault buffer n t c)) _ z
+
+  -- an answer's number is its fault's
+  pub append-status : appendOf buffer n t c .status ≡ appendFault buffer n t c .status
+  append-status = elim (ℕ-discrete (appendFault buffer n t c .status) 0) [
+    | yes z ↦ ap (λ (a : Appended). a .status) (append-told z) ∙ sym z
+    | no z ↦ ap (λ (a : Appended). a .status) (append-refused z)
+  ]
 
   -- an append that is accepted is behind a list
   pub append-behind : appendFault buffer n t c .status ≡ 0 → (n ≤ length buffer) × (listFault (take n buffer) .status ≡ 0)
@@ -92,27 +101,33 @@ module _ (buffer : List ℕ) (n : ℕ) (t : Tensor) (c : Config) where
 
     module _ (listed : listFault (take n buffer) .status ≡ 0) where
       -- the list so far has a whole head
-      pub head-within : headLength ≤ n
+      pub head-within : listHeadLength ≤ n
       head-within = let g = good (take n buffer) listed .head in let l = length-take-le n buffer within in omega arith
+
+      -- the count that the buffer tells is the list's
+      pub count-so-far : countIn buffer ≡ recordCount (take n buffer)
+      count-so-far =
+          let h = head-within in
+          sym (ap number (part-part 0 n countPlace 2 buffer (omega arith))) ∙ sym (count-given (take n buffer) listed)
 
       pub append-37 : countIn buffer ≡ most → appendFault buffer n t c ≡ fault 37 0
       unfolding appendFault
       append-37 e =
-          spared 25 0 _ _ (le-ltb (length buffer) n within) ∙ passed _ refl listed ∙ given 37 0 _ _ (omega arith) (eq-eqb (countIn buffer) most e)
+          spared 25 0 _ _ (le-ltb (length buffer) n within) ∙ passed _ refl listed ∙ given 37 0 _ _ (omega arith) (eq-eqb (recordCount (take n buffer)) most (sym count-so-far ∙ e))
 
       module _ (more : countIn buffer ≡ most → ⊥) where
         pub append-38 : length buffer - n < recordLength → appendFault buffer n t c ≡ fault 38 0
         unfolding appendFault
         append-38 h =
             spared 25 0 _ _ (le-ltb (length buffer) n within) ∙ passed _ refl listed ∙
-            spared 37 0 _ _ (ne-eqb (countIn buffer) most more) ∙ given 38 0 _ _ (omega arith) (lt-ltb (length buffer - n) recordLength h)
+            spared 37 0 _ _ (ne-eqb (recordCount (take n buffer)) most (λ e. more (count-so-far ∙ e))) ∙ given 38 0 _ _ (omega arith) (lt-ltb (length buffer - n) recordLength h)
 
         module _ (space : recordLength ≤ length buffer - n) where
           pub append-fields : appendFault buffer n t c ≡ fieldsFault t c
           unfolding appendFault
           append-fields =
               spared 25 0 _ _ (le-ltb (length buffer) n within) ∙ passed _ refl listed ∙
-              spared 37 0 _ _ (ne-eqb (countIn buffer) most more) ∙ spared 38 0 _ _ (le-ltb (length buffer - n) recordLength space)
+              spared 37 0 _ _ (ne-eqb (recordCount (take n buffer)) most (λ e. more (count-so-far ∙ e))) ∙ spared 38 0 _ _ (le-ltb (length buffer - n) recordLength space)
 
           -- the part that is lent to the record's write
           abbrev Lent : List ℕ
@@ -149,4 +164,4 @@ module _ (buffer : List ℕ) (n : ℕ) (t : Tensor) (c : Config) where
               pub append-0 : {k : ℕ} {after : List ℕ} → k ≡ countIn buffer → after ≡ sets (putMid n (n + recordLength - n) buffer l) countPlace (little 2 (k + 1)) → Answered (record { status = 0; dim = 0; length = n + recordLength }) after
               append-0 ke ae =
                   let y = status judged ∙ z in
-                  (sym (append-told y), ae ∙ rw (placed, ke) (sym (append-given y)))
+                  (sym (append-told y), ae ∙ rw (placed, ke ∙ count-so-far) (sym (append-given y)))

@@ -13,10 +13,11 @@ use Rattle.plane.specs.declared.Config.{Config}
 use Rattle.plane.specs.Arrays.{at}
 use Rattle.record.specs.Layout.{recordLength}
 use Rattle.record.specs.Records.{noReading}
-use Rattle.list.specs.Layout.{headLength, countPlace, listLength}
+use Rattle.list.specs.declared.ListReader.{ListReader}
+use Rattle.list.specs.Layout.{listHeadLength, countPlace, listLength}
 use Rattle.list.specs.Lists.{listFault, recordCount, noRecord, recordAt, placeAfter}
-use Rattle.list.specs.Readers.{opened, answer, later}
-use Rattle.list.specs.Writers.{startFault, startedBuffer, appendFault, noAppend, appendOf, appendedBuffer}
+use Rattle.list.specs.Readers.{opened, answer, advanced, afterCalls}
+use Rattle.list.specs.Writers.{startFault, startedBuffer, noAppend, appendOf, appendedBuffer}
 use Rattle.list.specs.Orders.{listRules, recordRules, startRules, appendRules}
 
 -- ---- Refusals
@@ -66,15 +67,25 @@ RecordsNumbered = (bs : List ℕ) (k : ℕ) → k < recordCount bs → (recordAt
 abbrev pub RecordsEnd : Type 0
 RecordsEnd = (bs : List ℕ) (k : ℕ) → recordCount bs ≤ k → (recordAt bs k ≡ noRecord) × (placeAfter bs k ≡ k)
 
--- from open on, whatever was handed out before, the next call answers record n, where n were asked for
+-- from open on: after n calls, whatever they answered, the next one answers record n
 abbrev pub HandedOut : Type 0
-HandedOut = (bytes : RefT (List ℕ)) (n : ℕ) → answer (later n (opened bytes .reader)) ≡ recordAt (now bytes) n
+HandedOut = (bytes : RefT (List ℕ)) (n : ℕ) → answer (afterCalls n (opened bytes .reader)) ≡ recordAt (now bytes) n
 
--- from the count on it is 39, for ever, and the reader stays as it is
+-- a reader of whatever bytes, at whatever place: past the last it answers 39, and stays as it is
+abbrev pub ReaderStays : Type 0
+ReaderStays = (r : ListReader) → recordCount (now (r .bytes)) ≤ r .next → (answer r ≡ noRecord) × (advanced r ≡ r)
+
+-- a refused list is opened with no records, and its reader answers 39 for ever
+abbrev pub RefusedHands : Type 0
+RefusedHands =
+    (bytes : RefT (List ℕ)) (n : ℕ) → let o = opened bytes in
+    (o .status ≡ 0 → ⊥) → (o .count ≡ 0) × (answer (afterCalls n (o .reader)) ≡ noRecord)
+
+-- from open on, from the count on: 39 for ever, and the reader stays as it is
 abbrev pub HandedAll : Type 0
 HandedAll =
     (bytes : RefT (List ℕ)) (n : ℕ) → recordCount (now bytes) ≤ n → let r = opened bytes .reader in
-    (answer (later n r) ≡ noRecord) × (later (suc n) r ≡ later n r)
+    (answer (afterCalls n r) ≡ noRecord) × (afterCalls (suc n) r ≡ afterCalls n r)
 
 -- ---- What changes in a buffer
 
@@ -85,19 +96,19 @@ StartKept = (buffer : List ℕ) → (startFault buffer .status ≡ 0 → ⊥) �
 abbrev pub AppendKept : Type 0
 AppendKept =
     (buffer : List ℕ) (n : ℕ) (t : Tensor) (c : Config) →
-    (appendFault buffer n t c .status ≡ 0 → ⊥) → appendedBuffer buffer n t c ≡ buffer
+    (appendOf buffer n t c .status ≡ 0 → ⊥) → appendedBuffer buffer n t c ≡ buffer
 
 -- start changes the head alone
 abbrev pub StartAlone : Type 0
 StartAlone =
     (buffer : List ℕ) →
     (length (startedBuffer buffer) ≡ length buffer) ×
-    ((i : ℕ) → headLength ≤ i → at (startedBuffer buffer) i ≡ at buffer i)
+    ((i : ℕ) → listHeadLength ≤ i → at (startedBuffer buffer) i ≡ at buffer i)
 
 -- an accepted append changes the two bytes of the count and the new record's alone, and tells where the list ends now
 abbrev pub AppendAlone : Type 0
 AppendAlone =
-    (buffer : List ℕ) (n : ℕ) (t : Tensor) (c : Config) → appendFault buffer n t c .status ≡ 0 →
+    (buffer : List ℕ) (n : ℕ) (t : Tensor) (c : Config) → appendOf buffer n t c .status ≡ 0 →
     let after = appendedBuffer buffer n t c in
     (length after ≡ length buffer) ×
     ((i : ℕ) → (i < countPlace) ⊎ ((countPlace + 2 ≤ i) × (i < n)) ⊎ (n + recordLength ≤ i) → at after i ≡ at buffer i) ×

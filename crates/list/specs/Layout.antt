@@ -4,16 +4,16 @@ use mathlib.Core.List.{List, [], _∷_, _++_}
 use Rattle.record.specs.Layout.{little, recordLength}
 
 -- mark, version and count
-abbrev pub headLength : ℕ
-headLength = 7
+abbrev pub listHeadLength : ℕ
+listHeadLength = 7
 
 -- R, M, L
-abbrev pub mark : List ℕ
-mark = 82 ∷ 77 ∷ 76 ∷ []
+abbrev pub listMark : List ℕ
+listMark = 82 ∷ 77 ∷ 76 ∷ []
 
--- in two bytes from byte 3 on
-abbrev pub theVersion : ℕ
-theVersion = 1
+-- the version, in two bytes from byte 3 on
+abbrev pub listVersion : ℕ
+listVersion = 1
 
 abbrev pub versionPlace : ℕ
 versionPlace = 3
@@ -27,9 +27,9 @@ abbrev pub most : ℕ
 most = 65535
 
 -- the head of a list of n records
-abbrev pub headBytes : ℕ → List ℕ
-headBytes n = mark ++ little 2 theVersion ++ little 2 n
+abbrev pub listHead : ℕ → List ℕ
+listHead n = listMark ++ little 2 listVersion ++ little 2 n
 
 -- the bytes of a list of n records; so also the byte at which record n starts
 abbrev pub listLength : ℕ → ℕ
-listLength n = headLength + recordLength * n
+listLength n = listHeadLength + recordLength * n

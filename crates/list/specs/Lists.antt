@@ -10,7 +10,7 @@ use Rattle.plane.specs.Arrays.{at, some}
 use Rattle.record.specs.Layout.{number, part, recordLength}
 use Rattle.record.specs.Records.{noReading, readOf}
 use Rattle.list.specs.declared.Numbered.{Numbered}
-use Rattle.list.specs.Layout.{headLength, mark, theVersion, versionPlace, countPlace, listLength}
+use Rattle.list.specs.Layout.{listHeadLength, listMark, listVersion, versionPlace, countPlace, listLength}
 
 -- ---- The head
 
@@ -20,15 +20,15 @@ countIn bs = number (part countPlace 2 bs)
 
 -- 25: no whole head
 abbrev pub badHead : List ℕ → Bool
-badHead bs = ltb (length bs) headLength
+badHead bs = ltb (length bs) listHeadLength
 
 -- 26: another mark
-abbrev pub badMark : List ℕ → Bool
-badMark bs = some 3 (λ k. not (eqb (at bs k) (at mark k)))
+abbrev pub badListMark : List ℕ → Bool
+badListMark bs = some 3 (λ k. not (eqb (at bs k) (at listMark k)))
 
 -- 27: another version
-abbrev pub badVersion : List ℕ → Bool
-badVersion bs = not (eqb (number (part versionPlace 2 bs)) theVersion)
+abbrev pub badListVersion : List ℕ → Bool
+badListVersion bs = not (eqb (number (part versionPlace 2 bs)) listVersion)
 
 -- 30: not as long as a list of that count
 abbrev pub badCount : List ℕ → Bool
@@ -37,8 +37,8 @@ badCount bs = not (eqb (length bs) (listLength (countIn bs)))
 unfoldable pub listFault : List ℕ → Fault
 listFault bs =
     when 25 0 (badHead bs) orElse
-    when 26 0 (badMark bs) orElse
-    when 27 0 (badVersion bs) orElse
+    when 26 0 (badListMark bs) orElse
+    when 27 0 (badListVersion bs) orElse
     when 30 0 (badCount bs)
 
 -- ---- The records
@@ -59,6 +59,6 @@ noRecord = record { number = 0; reading = noReading (fault 39 0) }
 unfoldable pub recordAt : List ℕ → ℕ → Numbered
 recordAt bs k = cond (ltb k (recordCount bs)) (record { number = k; reading = readOf (recordIn bs k) }) noRecord
 
--- the number after k; past the last there is none
+-- the number after k; past the last k itself
 unfoldable pub placeAfter : List ℕ → ℕ → ℕ
 placeAfter bs k = cond (ltb k (recordCount bs)) (k + 1) k

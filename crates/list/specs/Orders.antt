@@ -8,12 +8,12 @@ use Rattle.plane.specs.declared.Tensor.{Tensor}
 use Rattle.plane.specs.declared.Config.{Config}
 use Rattle.record.specs.Layout.{recordLength}
 use Rattle.record.specs.Orders.{fieldsRules, readRules}
-use Rattle.list.specs.Layout.{headLength, most}
-use Rattle.list.specs.Lists.{countIn, badHead, badMark, badVersion, badCount, recordCount, recordIn}
+use Rattle.list.specs.Layout.{listHeadLength, most}
+use Rattle.list.specs.Lists.{badHead, badListMark, badListVersion, badCount, recordCount, recordIn}
 
 -- a list: 25, 26, 27, 30
 abbrev pub listRules : List ℕ → List Rule
-listRules bs = whole 25 (badHead bs) ∷ whole 26 (badMark bs) ∷ whole 27 (badVersion bs) ∷ whole 30 (badCount bs) ∷ []
+listRules bs = whole 25 (badHead bs) ∷ whole 26 (badListMark bs) ∷ whole 27 (badListVersion bs) ∷ whole 30 (badCount bs) ∷ []
 
 -- record k of a list: 39 past the last, and then those of reading it
 abbrev pub recordRules : List ℕ → ℕ → List Rule
@@ -21,12 +21,12 @@ recordRules bs k = whole 39 (leb (recordCount bs) k) ∷ readRules (recordIn bs 
 
 -- start: 38
 abbrev pub startRules : List ℕ → List Rule
-startRules buffer = whole 38 (ltb (length buffer) headLength) ∷ []
+startRules buffer = whole 38 (ltb (length buffer) listHeadLength) ∷ []
 
 -- behind a list that is not refused, in the first n bytes of a buffer: 37, 38, 1, 28
 abbrev pub behindRules : List ℕ → ℕ → Tensor → Config → List Rule
 behindRules buffer n t c =
-    whole 37 (eqb (countIn buffer) most) ∷
+    whole 37 (eqb (recordCount (take n buffer)) most) ∷
     whole 38 (ltb (length buffer - n) recordLength) ∷
     fieldsRules t c
 

@@ -25,9 +25,9 @@ abbrev pub advanced : ListReader → ListReader
 advanced r = record { bytes = r .bytes; next = placeAfter (now (r .bytes)) (r .next) }
 
 -- the reader after n records were asked for
-unfoldable pub later : ℕ → ListReader → ListReader
-later zero r = r
-later (suc n) r = advanced (later n r)
+unfoldable pub afterCalls : ℕ → ListReader → ListReader
+afterCalls zero r = r
+afterCalls (suc n) r = advanced (afterCalls n r)
 
 -- what opening answers, and the first two records, in the words of the plain functions
 unfoldable pub firstTwoOf : List ℕ → FirstTwo

@@ -10,7 +10,7 @@ use Rattle.record.specs.Layout.{joined, recordLength}
 use Rattle.record.specs.Records.{recordBytes, reading}
 use Rattle.record.specs.RoundTrip.{Fits, Bytes}
 use Rattle.list.specs.declared.Numbered.{Numbered}
-use Rattle.list.specs.Layout.{headLength, headBytes, listLength}
+use Rattle.list.specs.Layout.{listHeadLength, listHead, listLength}
 use Rattle.list.specs.Lists.{listFault, recordCount, recordAt}
 use Rattle.list.specs.Writers.{startFault, startedBuffer, appendFault, appendOf, appendedBuffer}
 
@@ -23,7 +23,7 @@ pub record Move : Type 0 where
 
 -- the bytes of a list of n moves: the head, and then the records in order
 abbrev pub listBytes : (ℕ → Move) → ℕ → List ℕ
-listBytes m n = headBytes n ++ joined n (λ k. recordBytes (m k .tensor) (m k .config))
+listBytes m n = listHead n ++ joined n (λ k. recordBytes (m k .tensor) (m k .config))
 
 -- record k as it is handed out where it is good
 abbrev pub numbered : ℕ → Move → Numbered
@@ -42,7 +42,7 @@ pub record Written : Type 0 where
 
 -- after start and appends of moves 0 to n - 1, each behind the length that the call before answered
 unfoldable pub written : List ℕ → (ℕ → Move) → ℕ → Written
-written buffer m zero = record { buffer = startedBuffer buffer; length = headLength }
+written buffer m zero = record { buffer = startedBuffer buffer; length = listHeadLength }
 written buffer m (suc k) =
     let w = written buffer m k in
     record {

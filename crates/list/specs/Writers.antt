@@ -11,17 +11,17 @@ use Rattle.plane.specs.declared.Config.{Config}
 use Rattle.record.specs.Layout.{little, recordLength}
 use Rattle.record.specs.Records.{recordBytes, fieldsFault}
 use Rattle.list.specs.declared.Appended.{Appended}
-use Rattle.list.specs.Layout.{headLength, countPlace, most, headBytes}
-use Rattle.list.specs.Lists.{countIn, listFault}
+use Rattle.list.specs.Layout.{listHeadLength, countPlace, most, listHead}
+use Rattle.list.specs.Lists.{listFault, recordCount}
 
 -- ---- An empty list
 
 -- 38: no room for a head
 unfoldable pub startFault : List ℕ → Fault
-startFault buffer = when 38 0 (ltb (length buffer) headLength)
+startFault buffer = when 38 0 (ltb (length buffer) listHeadLength)
 
 unfoldable pub startedBuffer : List ℕ → List ℕ
-startedBuffer buffer = ifFault (startFault buffer) buffer (sets buffer 0 (headBytes 0))
+startedBuffer buffer = ifFault (startFault buffer) buffer (sets buffer 0 (listHead 0))
 
 -- ---- One record more, behind the list that the first n bytes are
 
@@ -31,7 +31,7 @@ unfoldable pub appendFault : List ℕ → ℕ → Tensor → Config → Fault
 appendFault buffer n t c =
     when 25 0 (ltb (length buffer) n) orElse
     listFault (take n buffer) orElse
-    when 37 0 (eqb (countIn buffer) most) orElse
+    when 37 0 (eqb (recordCount (take n buffer)) most) orElse
     when 38 0 (ltb (length buffer - n) recordLength) orElse
     fieldsFault t c
 
@@ -43,8 +43,8 @@ unfoldable pub appendOf : List ℕ → ℕ → Tensor → Config → Appended
 appendOf buffer n t c =
     ifFault (appendFault buffer n t c) (noAppend (appendFault buffer n t c)) (record { status = 0; dim = 0; length = n + recordLength })
 
--- the record's bytes behind the list, and the count; a refused append leaves the buffer as it was
+-- the record's bytes behind the list, and in its head one record more; a refused append leaves the buffer as it was
 unfoldable pub appendedBuffer : List ℕ → ℕ → Tensor → Config → List ℕ
 appendedBuffer buffer n t c =
     ifFault (appendFault buffer n t c) buffer
-    (sets (sets buffer n (recordBytes t c)) countPlace (little 2 (countIn buffer + 1)))
+    (sets (sets buffer n (recordBytes t c)) countPlace (little 2 (recordCount (take n buffer) + 1)))

@@ -3,21 +3,21 @@ use crate::layout;
 ghost use mathlib.Core.Path.{_≡_};
 ghost use Prim.Native.Nat.{_≤_, _<_};
 ghost use lib.ListN.{length};
-ghost use Rattle.list.specs.Layout.{headLength};
-ghost use Rattle.list.specs.Lists.{countIn, badMark, badVersion, listFault, recordCount};
+ghost use Rattle.list.specs.Layout.{listHeadLength};
+ghost use Rattle.list.specs.Lists.{countIn, badListMark, badListVersion, listFault, recordCount};
 
 // 26
 fn mark_is_bad(bytes: &[u8]) -> bool
-    requires { ⌜ headLength ≤ length (now bytes) ⌝ }
-    ensures { λ r. ⌜ r ≡ badMark (now (bytes .entry)) ⌝ }
+    requires { ⌜ listHeadLength ≤ length (now bytes) ⌝ }
+    ensures { λ r. ⌜ r ≡ badListMark (now (bytes .entry)) ⌝ }
 {
     (bytes[0] != layout::MARK[0]) | (bytes[1] != layout::MARK[1]) | (bytes[2] != layout::MARK[2])
 }
 
 // 27
 fn version_is_bad(bytes: &[u8]) -> bool
-    requires { ⌜ headLength ≤ length (now bytes) ⌝ }
-    ensures { λ r. ⌜ r ≡ badVersion (now (bytes .entry)) ⌝ }
+    requires { ⌜ listHeadLength ≤ length (now bytes) ⌝ }
+    ensures { λ r. ⌜ r ≡ badListVersion (now (bytes .entry)) ⌝ }
 {
     (bytes[layout::VERSION_AT] != layout::VERSION[0])
         | (bytes[layout::VERSION_AT + 1] != layout::VERSION[1])
@@ -32,7 +32,7 @@ fn wide(x: u8) -> usize
 
 // The count, unjudged.
 pub(crate) fn count_in(bytes: &[u8]) -> usize
-    requires { ⌜ headLength ≤ length (now bytes) ⌝ }
+    requires { ⌜ listHeadLength ≤ length (now bytes) ⌝ }
     ensures { λ r. ⌜ (r ≡ countIn (now (bytes .entry))) × (r < 65536) ⌝ }
 {
     let low = wide(bytes[layout::COUNT_AT]);

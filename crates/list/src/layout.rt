@@ -15,4 +15,4 @@ pub(crate) const COUNT_AT: usize = VERSION_AT + 2;
 pub const HEAD: usize = COUNT_AT + 2;
 
 // The most records that a count can tell: 65,535.
-pub const MOST: usize = 65535;
+pub(crate) const MOST: usize = 65535;

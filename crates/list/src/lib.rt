@@ -1,4 +1,4 @@
-// A list of moves, as a camera appends them to a burst: a head of 7 bytes, which says how many there are, and then that many move
+// A list of moves, as a camera appends them for a burst: a head of 7 bytes, which says how many there are, and then that many move
 // records. Read from lent bytes, and written into a lent buffer. No call here asks anything of its caller or sets memory aside,
 // and a count is believed only where it agrees with the bytes.
 
@@ -11,7 +11,6 @@ mod writer; // a list started and appended to
 pub use head::list_fault;
 pub use head::record_count;
 pub use layout::HEAD;
-pub use layout::MOST;
 pub use reader::first_two;
 pub use reader::open;
 use record::Reading;

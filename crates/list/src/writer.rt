@@ -4,19 +4,18 @@ use crate::head::count_in;
 use crate::head::list_fault;
 use crate::layout;
 use plane::Config;
-use plane::Fault;
 use plane::Tensor;
 ghost use mathlib.Core.Path.{_≡_};
 ghost use Prim.Native.Nat.{_≤_};
 ghost use lib.ListN.{length};
 ghost use lib.Seq.{sets};
 ghost use Rattle.record.specs.Layout.{little};
-ghost use Rattle.list.specs.Layout.{headLength, countPlace};
+ghost use Rattle.list.specs.Layout.{listHeadLength, countPlace};
 ghost use Rattle.list.specs.Writers.{startFault, startedBuffer, noAppend, appendOf, appendedBuffer};
 
 // Sets the two bytes of the count.
 fn put_count(buffer: &mut [u8], count: usize)
-    requires { ⌜ headLength ≤ length (now buffer) ⌝ }
+    requires { ⌜ listHeadLength ≤ length (now buffer) ⌝ }
     ensures { λ _. ⌜ now (buffer .exit) ≡ sets (now (buffer .entry)) countPlace (little 2 count) ⌝ }
 {
     buffer[layout::COUNT_AT] = (count % 256) as u8;

@@ -1,7 +1,7 @@
 -- Each public call asks nothing of its caller, and no two differing outcomes satisfy its contract: neither two answers nor two
 -- memories. `Pre` and `Post` are the contract as the checker reads it off the source. Assumes nothing.
 use mathlib.Core.Path.{sym, _∙_}
-use Rattle.faults.specs.Decided.{Decided, OneBytes}
+use Rattle.faults.specs.Decided.{Decided, OneLeft}
 use Rattle.faults.proofs.Deciding.{by-equation, by-first}
 use Rattle.mover.proofs.moves.move_plane.Reads as move-plane
 use Rattle.mover.proofs.within.judge_job.Reads as judge-job
@@ -20,14 +20,14 @@ pub move-plane-decided : Decided move-plane.Pre move-plane.Post
 move-plane-decided = by-first
 
 -- the destination
-pub move-plane-memory : OneBytes move-plane.Post (λ κ r s. s .1 .1 .1 .0 .now)
+pub move-plane-memory : OneLeft move-plane.Post (λ κ r s. s .1 .1 .1 .0 .now)
 move-plane-memory = record { one = λ κ a x y s t p q. p .1 ∙ sym (q .1) }
 
 pub advance-decided : Decided advance.Pre advance.Post
 advance-decided = by-first
 
 -- the memory
-pub advance-memory : OneBytes advance.Post (λ κ r s. s .0 .now)
+pub advance-memory : OneLeft advance.Post (λ κ r s. s .0 .now)
 advance-memory = record { one = λ κ a x y s t p q. p .1 ∙ sym (q .1) }
 
 pub sub-tensor-decided : Decided sub-tensor.Pre sub-tensor.Post
@@ -37,5 +37,5 @@ pub sub-part-free : (κ : _) (a : _) → sub-part.Pre κ a
 sub-part-free κ a = tt
 
 -- the part handed back
-pub sub-part-bytes : OneBytes sub-part.Post (λ κ r s. r .now)
+pub sub-part-bytes : OneLeft sub-part.Post (λ κ r s. r .now)
 sub-part-bytes = record { one = λ κ a x y s t p q. p ∙ sym q }

@@ -2,7 +2,7 @@
 -- contract of the call as the checker reads it off the source. Assumes nothing.
 use mathlib.Core.Path.{sym, _∙_}
 use denote.Ref.{now}
-use Rattle.faults.specs.Decided.{Decided, OneBytes}
+use Rattle.faults.specs.Decided.{Decided, OneLeft}
 use Rattle.faults.proofs.Deciding.{by-equation, by-first}
 use Rattle.record.proofs.reader.read.Reads as read
 use Rattle.record.proofs.writer.write.Reads as write
@@ -14,5 +14,5 @@ pub write-decided : Decided write.Pre write.Post
 write-decided = by-first
 
 -- the room is the third parameter
-pub write-room-decided : OneBytes write.Post (λ κ r s. now (s .1 .1 .0))
+pub write-room-decided : OneLeft write.Post (λ κ r s. now (s .1 .1 .0))
 write-room-decided = record { one = λ κ a x y s t p q. p .1 ∙ sym (q .1) }

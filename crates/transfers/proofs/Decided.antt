@@ -1,7 +1,7 @@
 -- Each public call asks nothing of its caller, and no two differing outcomes satisfy its contract: neither two answers, the table
 -- handed back with them, nor two memories. `Pre` and `Post` are the contract as the checker reads it off the source. Assumes nothing.
 use mathlib.Core.Path.{sym, _∙_}
-use Rattle.faults.specs.Decided.{Decided, OneBytes}
+use Rattle.faults.specs.Decided.{Decided, OneLeft}
 use Rattle.faults.proofs.Deciding.{by-equation, by-first}
 use Rattle.transfers.proofs.Table.fresh.Reads as fresh
 use Rattle.transfers.proofs.Table.prepare.Reads as prepare
@@ -23,7 +23,7 @@ pub step-decided : Decided step.Pre step.Post
 step-decided = by-first
 
 -- the memory
-pub step-memory : OneBytes step.Post (λ κ r s. s .1 .0 .now)
+pub step-memory : OneLeft step.Post (λ κ r s. s .1 .0 .now)
 step-memory = record { one = λ κ a x y s t p q. p .1 ∙ sym (q .1) }
 
 pub release-decided : Decided release.Pre release.Post
