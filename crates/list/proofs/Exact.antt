@@ -1,7 +1,6 @@
 -- Each refusal in its exact case and order, as in plane's file of this name, for the rules of `specs/Orders.antt`. A refused
 -- reading is zeros besides its number, a refused append tells length 0, and a refused call leaves the buffer. Assumes nothing.
 use Prim.Native.Nat.{ℕ, _<_, _≤_}
-use native.Mathlib.Decide.{ℕ-discrete}
 use native.Mathlib.Omega.{arith}
 use mathlib.Core.Path.{_≡_, refl, sym, ap, _∙_}
 use mathlib.Core.Logic.{⊎-elim}
@@ -23,7 +22,7 @@ use Rattle.record.proofs.Exact.{fields-chain, read-chain, read-zeros}
 use Rattle.list.specs.declared.Appended.{Appended}
 use Rattle.list.specs.declared.Numbered.{Numbered}
 use Rattle.list.specs.Lists.{listFault, recordCount, recordIn, recordAt}
-use Rattle.list.specs.Writers.{startFault, appendFault, noAppend, appendOf}
+use Rattle.list.specs.Writers.{startFault, appendFault, noAppend}
 use Rattle.list.specs.Orders.{listRules, recordRules, startRules, behindRules, appendRules}
 use Rattle.list.specs.Claims.{ListExact, RecordExact, StartExact, AppendExact, RecordZeros, AppendZeros, StartKept, AppendKept}
 use Rattle.list.proofs.Answers.{in-or-past, when-plain, list-plain, at-past, at-in}

@@ -20,8 +20,10 @@ use Rattle.plane.specs.Helpers.{noCount, countOf, subTensorOf}
 use Rattle.mover.specs.declared.Job.{Job}
 use Rattle.mover.specs.Moved.{moveMemory}
 use Rattle.mover.specs.SubPart.{subPart}
+use Rattle.record.specs.Records.{noReading, reading}
+use Rattle.list.specs.declared.Numbered.{Numbered}
 use Rattle.list.specs.declared.Appended.{Appended}
-use Rattle.list.specs.Lists.{listFault, recordCount, recordAt, placeAfter}
+use Rattle.list.specs.Lists.{listFault, recordCount, noRecord, recordAt, placeAfter}
 use Rattle.list.specs.Writers.{startFault, startedBuffer, noAppend, appendOf, appendedBuffer}
 use Rattle.transfers.specs.Calls.{prepareOf, startOf, stepOf, releaseOf, pollOf, pollNumbers}
 use Rattle.transfers.specs.Demand3.{Call, prepare, start, step, release, poll, World, begin, after}
@@ -44,8 +46,8 @@ pub data Example : Type 0 where
   room : Tensor → Config → RoomAnswer → Example
   -- tensor, start dimension; the element count
   count : Tensor → ℕ → Count → Example
-  -- a list's bytes; status and how many records, and then what calls of a reader answer: number, status and dimension
-  list : List ℕ → ℕ → ℕ → List (List ℕ) → Example
+  -- a list's bytes; status and how many records, and then what calls of a reader answer, one after another
+  list : List ℕ → ℕ → ℕ → List Numbered → Example
   -- a buffer; status, the buffer after a list is started in it
   begins : List ℕ → ℕ → List ℕ → Example
   -- a buffer, how many first bytes are the list, a tensor, a configuration; the answer, the buffer after
@@ -70,7 +72,7 @@ pub data Outcome : Type 0 where
   of-calls : List (List ℕ) → Outcome
   of-room : RoomAnswer → Outcome
   of-count : Count → Outcome
-  of-list : ℕ → ℕ → List (List ℕ) → Outcome
+  of-list : ℕ → ℕ → List Numbered → Outcome
   of-start : ℕ → List ℕ → Outcome
   of-append : Appended → List ℕ → Outcome
 
@@ -92,9 +94,9 @@ expected [] out = out ∷ []
 expected (c answers a ∷ cs) out = a ∷ expected cs out
 
 -- what so many calls of a reader at record k answer, one after another
-abbrev pub handed : List ℕ → ℕ → ℕ → List (List ℕ)
+abbrev pub handed : List ℕ → ℕ → ℕ → List Numbered
 handed bs k zero = []
-handed bs k (suc n) = let r = recordAt bs k in (r .number ∷ r .reading .status ∷ r .reading .dim ∷ []) ∷ handed bs (placeAfter bs k) n
+handed bs k (suc n) = recordAt bs k ∷ handed bs (placeAfter bs k) n
 
 -- what the definitions give, and what the example says
 abbrev pub given : Example → Outcome
@@ -174,6 +176,10 @@ abbrev pub turnRecord : List ℕ
 turnRecord =
     (82 ∷ 77 ∷ 86 ∷ 1 ∷ 0 ∷ 2 ∷ 1 ∷ 2 ∷ 0 ∷ 0 ∷ 0 ∷ 3 ∷ []) ++ replicate 59 0 ++
     (1 ∷ 0 ∷ 0 ∷ 0 ∷ 1 ∷ []) ++ replicate 43 0 ++ (1 ∷ []) ++ replicate 11 0
+
+-- that record as it is handed out under number k
+abbrev pub turnNumbered : ℕ → Numbered
+turnNumbered k = record { number = k; reading = reading turnTensor turnConfig }
 
 -- the head of a list that says n records
 abbrev pub headOf : ℕ → List ℕ
@@ -313,24 +319,24 @@ table =
     (record { answer = refused (fault 12 0); span = 0 }) ∷
     -- ---- lists
     -- a list of no records; past the last it is 39, and 39 again
-    besides shows list (headOf 0) 0 0 ((0 ∷ 39 ∷ 0 ∷ []) ∷ (0 ∷ 39 ∷ 0 ∷ []) ∷ []) ∷
-    -- three records, the second with another mark: it has its number and 26, and the third is still read
-    besides shows list (headOf 3 ++ turnRecord ++ (0 ∷ []) ++ replicate 130 0 ++ turnRecord) 0 3
-    ((0 ∷ 0 ∷ 0 ∷ []) ∷ (1 ∷ 26 ∷ 0 ∷ []) ∷ (2 ∷ 0 ∷ 0 ∷ []) ∷ (0 ∷ 39 ∷ 0 ∷ []) ∷ (0 ∷ 39 ∷ 0 ∷ []) ∷ []) ∷
+    besides shows list (headOf 0) 0 0 (noRecord ∷ noRecord ∷ []) ∷
+    -- three records, the second all zeros, so without its mark: it has its number and 26, and the third is still read
+    besides shows list (headOf 3 ++ turnRecord ++ replicate 131 0 ++ turnRecord) 0 3
+    (turnNumbered 0 ∷ record { number = 1; reading = noReading (fault 26 0) } ∷ turnNumbered 2 ∷ noRecord ∷ noRecord ∷ []) ∷
     -- a count that the bytes do not have, one more and one less: 30, and no records
-    besides shows list (headOf 2 ++ turnRecord) 30 0 ((0 ∷ 39 ∷ 0 ∷ []) ∷ []) ∷
-    besides shows list (headOf 0 ++ turnRecord) 30 0 ((0 ∷ 39 ∷ 0 ∷ []) ∷ []) ∷
+    besides shows list (headOf 2 ++ turnRecord) 30 0 (noRecord ∷ []) ∷
+    besides shows list (headOf 0 ++ turnRecord) 30 0 (noRecord ∷ []) ∷
     -- six bytes: 25; a record in a list's place: 26; version 257, whose low byte is 1: 27
-    besides shows list (82 ∷ 77 ∷ 76 ∷ 1 ∷ 0 ∷ 0 ∷ []) 25 0 ((0 ∷ 39 ∷ 0 ∷ []) ∷ []) ∷
-    besides shows list turnRecord 26 0 ((0 ∷ 39 ∷ 0 ∷ []) ∷ []) ∷
-    besides shows list (82 ∷ 77 ∷ 76 ∷ 1 ∷ 1 ∷ 0 ∷ 0 ∷ []) 27 0 ((0 ∷ 39 ∷ 0 ∷ []) ∷ []) ∷
+    besides shows list (82 ∷ 77 ∷ 76 ∷ 1 ∷ 0 ∷ 0 ∷ []) 25 0 (noRecord ∷ []) ∷
+    besides shows list turnRecord 26 0 (noRecord ∷ []) ∷
+    besides shows list (82 ∷ 77 ∷ 76 ∷ 1 ∷ 1 ∷ 0 ∷ 0 ∷ []) 27 0 (noRecord ∷ []) ∷
     -- started in nine bytes the last two stay; in six: 38, and nothing changes
     besides shows begins (over 9) 0 (headOf 0 ++ (99 ∷ 99 ∷ [])) ∷
     besides shows begins (over 6) 38 (over 6) ∷
     -- A's move behind no record, in a buffer with one byte more than it takes: 138 bytes, and that byte stays
     besides shows append (headOf 0 ++ over 132) 7 turnTensor turnConfig
     (record { status = 0; dim = 0; length = 138 }) (headOf 1 ++ turnRecord ++ (99 ∷ [])) ∷
-    -- one byte less: 38; a list said to be longer than the buffer: 25
+    -- a byte too few: 38; a list said to be longer than the buffer: 25
     besides shows append (headOf 0 ++ over 130) 7 turnTensor turnConfig (noAppend (fault 38 0)) (headOf 0 ++ over 130) ∷
     besides shows append (headOf 0 ++ over 131) 139 turnTensor turnConfig (noAppend (fault 25 0)) (headOf 0 ++ over 131) ∷
     -- an entry past the rank: 28 names dimension 3, and nothing changes; a bad record before it does not matter
