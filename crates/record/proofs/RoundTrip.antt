@@ -90,7 +90,8 @@ module _ (t : Tensor) (c : Config) (f : Fits t c) where
   fault-back : readFault (recordBytes t c) ≡ fieldsFault t c
   fault-back = read-fields (recordBytes t c) (length-record t c) mark-back version-back ∙ ap₂ fieldsFault tensor-back config-back
 
-  record-back : fieldsFault t c .status ≡ 0 → readOf (recordBytes t c) ≡ reading t c
+  -- and that of accepted fields reads as they are
+  pub record-back : fieldsFault t c .status ≡ 0 → readOf (recordBytes t c) ≡ reading t c
   record-back z = read-given (recordBytes t c) (status fault-back ∙ z) ∙ ap₂ reading tensor-back config-back
 
 -- the theorem: what is written reads back
