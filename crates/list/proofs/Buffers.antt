@@ -61,7 +61,7 @@ module _ (buffer : List ℕ) (n : ℕ) (body after : List ℕ) (len : ℕ) (s : 
       ap (λ (k : ℕ). listHead n ++ body ++ drop k buffer) (let z : 0 + length (listHead n ++ body) ≡ listLength n = omega arith in z)
 
   -- as long as the buffer was
-  pub lies-length : length after ≡ length buffer
+  lies-length : length after ≡ length buffer
   lies-length = ap length (s .is) ∙ length-sets buffer 0 (listHead n ++ body)
 
   -- the list alone
@@ -95,17 +95,18 @@ module _ (buffer : List ℕ) (n : ℕ) (body after : List ℕ) (len : ℕ) (s : 
         spared 38 0 _ _ (le-ltb (length buffer - listLength n) recordLength (omega arith))) ∙ z
 
     module _ (z : appendFault after len t c .status ≡ 0) where
-      -- an accepted one has accepted fields
-      pub fields-accepted : fieldsFault t c .status ≡ 0
-      fields-accepted = or-clear _ _ (or-clear _ _ (sym (status lies-fault) ∙ z) .1) .1
+      -- none of these is wrong with an accepted one
+      clear : (when 37 0 (eqb n most) .status ≡ 0) × ((when 38 0 (ltb (length buffer - listLength n) recordLength) orElse fieldsFault t c) .status ≡ 0)
+      clear = or-clear _ _ (sym (status lies-fault) ∙ z)
 
-      -- and leaves one record more, behind the others
+      -- so its fields are accepted
+      pub fields-accepted : fieldsFault t c .status ≡ 0
+      fields-accepted = or-clear _ _ (clear .1) .1
+
+      -- and it leaves one record more, behind the others
       pub append-lies : Lies buffer (suc n) (body ++ recordBytes t c) (appendedBuffer after len t c) (appendOf after len t c .length)
       append-lies = record { is = laid; ends = ended; sound = record { few = few; long = long }; room = room }
         where
-          clear : (when 37 0 (eqb n most) .status ≡ 0) × ((when 38 0 (ltb (length buffer - listLength n) recordLength) orElse fieldsFault t c) .status ≡ 0)
-          clear = or-clear _ _ (sym (status lies-fault) ∙ z)
-
           few : suc n ≤ most
           few = let h = s .sound .few in let d = eqb-false n most (when-clear 37 0 _ (omega arith) (clear .0)) in omega arith
 
