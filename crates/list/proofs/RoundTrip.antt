@@ -87,25 +87,27 @@ started-holds : (buffer : List ℕ) → startFault buffer .status ≡ 0 → Hold
 unfolding movesBytes
 started-holds buffer z = start-lies buffer z
 
-module _ (buffer : List ℕ) (w : Written) (m : Move) where
-  abbrev Accepted : Type 0
-  Accepted = appendFault (w .buffer) (w .length) (m .tensor) (m .config) .status ≡ 0
+-- the number of refusal of one append more
+abbrev refusal : Written → Move → ℕ
+refusal w m = appendFault (w .buffer) (w .length) (m .tensor) (m .config) .status
+
+module _ (w : Written) (m : Move) where
+  answered : appendOf (w .buffer) (w .length) (m .tensor) (m .config) .status ≡ refusal w m
+  answered = append-status (w .buffer) (w .length) (m .tensor) (m .config)
 
   -- an accepted move is one more
-  one-more : Accepted → appended w m ≡ record { buffer = appendedBuffer (w .buffer) (w .length) (m .tensor) (m .config); length = appendOf (w .buffer) (w .length) (m .tensor) (m .config) .length; moves = w .moves ++ (m ∷ []) }
+  one-more : refusal w m ≡ 0 → appended w m ≡ record { buffer = appendedBuffer (w .buffer) (w .length) (m .tensor) (m .config); length = appendOf (w .buffer) (w .length) (m .tensor) (m .config) .length; moves = w .moves ++ (m ∷ []) }
   unfolding appended
-  one-more z = rw (eq-eqb (appendOf (w .buffer) (w .length) (m .tensor) (m .config) .status) 0 (append-status (w .buffer) (w .length) (m .tensor) (m .config) ∙ z))
+  one-more z = rw (eq-eqb _ 0 (answered ∙ z))
 
   -- and a refused one changes nothing
-  passed-over : (Accepted → ⊥) → appended w m ≡ w
+  passed-over : (refusal w m ≡ 0 → ⊥) → appended w m ≡ w
   unfolding appended
-  passed-over h =
-      let e = append-status (w .buffer) (w .length) (m .tensor) (m .config) in
-      rw (ne-eqb (appendOf (w .buffer) (w .length) (m .tensor) (m .config) .status) 0 (λ z. h (sym e ∙ z)), append-same (w .buffer) (w .length) (m .tensor) (m .config) h)
+  passed-over h = rw (ne-eqb _ 0 (λ z. h (sym answered ∙ z)), append-same (w .buffer) (w .length) (m .tensor) (m .config) h)
 
-  module _ (s : Holds buffer w) where
+  module _ (buffer : List ℕ) (s : Holds buffer w) where
     appended-holds : Holds buffer (appended w m)
-    appended-holds = elim (ℕ-discrete (appendFault (w .buffer) (w .length) (m .tensor) (m .config) .status) 0) [
+    appended-holds = elim (ℕ-discrete (refusal w m) 0) [
       | yes z ↦ subst (Holds buffer) (sym (one-more z))
           (rw (length-more (w .moves) m, bytes-more (w .moves) m) (append-lies buffer _ _ _ _ s (m .tensor) (m .config) z))
       | no h ↦ subst (Holds buffer) (sym (passed-over h)) s
@@ -113,7 +115,7 @@ module _ (buffer : List ℕ) (w : Written) (m : Move) where
 
     -- the accepted ones read, if those before do
     appended-reads : Fits (m .tensor) (m .config) → Each Reads (w .moves) → Each Reads (appended w m .moves)
-    appended-reads f r = elim (ℕ-discrete (appendFault (w .buffer) (w .length) (m .tensor) (m .config) .status) 0) [
+    appended-reads f r = elim (ℕ-discrete (refusal w m) 0) [
       | yes z ↦ subst (λ (v : Written). Each Reads (v .moves)) (sym (one-more z))
           (each-more Reads (w .moves) m r (record-back (m .tensor) (m .config) f (fields-accepted buffer _ _ _ _ s (m .tensor) (m .config) z)))
       | no h ↦ subst (λ (v : Written). Each Reads (v .moves)) (sym (passed-over h)) r
@@ -123,13 +125,13 @@ module _ (buffer : List ℕ) where
   appends-hold : (ms : List Move) (w : Written) → Holds buffer w → Holds buffer (appends w ms)
   unfolding appends
   appends-hold [] w s = s
-  appends-hold (m ∷ ms) w s = appends-hold ms (appended w m) (appended-holds buffer w m s)
+  appends-hold (m ∷ ms) w s = appends-hold ms (appended w m) (appended-holds w m buffer s)
 
   appends-read : (ms : List Move) (w : Written) → Holds buffer w → Each (λ m. Fits (m .tensor) (m .config)) ms → Each Reads (w .moves) → Each Reads (appends w ms .moves)
   unfolding appends
   appends-read [] w s f r = r
   appends-read (m ∷ ms) w s f r =
-      appends-read ms (appended w m) (appended-holds buffer w m s) (λ k h. f (suc k) (omega arith)) (appended-reads buffer w m s (f 0 (omega arith)) r)
+      appends-read ms (appended w m) (appended-holds w m buffer s) (λ k h. f (suc k) (omega arith)) (appended-reads w m buffer s (f 0 (omega arith)) r)
 
   -- with room for all, and fields that are accepted, all are
   appends-all : (ms : List Move) (w : Written) → Holds buffer w → length (w .moves) + length ms ≤ most → listLength (length (w .moves) + length ms) ≤ length buffer → Each (λ m. faultOf m ≡ 0) ms → appends w ms .moves ≡ w .moves ++ ms
@@ -137,9 +139,9 @@ module _ (buffer : List ℕ) where
   appends-all [] w s f r h = sym (append-nil (w .moves))
   appends-all (m ∷ ms) w s f r h =
       let z = append-accepted buffer _ _ _ _ s (m .tensor) (m .config) (omega arith) (omega arith) (h 0 (omega arith)) in
-      let e : appended w m .moves ≡ w .moves ++ (m ∷ []) = ap (λ (v : Written). v .moves) (one-more buffer w m z) in
+      let e : appended w m .moves ≡ w .moves ++ (m ∷ []) = ap (λ (v : Written). v .moves) (one-more w m z) in
       let l : length (appended w m .moves) ≡ suc (length (w .moves)) = ap length e ∙ length-more (w .moves) m in
-      appends-all ms (appended w m) (appended-holds buffer w m s) (omega arith) (omega arith) (λ k q. h (suc k) (omega arith)) ∙
+      appends-all ms (appended w m) (appended-holds w m buffer s) (omega arith) (omega arith) (λ k q. h (suc k) (omega arith)) ∙
       ap (λ (v : List Move). v ++ ms) e ∙ append-snoc (w .moves) m ms
 
 -- the theorem: what start and appends leave is the list of the accepted moves, and nothing else changed
