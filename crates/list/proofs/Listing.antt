@@ -1,21 +1,19 @@
 -- Laws of a list as its head and the bytes of its records: what it opens as, and that bytes which open are one. Assumes nothing.
-use Prim.Native.Nat.{ℕ, suc, _+_, _*_, _^_, _≤_, _<_}
+use Prim.Native.Nat.{ℕ, _+_, _*_, _^_, _≤_, _<_}
 use native.Mathlib.Omega.{arith}
 use mathlib.Core.Path.{_≡_, refl, sym, ap, _∙_}
-use mathlib.Core.Bool.{true, false, not}
-use mathlib.Core.List.{List, _∷_, _++_}
-use borrow.Author.Tests.{ltb-true, le-ltb, eqb-true, eq-eqb, not-false}
-use lib.Dec.{ltb}
+use mathlib.Core.Bool.{false, not}
+use mathlib.Core.List.{List, _++_}
+use borrow.Author.Tests.{le-ltb, eq-eqb}
 use lib.ListN.{length, drop, length-append, length-drop, take-append-drop}
-use Rattle.plane.specs.Arrays.{at, some}
-use Rattle.faults.proofs.Bools.{either-clear}
+use Rattle.plane.specs.Arrays.{some}
 use Rattle.faults.proofs.Faults.{status, when-good, spared}
 use Rattle.record.specs.Layout.{little, number, part, recordLength}
 use Rattle.record.specs.Records.{readOf}
 use Rattle.record.specs.RoundTrip.{Bytes}
-use Rattle.record.proofs.Parts.{part-cons, length-part, part-append}
-use Rattle.record.proofs.Digits.{bytes-part, number-little, little-number, number-fits, number-two}
-use Rattle.list.specs.Layout.{listHeadLength, listVersion, versionPlace, countPlace, most, listHead, listLength}
+use Rattle.record.proofs.Parts.{length-part, part-append}
+use Rattle.record.proofs.Digits.{bytes-part, number-little, little-number, number-fits, head-is}
+use Rattle.list.specs.Layout.{listHeadLength, countPlace, most, listHead, listLength}
 use Rattle.list.specs.Lists.{countIn, badHead, badListMark, badListVersion, badCount, listFault, recordCount, recordAt}
 use Rattle.list.proofs.Answers.{good, count-given, at-in}
 
@@ -39,7 +37,7 @@ unfolding little
 part-listed n body p w = part-append (listHead n) body p w
 
 -- a count that two bytes can tell is told
-pub count-listed : (n : ℕ) (body : List ℕ) → n ≤ most → countIn (listHead n ++ body) ≡ n
+count-listed : (n : ℕ) (body : List ℕ) → n ≤ most → countIn (listHead n ++ body) ≡ n
 unfolding little
 count-listed n body h = number-little 2 n (omega arith)
 
@@ -87,20 +85,6 @@ module _ (bs : List ℕ) (z : listFault bs .status ≡ 0) where
   opened-ends = good bs z .long ∙ ap listLength (sym (count-given bs z))
 
   module _ (b : Bytes bs) where
-    -- one byte more of a part
-    next : (p n x : ℕ) (rest : List ℕ) → ltb p listHeadLength ≡ true → x ≡ at bs p → rest ≡ part (p + 1) n bs → x ∷ rest ≡ part p (suc n) bs
-    next p n x rest h e r = let l = good bs z .head in (λ i. e i ∷ r i) ∙ sym (part-cons p n bs (let q = ltb-true p listHeadLength h in omega arith))
-
-    -- their version's bytes
-    version-bytes : (at bs 3 ≡ 1) × (at bs 4 ≡ 0)
-    version-bytes =
-        let l = good bs z .head in
-        let n = number-two versionPlace bs (omega arith) in
-        let e : number (part versionPlace 2 bs) ≡ listVersion = eqb-true _ _ (not-false _ (good bs z .version)) in
-        let low = b 3 in
-        let high = b 4 in
-        (omega arith, omega arith)
-
     -- the count's bytes are where it was read
     count-bytes : little 2 (countIn bs) ≡ part countPlace 2 bs
     count-bytes =
@@ -110,16 +94,7 @@ module _ (bs : List ℕ) (z : listFault bs .status ≡ 0) where
 
     -- their head says the count
     head-bytes : listHead (countIn bs) ≡ part 0 listHeadLength bs
-    unfolding some little
-    head-bytes =
-        let x = either-clear _ _ (good bs z .mark) in
-        let y = either-clear _ _ (x .0) in
-        let v = version-bytes in
-        next 0 6 82 _ refl (sym (eqb-true _ _ (not-false _ (y .0))))
-        (next 1 5 77 _ refl (sym (eqb-true _ _ (not-false _ (y .1))))
-        (next 2 4 76 _ refl (sym (eqb-true _ _ (not-false _ (x .1))))
-        (next 3 3 1 _ refl (sym (v .0))
-        (next 4 2 0 _ refl (sym (v .1)) count-bytes))))
+    head-bytes = head-is 82 77 76 bs _ b (good bs z .head) (good bs z .mark) (good bs z .version) count-bytes
 
     -- so they are a list
     pub opened-is : bs ≡ listHead (recordCount bs) ++ drop listHeadLength bs

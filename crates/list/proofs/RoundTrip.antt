@@ -1,112 +1,182 @@
--- Lists there and back: what start and appends write, that it is read back in order, that bytes which are read are what appending
--- writes, and that one record more leaves those before it as they were. Assumes nothing.
+-- Lists there and back: what start and appends write, that it is read back in order, where all of them are accepted, that bytes which
+-- are read are what appending writes, and that one record more leaves those before it as they were. Assumes nothing.
 use Prim.Native.Nat.{ℕ, zero, suc, _+_, _*_, _≤_, _<_}
-use native.Mathlib.Nat.{not-suc-le-zero, le-of-suc-le-suc, eq-or-lt-of-le}
+use native.Mathlib.Nat.{not-suc-le-zero}
+use native.Mathlib.Decide.{ℕ-discrete}
 use native.Mathlib.Numerals.{add-one}
 use native.Mathlib.Omega.{arith}
-use mathlib.Core.Path.{_≡_, sym, ap, subst, _∙_}
-use mathlib.Core.Logic.{⊎-elim}
-use mathlib.Core.List.{List, _++_}
-use lib.ListN.{length, take, drop, length-drop, take-append-drop}
-use lib.Seq.{sets, sets-eq, length-take-le, take-all, drop-at}
+use mathlib.Core.Path.{_≡_, refl, sym, ap, ap₂, subst, _∙_}
+use mathlib.Core.List.{List, [], _∷_, _++_, append-nil, append-assoc}
+use borrow.Author.Tests.{eq-eqb, ne-eqb}
+use lib.ListN.{length, take, drop, length-append, length-drop, take-append-drop}
+use lib.Seq.{sets, sets-eq, length-take-le, take-all, take-at, drop-at, drop-drop, take-add, append-snoc}
 use Rattle.plane.specs.declared.Tensor.{Tensor}
 use Rattle.plane.specs.declared.Config.{Config}
-use Rattle.plane.specs.Arrays.{sum}
 use Rattle.faults.proofs.Faults.{status}
 use Rattle.record.specs.declared.Reading.{Reading}
-use Rattle.record.specs.Layout.{part, joined, recordLength}
+use Rattle.record.specs.Layout.{part, recordLength}
 use Rattle.record.specs.Records.{recordBytes, fieldsFault, reading, readOf}
 use Rattle.record.specs.RoundTrip.{Fits, Bytes}
-use Rattle.record.proofs.Parts.{length-part, part-left, part-joined, joined-same, joined-parts, sum-const}
+use Rattle.record.proofs.Parts.{length-part, part-left, part-append}
 use Rattle.record.proofs.Digits.{bytes-part}
 use Rattle.record.proofs.Laying.{length-record}
 use Rattle.record.proofs.Answers.{write-fields, room-written}
-use Rattle.record.proofs.RoundTrip.{read-back, write-back}
+use Rattle.record.proofs.RoundTrip.{record-back, write-back}
 use Rattle.list.specs.declared.Numbered.{Numbered}
 use Rattle.list.specs.Layout.{listHeadLength, most, listHead, listLength}
 use Rattle.list.specs.Lists.{listFault, recordCount, recordIn, recordAt}
-use Rattle.list.specs.Writers.{appendFault, appendOf, appendedBuffer}
-use Rattle.list.specs.RoundTrip.{Move, listBytes, numbered, moveIn, Written, written, AllAccepted, WrittenReads, WrittenBytes, ReadWrites, AppendReads}
+use Rattle.list.specs.Writers.{startFault, appendFault, appendOf, appendedBuffer}
+use Rattle.list.specs.RoundTrip.{Move, moveAt, movesBytes, listBytes, numbered, movesFrom, movesIn}
+use Rattle.list.specs.RoundTrip.{Written, started, appended, appends, written}
+use Rattle.list.specs.RoundTrip.{WrittenReads, WrittenBytes, AcceptedWhere, ReadWrites, AppendReads}
 use Rattle.list.proofs.Answers.{at-in}
-use Rattle.list.proofs.Writing.{start-0, append-behind}
+use Rattle.list.proofs.Writing.{start-0, append-same, append-status, append-behind}
 use Rattle.list.proofs.Listing.{Sound, listed-opens, listed-count, listed-record, opened-ends, opened-is, opened-sound}
-use Rattle.list.proofs.Buffers.{Lies, start-lies, lies-taken, append-accepted, append-fields, append-lies}
+use Rattle.list.proofs.Buffers.{Lies, start-lies, lies-taken, append-accepted, fields-accepted, append-lies}
 
--- records of equal length lie at the multiples of it
-place : (k : ℕ) → recordLength * k ≡ sum k (λ _. recordLength)
-place k = let e = sum-const k recordLength in omega arith
+-- ---- moves
 
--- the record of accepted fields reads as they are
-record-reads : (t : Tensor) (c : Config) → Fits t c → fieldsFault t c .status ≡ 0 → readOf (recordBytes t c) ≡ reading t c
-record-reads t c f z =
-    let room = recordBytes t c in
-    let w = status (write-fields t c (length room) (length-record t c)) ∙ z in
-    ap readOf (sym (room-written t c room w)) ∙ read-back t c f room w
+-- the record of a move, and what can be wrong with its fields
+abbrev bytesOf : Move → List ℕ
+bytesOf m = recordBytes (m .tensor) (m .config)
+
+abbrev faultOf : Move → ℕ
+faultOf m = fieldsFault (m .tensor) (m .config) .status
+
+-- each of some moves is such
+abbrev Each : (Move → Type 0) → List Move → Type 0
+Each P ms = (k : ℕ) → k < length ms → P (moveAt ms k)
+
+-- its record reads as the move
+abbrev Reads : Move → Type 0
+Reads m = readOf (bytesOf m) ≡ reading (m .tensor) (m .config)
+
+each-more : (P : Move → Type 0) (ms : List Move) (m : Move) → Each P ms → P m → Each P (ms ++ (m ∷ []))
+each-more P [] m h p zero q = p
+each-more P [] m h p (suc k) q = absurd (let z : k < 0 = omega arith in not-suc-le-zero z)
+each-more P (x ∷ ms) m h p zero q = h 0 (omega arith)
+each-more P (x ∷ ms) m h p (suc k) q = each-more P ms m (λ j r. h (suc j) (omega arith)) p k (omega arith)
+
+length-more : (ms : List Move) (m : Move) → length (ms ++ (m ∷ [])) ≡ suc (length ms)
+length-more ms m = length-append ms (m ∷ []) ∙ add-one (length ms)
+
+bytes-more : (ms : List Move) (m : Move) → movesBytes (ms ++ (m ∷ [])) ≡ movesBytes ms ++ bytesOf m
+unfolding movesBytes
+bytes-more [] m = append-nil (bytesOf m)
+bytes-more (x ∷ ms) m =
+    ap (λ (bs : List ℕ). bytesOf x ++ bs) (bytes-more ms m) ∙ sym (append-assoc (bytesOf x) (movesBytes ms) (bytesOf m))
+
+-- each record is found where those before it end
+part-moves : (ms : List Move) (k : ℕ) → k < length ms → part (recordLength * k) recordLength (movesBytes ms) ≡ bytesOf (moveAt ms k)
+unfolding movesBytes
+part-moves [] k h = absurd (not-suc-le-zero h)
+part-moves (m ∷ ms) zero h = take-at (bytesOf m) (movesBytes ms) recordLength (length-record (m .tensor) (m .config))
+part-moves (m ∷ ms) (suc k) h =
+    let l = length-record (m .tensor) (m .config) in
+    let p : recordLength * suc k ≡ length (bytesOf m) + recordLength * k = omega arith in
+    ap (λ (j : ℕ). part j recordLength (bytesOf m ++ movesBytes ms)) p ∙
+    part-append (bytesOf m) (movesBytes ms) (recordLength * k) recordLength ∙ part-moves ms k (omega arith)
 
 -- ---- start and appends
 
--- the bytes of n moves
-abbrev bodyOf : (ℕ → Move) → ℕ → List ℕ
-bodyOf m n = joined n (λ k. recordBytes (m k .tensor) (m k .config))
+-- the accepted moves lie in the buffer as a list
+abbrev Holds : List ℕ → Written → Type 0
+Holds buffer w = Lies buffer (length (w .moves)) (movesBytes (w .moves)) (w .buffer) (w .length)
 
-module _ (buffer : List ℕ) (m : ℕ → Move) where
-  -- the first calls of accepted ones
-  fewer : (k n : ℕ) → k ≤ n → AllAccepted buffer m n → AllAccepted buffer m k
-  fewer k n h a = record { start = a .start; append = λ j q. a .append j (omega arith) }
+started-holds : (buffer : List ℕ) → startFault buffer .status ≡ 0 → Holds buffer (started buffer)
+unfolding movesBytes
+started-holds buffer z = start-lies buffer z
 
-  -- accepted calls leave the moves as a list
-  written-lies : (n : ℕ) → AllAccepted buffer m n → Lies buffer n (bodyOf m n) (written buffer m n)
-  unfolding written joined
-  written-lies zero a = start-lies buffer (a .start)
-  written-lies (suc n) a =
-      append-lies buffer n (bodyOf m n) (written buffer m n) (written-lies n (fewer n (suc n) (omega arith) a))
-      (m n .tensor) (m n .config) (a .append n (omega arith))
+-- the number of refusal of one append more
+abbrev refusal : Written → Move → ℕ
+refusal w m = appendFault (w .buffer) (w .length) (m .tensor) (m .config) .status
 
-  -- the fields of each are accepted
-  written-fields : (n k : ℕ) → k < n → AllAccepted buffer m n → fieldsFault (m k .tensor) (m k .config) .status ≡ 0
-  written-fields n k h a =
-      append-fields buffer k (bodyOf m k) (written buffer m k) (written-lies k (fewer k n (omega arith) a))
-      (m k .tensor) (m k .config) (a .append k h)
+module _ (w : Written) (m : Move) where
+  answered : appendOf (w .buffer) (w .length) (m .tensor) (m .config) .status ≡ refusal w m
+  answered = append-status (w .buffer) (w .length) (m .tensor) (m .config)
 
-  -- and where they are, and there is room, so are the calls
-  all-accepted : (n : ℕ) → n ≤ most → listLength n ≤ length buffer → ((k : ℕ) → k < n → fieldsFault (m k .tensor) (m k .config) .status ≡ 0) → AllAccepted buffer m n
-  all-accepted zero f r h = record { start = start-0 buffer (omega arith); append = λ k q. absurd (not-suc-le-zero q) }
-  all-accepted (suc n) f r h =
-      let a = all-accepted n (omega arith) (omega arith) (λ k q. h k (omega arith)) in
-      let last = append-accepted buffer n (bodyOf m n) (written buffer m n) (written-lies n a) (m n .tensor) (m n .config) (omega arith) r (h n (omega arith)) in record {
-        start = a .start;
-        append = λ k q.
-            ⊎-elim
-            (λ e. subst (λ (j : ℕ). appendFault (written buffer m j .buffer) (written buffer m j .length) (m j .tensor) (m j .config) .status ≡ 0) (sym e) last)
-            (λ l. a .append k l)
-            (eq-or-lt-of-le (le-of-suc-le-suc q));
-      }
+  -- an accepted move is one more
+  one-more : refusal w m ≡ 0 → appended w m ≡ record { buffer = appendedBuffer (w .buffer) (w .length) (m .tensor) (m .config); length = appendOf (w .buffer) (w .length) (m .tensor) (m .config) .length; moves = w .moves ++ (m ∷ []) }
+  unfolding appended
+  one-more z = rw (eq-eqb _ 0 (answered ∙ z))
 
--- the theorem: what start and appends leave is the list of the moves, and nothing else changed
+  -- and a refused one changes nothing
+  passed-over : (refusal w m ≡ 0 → ⊥) → appended w m ≡ w
+  unfolding appended
+  passed-over h = rw (ne-eqb _ 0 (λ z. h (sym answered ∙ z)), append-same (w .buffer) (w .length) (m .tensor) (m .config) h)
+
+  module _ (buffer : List ℕ) (s : Holds buffer w) where
+    appended-holds : Holds buffer (appended w m)
+    appended-holds = elim (ℕ-discrete (refusal w m) 0) [
+      | yes z ↦ subst (Holds buffer) (sym (one-more z))
+          (rw (length-more (w .moves) m, bytes-more (w .moves) m) (append-lies buffer _ _ _ _ s (m .tensor) (m .config) z))
+      | no h ↦ subst (Holds buffer) (sym (passed-over h)) s
+    ]
+
+    -- the accepted ones read, if those before do
+    appended-reads : Fits (m .tensor) (m .config) → Each Reads (w .moves) → Each Reads (appended w m .moves)
+    appended-reads f r = elim (ℕ-discrete (refusal w m) 0) [
+      | yes z ↦ subst (λ (v : Written). Each Reads (v .moves)) (sym (one-more z))
+          (each-more Reads (w .moves) m r (record-back (m .tensor) (m .config) f (fields-accepted buffer _ _ _ _ s (m .tensor) (m .config) z)))
+      | no h ↦ subst (λ (v : Written). Each Reads (v .moves)) (sym (passed-over h)) r
+    ]
+
+module _ (buffer : List ℕ) where
+  appends-hold : (ms : List Move) (w : Written) → Holds buffer w → Holds buffer (appends w ms)
+  unfolding appends
+  appends-hold [] w s = s
+  appends-hold (m ∷ ms) w s = appends-hold ms (appended w m) (appended-holds w m buffer s)
+
+  appends-read : (ms : List Move) (w : Written) → Holds buffer w → Each (λ m. Fits (m .tensor) (m .config)) ms → Each Reads (w .moves) → Each Reads (appends w ms .moves)
+  unfolding appends
+  appends-read [] w s f r = r
+  appends-read (m ∷ ms) w s f r =
+      appends-read ms (appended w m) (appended-holds w m buffer s) (λ k h. f (suc k) (omega arith)) (appended-reads w m buffer s (f 0 (omega arith)) r)
+
+  -- with room for all, and fields that are accepted, all are
+  appends-all : (ms : List Move) (w : Written) → Holds buffer w → length (w .moves) + length ms ≤ most → listLength (length (w .moves) + length ms) ≤ length buffer → Each (λ m. faultOf m ≡ 0) ms → appends w ms .moves ≡ w .moves ++ ms
+  unfolding appends
+  appends-all [] w s f r h = sym (append-nil (w .moves))
+  appends-all (m ∷ ms) w s f r h =
+      let z = append-accepted buffer _ _ _ _ s (m .tensor) (m .config) (omega arith) (omega arith) (h 0 (omega arith)) in
+      let e : appended w m .moves ≡ w .moves ++ (m ∷ []) = ap (λ (v : Written). v .moves) (one-more w m z) in
+      let l : length (appended w m .moves) ≡ suc (length (w .moves)) = ap length e ∙ length-more (w .moves) m in
+      appends-all ms (appended w m) (appended-holds w m buffer s) (omega arith) (omega arith) (λ k q. h (suc k) (omega arith)) ∙
+      ap (λ (v : List Move). v ++ ms) e ∙ append-snoc (w .moves) m ms
+
+-- the theorem: what start and appends leave is the list of the accepted moves, and nothing else changed
 pub written-bytes : WrittenBytes
-written-bytes buffer m n a = let s = written-lies buffer m n a in (s .is, s .ends)
+written-bytes buffer ms z = let s = appends-hold buffer ms (started buffer) (started-holds buffer z) in (s .is, s .ends)
 
--- the theorem: it opens, and its records read in order are the moves
+-- the theorem: it opens, and its records read in order are those moves
 pub written-reads : WrittenReads
-written-reads buffer m n f a =
-    let s = written-lies buffer m n a in
-    let e = lies-taken buffer n (bodyOf m n) (written buffer m n) s in (
-      ap (λ (bs : List ℕ). listFault bs .status) e ∙ listed-opens n (bodyOf m n) (s .sound),
-      ap recordCount e ∙ listed-count n (bodyOf m n) (s .sound),
-      λ k h. ap (λ (bs : List ℕ). recordAt bs k) e ∙ listed-record n (bodyOf m n) (s .sound) k h ∙ ap (λ (r : Reading). record { number = k; reading = r }) (each k h),
+written-reads buffer ms z f =
+    let s = appends-hold buffer ms (started buffer) (started-holds buffer z) in
+    let e = lies-taken buffer _ _ _ _ s in
+    let w = written buffer ms in
+    let read = appends-read buffer ms (started buffer) (started-holds buffer z) f (λ k h. absurd (not-suc-le-zero h)) in (
+      ap (λ (bs : List ℕ). listFault bs .status) e ∙ listed-opens _ _ (s .sound),
+      ap recordCount e ∙ listed-count _ _ (s .sound),
+      λ k h. ap (λ (bs : List ℕ). recordAt bs k) e ∙ listed-record _ _ (s .sound) k h ∙
+          ap (λ (r : Reading). record { number = k; reading = r }) (ap readOf (part-moves (w .moves) k h) ∙ read k h),
     )
-  where
-    each : (k : ℕ) → k < n → readOf (part (recordLength * k) recordLength (bodyOf m n)) ≡ reading (m k .tensor) (m k .config)
-    each k h =
-        ap (λ (p : ℕ). readOf (part p recordLength (bodyOf m n))) (place k) ∙
-        ap readOf (part-joined n (λ j. recordBytes (m j .tensor) (m j .config)) (λ _. recordLength) k (λ j _. length-record (m j .tensor) (m j .config)) h) ∙
-        record-reads (m k .tensor) (m k .config) (f k h) (written-fields buffer m n k h a)
+
+-- the theorem: with room for all, and fields that are accepted, all calls are
+pub accepted-where : AcceptedWhere
+accepted-where buffer ms f r h =
+    let z = start-0 buffer (omega arith) in
+    (z, appends-all buffer ms (started buffer) (started-holds buffer z) (omega arith) (omega arith) h)
 
 -- ---- bytes that open
 
+length-from : (bs : List ℕ) (n k : ℕ) → length (movesFrom bs k n) ≡ n
+unfolding movesFrom
+length-from bs zero k = refl
+length-from bs (suc n) k = ap suc (length-from bs n (k + 1))
+
 module _ (bs : List ℕ) (b : Bytes bs) (z : listFault bs .status ≡ 0) where
   -- the fields of a record that reads are accepted, and their bytes are the record
-  move-writes : (k : ℕ) → k < recordCount bs → recordAt bs k .reading .status ≡ 0 → let m = moveIn bs k in (fieldsFault (m .tensor) (m .config) .status ≡ 0) × (recordBytes (m .tensor) (m .config) ≡ recordIn bs k)
+  move-writes : (k : ℕ) → k < recordCount bs → recordAt bs k .reading .status ≡ 0 → let r = recordAt bs k .reading in (fieldsFault (r .tensor) (r .config) .status ≡ 0) × (recordBytes (r .tensor) (r .config) ≡ recordIn bs k)
   move-writes k h y =
       let e = opened-ends bs z in
       let one = recordIn bs k in
@@ -119,29 +189,44 @@ module _ (bs : List ℕ) (b : Bytes bs) (z : listFault bs .status ≡ 0) where
       (sym (status (write-fields t c (length one) l)) ∙ w .0, sym (room-written t c one (w .0)) ∙ w .1)
 
   module _ (good : (k : ℕ) → k < recordCount bs → recordAt bs k .reading .status ≡ 0) where
-    -- where all read, the list of their fields is the bytes
-    moves-are : listBytes (moveIn bs) (recordCount bs) ≡ bs
+    -- where all read, the fields of each are accepted
+    from-accepted : (n k : ℕ) → k + n ≤ recordCount bs → Each (λ m. faultOf m ≡ 0) (movesFrom bs k n)
+    unfolding movesFrom
+    from-accepted zero k h j q = absurd (not-suc-le-zero q)
+    from-accepted (suc n) k h zero q = move-writes k (omega arith) (good k (omega arith)) .0
+    from-accepted (suc n) k h (suc j) q = from-accepted n (k + 1) (omega arith) j (omega arith)
+
+    -- and their bytes are those of the list
+    from-bytes : (n k : ℕ) → k + n ≤ recordCount bs → movesBytes (movesFrom bs k n) ≡ part (listLength k) (recordLength * n) bs
+    unfolding movesFrom movesBytes
+    from-bytes zero k h = refl
+    from-bytes (suc n) k h =
+        let p : listLength (k + 1) ≡ listLength k + recordLength = omega arith in
+        let q : recordLength + recordLength * n ≡ recordLength * suc n = omega arith in
+        ap₂ (λ (x y : List ℕ). x ++ y) (move-writes k (omega arith) (good k (omega arith)) .1)
+        (from-bytes n (k + 1) (omega arith) ∙ ap (λ (j : ℕ). part j (recordLength * n) bs) p ∙ ap (take (recordLength * n)) (sym (drop-drop recordLength (listLength k) bs))) ∙
+        sym (take-add recordLength (recordLength * n) (drop (listLength k) bs)) ∙ ap (λ (j : ℕ). part (listLength k) j bs) q
+
+    -- so the list of the fields is the bytes
+    moves-are : listBytes (movesIn bs) ≡ bs
     moves-are =
         let n = recordCount bs in
         let e = opened-ends bs z in
         let d = length-drop listHeadLength bs in
-        let p = place n in
-        ap (λ (body : List ℕ). listHead n ++ body)
-        (joined-same n _ (λ k. part (listHeadLength + sum k (λ _. recordLength)) recordLength bs)
-        (λ k h. move-writes k h (good k h) .1 ∙ ap (λ (q : ℕ). part (listHeadLength + q) recordLength bs) (place k)) ∙
-        joined-parts n listHeadLength (λ _. recordLength) bs ∙
-        take-all (sum n (λ _. recordLength)) (drop listHeadLength bs) (omega arith)) ∙
+        ap₂ (λ (k : ℕ) (body : List ℕ). listHead k ++ body) (length-from bs n 0)
+        (from-bytes n 0 (omega arith) ∙ take-all (recordLength * n) (drop listHeadLength bs) (omega arith)) ∙
         sym (opened-is bs z b)
 
 -- the theorem: bytes that open, and whose records all read, are what start and appends of those fields write
 pub read-writes : ReadWrites
 read-writes bs b z good buffer room =
-    let m = moveIn bs in
-    let n = recordCount bs in
+    let ms = movesIn bs in
+    let l = length-from bs (recordCount bs) 0 in
     let e = opened-ends bs z in
-    let a = all-accepted buffer m n (opened-sound bs z b .few) (omega arith) (λ k h. move-writes bs b z k h (good k h) .0) in
-    let s = written-lies buffer m n a in
-    (a, s .ends ∙ sym e, s .is ∙ ap (sets buffer 0) (moves-are bs b z good))
+    let few = opened-sound bs z b .few in
+    let a = accepted-where buffer ms (omega arith) (omega arith) (from-accepted bs b z good (recordCount bs) 0 (omega arith)) in
+    let w = written-bytes buffer ms (a .0) in
+    (a .0, a .1, w .1 ∙ ap (λ (v : List Move). listLength (length v)) (a .1) ∙ ap listLength l ∙ sym e, w .0 ∙ ap (λ (v : List Move). sets buffer 0 (listBytes v)) (a .1) ∙ ap (sets buffer 0) (moves-are bs b z good))
 
 -- ---- one record more
 
@@ -161,10 +246,10 @@ module _ (n : ℕ) (body : List ℕ) (s : Sound n body) (t : Tensor) (c : Config
       listed-record (suc n) (body ++ recordBytes t c) s′ n (omega arith) ∙
       ap (λ (r : Reading). record { number = n; reading = r })
       (ap (λ (bs : List ℕ). readOf (take recordLength bs)) (drop-at body (recordBytes t c) (recordLength * n) (s .long)) ∙
-      ap readOf (take-all recordLength (recordBytes t c) (omega arith)) ∙ record-reads t c f z)
+      ap readOf (take-all recordLength (recordBytes t c) (omega arith)) ∙ record-back t c f z)
 
 -- bytes at a buffer's start that open lie in it as a list
-old-lies : (buffer : List ℕ) (n : ℕ) → Bytes buffer → n ≤ length buffer → listFault (take n buffer) .status ≡ 0 → let old = take n buffer in Lies buffer (recordCount old) (drop listHeadLength old) (record { buffer = buffer; length = n })
+old-lies : (buffer : List ℕ) (n : ℕ) → Bytes buffer → n ≤ length buffer → listFault (take n buffer) .status ≡ 0 → let old = take n buffer in Lies buffer (recordCount old) (drop listHeadLength old) buffer n
 old-lies buffer n b h z =
     let old = take n buffer in
     let l = length-take-le n buffer h in
@@ -181,13 +266,16 @@ old-lies buffer n b h z =
 
 -- the theorem: the records before are read as before, and the new one last
 pub append-reads : AppendReads
-append-reads buffer n t c b f z = (
+append-reads buffer n t c b f answer = (
   ap (λ (bs : List ℕ). listFault bs .status) is ∙ listed-opens (suc count) more (lies′ .sound),
   ap recordCount is ∙ listed-count (suc count) more (lies′ .sound) ∙ sym (add-one count),
   λ k h. ap (λ (bs : List ℕ). recordAt bs k) is ∙ before-same count body (lies .sound) t c (lies′ .sound) k h ∙ ap (λ (bs : List ℕ). recordAt bs k) (sym old-is),
-  ap (λ (bs : List ℕ). recordAt bs count) is ∙ last-reads count body (lies .sound) t c (lies′ .sound) f (append-fields buffer count body at-first lies t c z),
+  ap (λ (bs : List ℕ). recordAt bs count) is ∙ last-reads count body (lies .sound) t c (lies′ .sound) f (fields-accepted buffer count body buffer n lies t c z),
 )
   where
+    z : appendFault buffer n t c .status ≡ 0
+    z = sym (append-status buffer n t c) ∙ answer
+
     count : ℕ
     count = recordCount (take n buffer)
 
@@ -197,22 +285,14 @@ append-reads buffer n t c b f z = (
     more : List ℕ
     more = body ++ recordBytes t c
 
-    at-first : Written
-    at-first = record { buffer = buffer; length = n }
-
-    lies : Lies buffer count body at-first
+    lies : Lies buffer count body buffer n
     lies = let o = append-behind buffer n t c z in old-lies buffer n b (o .0) (o .1)
 
-    lies′ : Lies buffer (suc count) more (record { buffer = appendedBuffer buffer n t c; length = appendOf buffer n t c .length })
-    lies′ = append-lies buffer count body at-first lies t c z
+    lies′ : Lies buffer (suc count) more (appendedBuffer buffer n t c) (appendOf buffer n t c .length)
+    lies′ = append-lies buffer count body buffer n lies t c z
 
     old-is : take n buffer ≡ listHead count ++ body
-    old-is = lies-taken buffer count body at-first lies
+    old-is = lies-taken buffer count body buffer n lies
 
-    is : take (n + recordLength) (appendedBuffer buffer n t c) ≡ listHead (suc count) ++ more
-    is =
-        let l = lies .ends in
-        let e = lies′ .ends in
-        let q : n + recordLength ≡ appendOf buffer n t c .length = omega arith in
-        ap (λ (k : ℕ). take k (appendedBuffer buffer n t c)) q ∙
-        lies-taken buffer (suc count) more (record { buffer = appendedBuffer buffer n t c; length = appendOf buffer n t c .length }) lies′
+    is : take (appendOf buffer n t c .length) (appendedBuffer buffer n t c) ≡ listHead (suc count) ++ more
+    is = lies-taken buffer (suc count) more (appendedBuffer buffer n t c) (appendOf buffer n t c .length) lies′

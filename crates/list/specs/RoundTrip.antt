@@ -1,18 +1,21 @@
 -- What "lists round trip" says: appended moves are read back in order, and bytes that are read are what appending writes.
 use Prim.Native.Nat.{ℕ, zero, suc, _+_, _≤_, _<_}
 use mathlib.Core.Path.{_≡_}
-use mathlib.Core.List.{List, _++_}
-use lib.ListN.{length, take}
+use mathlib.Core.Bool.{cond}
+use mathlib.Core.List.{List, [], _∷_, _++_}
+use lib.Dec.{eqb}
+use lib.ListN.{length, getD, take}
 use lib.Seq.{sets}
 use Rattle.plane.specs.declared.Tensor.{Tensor}
 use Rattle.plane.specs.declared.Config.{Config}
-use Rattle.record.specs.Layout.{joined, recordLength}
-use Rattle.record.specs.Records.{recordBytes, reading}
+use Rattle.plane.specs.Planes.{zeroTensor}
+use Rattle.plane.specs.Settings.{zeroConfig}
+use Rattle.record.specs.Records.{recordBytes, fieldsFault, reading}
 use Rattle.record.specs.RoundTrip.{Fits, Bytes}
 use Rattle.list.specs.declared.Numbered.{Numbered}
-use Rattle.list.specs.Layout.{listHeadLength, listHead, listLength}
+use Rattle.list.specs.Layout.{listHeadLength, most, listHead, listLength}
 use Rattle.list.specs.Lists.{listFault, recordCount, recordAt}
-use Rattle.list.specs.Writers.{startFault, startedBuffer, appendFault, appendOf, appendedBuffer}
+use Rattle.list.specs.Writers.{startFault, startedBuffer, appendOf, appendedBuffer}
 
 -- ---- Moves, and a list of them
 
@@ -21,74 +24,104 @@ pub record Move : Type 0 where
   pub tensor : Tensor
   pub config : Config
 
--- the bytes of a list of n moves: the head, and then the records in order
-abbrev pub listBytes : (ℕ → Move) → ℕ → List ℕ
-listBytes m n = listHead n ++ joined n (λ k. recordBytes (m k .tensor) (m k .config))
+-- move k; past the last one of zeros
+abbrev pub moveAt : List Move → ℕ → Move
+moveAt ms k = getD ms k (record { tensor = zeroTensor; config = zeroConfig })
+
+-- the records of moves, one behind the other
+unfoldable pub movesBytes : List Move → List ℕ
+movesBytes [] = []
+movesBytes (m ∷ ms) = recordBytes (m .tensor) (m .config) ++ movesBytes ms
+
+-- the list of them: the head with their count, and then the records
+abbrev pub listBytes : List Move → List ℕ
+listBytes ms = listHead (length ms) ++ movesBytes ms
 
 -- record k as it is handed out where it is good
 abbrev pub numbered : ℕ → Move → Numbered
 numbered k m = record { number = k; reading = reading (m .tensor) (m .config) }
 
--- the fields that record k of a list has
-abbrev pub moveIn : List ℕ → ℕ → Move
-moveIn bs k = let r = recordAt bs k .reading in record { tensor = r .tensor; config = r .config }
+-- the fields of the n records from record k on
+unfoldable pub movesFrom : List ℕ → ℕ → ℕ → List Move
+movesFrom bs k zero = []
+movesFrom bs k (suc n) = let r = recordAt bs k .reading in record { tensor = r .tensor; config = r .config } ∷ movesFrom bs (k + 1) n
+
+-- the fields of all the records of a list, in order
+abbrev pub movesIn : List ℕ → List Move
+movesIn bs = movesFrom bs 0 (recordCount bs)
 
 -- ---- Start, and appends one after the other
 
--- a buffer, with how many of its first bytes are the list
+-- a buffer, how many of its first bytes are the list, and the moves that were accepted, in order
 pub record Written : Type 0 where
   pub buffer : List ℕ
   pub length : ℕ
+  pub moves : List Move
 
--- after start and appends of moves 0 to n - 1, each behind the length that the call before answered
-unfoldable pub written : List ℕ → (ℕ → Move) → ℕ → Written
-written buffer m zero = record { buffer = startedBuffer buffer; length = listHeadLength }
-written buffer m (suc k) =
-    let w = written buffer m k in
+-- a list started
+abbrev pub started : List ℕ → Written
+started buffer = record { buffer = startedBuffer buffer; length = listHeadLength; moves = [] }
+
+-- one append more: the caller goes on with the length that it answers, and after a refused one with the length before
+unfoldable pub appended : Written → Move → Written
+appended w m =
+    let a = appendOf (w .buffer) (w .length) (m .tensor) (m .config) in
     record {
-      buffer = appendedBuffer (w .buffer) (w .length) (m k .tensor) (m k .config);
-      length = appendOf (w .buffer) (w .length) (m k .tensor) (m k .config) .length;
+      buffer = appendedBuffer (w .buffer) (w .length) (m .tensor) (m .config);
+      length = cond (eqb (a .status) 0) (a .length) (w .length);
+      moves = cond (eqb (a .status) 0) (w .moves ++ (m ∷ [])) (w .moves);
     }
 
--- all of these calls are accepted
-pub record AllAccepted (buffer : List ℕ) (m : ℕ → Move) (n : ℕ) : Type 0 where
-  pub start : startFault buffer .status ≡ 0
-  pub append :
-      (k : ℕ) → k < n → let w = written buffer m k in
-      appendFault (w .buffer) (w .length) (m k .tensor) (m k .config) .status ≡ 0
+-- an append of each, in order
+unfoldable pub appends : Written → List Move → Written
+appends w [] = w
+appends w (m ∷ ms) = appends (appended w m) ms
+
+-- start, and then an append of each
+abbrev pub written : List ℕ → List Move → Written
+written buffer ms = appends (started buffer) ms
 
 -- ---- the sentences
 
--- what start and any appends leave opens, and its records read in order are the appended fields
+-- what start and any appends leave opens, and its records read in order are the fields of those that were accepted
 abbrev pub WrittenReads : Type 0
 WrittenReads =
-    (buffer : List ℕ) (m : ℕ → Move) (n : ℕ) → ((k : ℕ) → k < n → Fits (m k .tensor) (m k .config)) → AllAccepted buffer m n →
-    let w = written buffer m n in
+    (buffer : List ℕ) (ms : List Move) → startFault buffer .status ≡ 0 →
+    ((k : ℕ) → k < length ms → Fits (moveAt ms k .tensor) (moveAt ms k .config)) →
+    let w = written buffer ms in
     let bs = take (w .length) (w .buffer) in
-    (listFault bs .status ≡ 0) × (recordCount bs ≡ n) × ((k : ℕ) → k < n → recordAt bs k ≡ numbered k (m k))
+    (listFault bs .status ≡ 0) × (recordCount bs ≡ length (w .moves)) ×
+    ((k : ℕ) → k < length (w .moves) → recordAt bs k ≡ numbered k (moveAt (w .moves) k))
 
 -- it is the head with the count and the records in order, at the buffer's start, and no other byte of the buffer changed
 abbrev pub WrittenBytes : Type 0
 WrittenBytes =
-    (buffer : List ℕ) (m : ℕ → Move) (n : ℕ) → AllAccepted buffer m n →
-    let w = written buffer m n in
-    (w .buffer ≡ sets buffer 0 (listBytes m n)) × (w .length ≡ listLength n)
+    (buffer : List ℕ) (ms : List Move) → startFault buffer .status ≡ 0 →
+    let w = written buffer ms in
+    (w .buffer ≡ sets buffer 0 (listBytes (w .moves))) × (w .length ≡ listLength (length (w .moves)))
 
--- bytes that open, and whose records all read, are what start and appends of those fields write, in any buffer that has room
+-- where the fields of each are accepted, the count can tell how many they are and the buffer has room, every call is accepted
+abbrev pub AcceptedWhere : Type 0
+AcceptedWhere =
+    (buffer : List ℕ) (ms : List Move) → length ms ≤ most → listLength (length ms) ≤ length buffer →
+    ((k : ℕ) → k < length ms → fieldsFault (moveAt ms k .tensor) (moveAt ms k .config) .status ≡ 0) →
+    (startFault buffer .status ≡ 0) × (written buffer ms .moves ≡ ms)
+
+-- bytes that open, and whose records all read, are what start and appends of those fields write, in any buffer that has room: every
+-- call is accepted
 abbrev pub ReadWrites : Type 0
 ReadWrites =
     (bs : List ℕ) → Bytes bs → listFault bs .status ≡ 0 → ((k : ℕ) → k < recordCount bs → recordAt bs k .reading .status ≡ 0) →
     (buffer : List ℕ) → length bs ≤ length buffer →
-    let n = recordCount bs in
-    let w = written buffer (moveIn bs) n in
-    AllAccepted buffer (moveIn bs) n × (w .length ≡ length bs) × (w .buffer ≡ sets buffer 0 bs)
+    let w = written buffer (movesIn bs) in
+    (startFault buffer .status ≡ 0) × (w .moves ≡ movesIn bs) × (w .length ≡ length bs) × (w .buffer ≡ sets buffer 0 bs)
 
 -- one record more, behind any list, also one with bad records: those before are read as before, and the new one last
 abbrev pub AppendReads : Type 0
 AppendReads =
-    (buffer : List ℕ) (n : ℕ) (t : Tensor) (c : Config) → Bytes buffer → Fits t c → appendFault buffer n t c .status ≡ 0 →
+    (buffer : List ℕ) (n : ℕ) (t : Tensor) (c : Config) → Bytes buffer → Fits t c → appendOf buffer n t c .status ≡ 0 →
     let old = take n buffer in
-    let new = take (n + recordLength) (appendedBuffer buffer n t c) in
+    let new = take (appendOf buffer n t c .length) (appendedBuffer buffer n t c) in
     (listFault new .status ≡ 0) × (recordCount new ≡ recordCount old + 1) ×
     ((k : ℕ) → k < recordCount old → recordAt new k ≡ recordAt old k) ×
     (recordAt new (recordCount old) ≡ numbered (recordCount old) (record { tensor = t; config = c }))

@@ -6,10 +6,9 @@ use native.Mathlib.Decide.{ℕ-discrete}
 use native.Mathlib.Omega.{arith}
 use mathlib.Core.Path.{_≡_, refl, sym, ap, ap₂, subst, _∙_}
 use mathlib.Core.Logic.{inl, inr}
-use mathlib.Core.Bool.{true, false}
+use mathlib.Core.Bool.{false}
 use mathlib.Core.List.{List, [], _∷_, _++_}
-use borrow.Author.Tests.{eqb-true, ltb-true, not-false}
-use lib.Dec.{ltb}
+use borrow.Author.Tests.{eqb-true, not-false}
 use lib.ListN.{length, getD}
 use lib.Seq.{take-all, take-add}
 use Rattle.plane.specs.declared.Tensor.{Tensor}
@@ -17,15 +16,14 @@ use Rattle.plane.specs.declared.Config.{Config}
 use Rattle.plane.specs.Arrays.{at, sum, some}
 use Rattle.faults.specs.Faults.{when}
 use Rattle.plane.specs.Settings.{configOf}
-use Rattle.faults.proofs.Bools.{either-clear}
 use Rattle.plane.proofs.Arrays.{table-at, is-table}
 use Rattle.faults.proofs.Faults.{status, or-clear, when-clear}
 use Rattle.record.specs.declared.Reading.{Reading}
-use Rattle.record.specs.Layout.{little, number, part, joined, recordLength, mark, theVersion, versionIn, rankIn, sizeIn, headBytes, groupCount, group, width, start, fourBytes}
+use Rattle.record.specs.Layout.{little, number, part, joined, recordLength, rankIn, sizeIn, headBytes, groupCount, group, width, start, fourBytes}
 use Rattle.record.specs.Records.{groupIn, tensorIn, configIn, recordBytes, badLength, badMark, badVersion, fieldsFault, readFault, writeFault, reading, readOf, writtenRoom}
 use Rattle.record.specs.RoundTrip.{Fits, Bytes, OneWriting, ReadBack, WriteBack, SameFieldsSameBytes, AcceptedOnce, RefusedOrOnce}
 use Rattle.record.proofs.Parts.{part-cons, length-part, part-append, part-part, sum-step, sum-const, joined-same, part-joined, joined-parts}
-use Rattle.record.proofs.Digits.{bytes-part, length-little, number-little, little-number, number-fits, number-two, length-four}
+use Rattle.record.proofs.Digits.{bytes-part, length-little, number-little, little-number, number-fits, length-four, head-is}
 use Rattle.record.proofs.Laying.{length-record}
 use Rattle.record.proofs.Answers.{read-fields, read-given, read-status, write-fields, room-written}
 
@@ -90,7 +88,8 @@ module _ (t : Tensor) (c : Config) (f : Fits t c) where
   fault-back : readFault (recordBytes t c) ≡ fieldsFault t c
   fault-back = read-fields (recordBytes t c) (length-record t c) mark-back version-back ∙ ap₂ fieldsFault tensor-back config-back
 
-  record-back : fieldsFault t c .status ≡ 0 → readOf (recordBytes t c) ≡ reading t c
+  -- and that of accepted fields reads as they are
+  pub record-back : fieldsFault t c .status ≡ 0 → readOf (recordBytes t c) ≡ reading t c
   record-back z = read-given (recordBytes t c) (status fault-back ∙ z) ∙ ap₂ reading tensor-back config-back
 
 -- the theorem: what is written reads back
@@ -148,30 +147,10 @@ module _ (bs : List ℕ) (b : Bytes bs) where
         (λ k h. ap (fourBytes (width k)) (group-in k h) ∙ group-bytes k h) ∙
         joined-parts groupCount 7 four bs
 
-    next : (p n x : ℕ) (rest : List ℕ) → ltb p recordLength ≡ true → x ≡ at bs p → rest ≡ part (p + 1) n bs → x ∷ rest ≡ part p (suc n) bs
-    next p n x rest h e r = (λ i. e i ∷ r i) ∙ sym (part-cons p n bs (let q = ltb-true p recordLength h in omega arith))
-
-    version-bytes : badVersion bs ≡ false → (at bs 3 ≡ 1) × (at bs 4 ≡ 0)
-    version-bytes v =
-        let n = number-two 3 bs (omega arith) in
-        let e : versionIn bs ≡ theVersion = eqb-true _ _ (not-false _ v) in
-        let low = b 3 in
-        let high = b 4 in
-        (omega arith, omega arith)
-
     head-bytes : badMark bs ≡ false → badVersion bs ≡ false → headBytes (rankIn bs) (sizeIn bs) ≡ part 0 7 bs
-    unfolding some little
     head-bytes m v =
-        let x = either-clear _ _ m in
-        let y = either-clear _ _ (x .0) in
-        let z = version-bytes v in
-        next 0 6 82 _ refl (sym (eqb-true _ _ (not-false _ (y .0))))
-        (next 1 5 77 _ refl (sym (eqb-true _ _ (not-false _ (y .1))))
-        (next 2 4 86 _ refl (sym (eqb-true _ _ (not-false _ (x .1))))
-        (next 3 3 1 _ refl (sym (z .0))
-        (next 4 2 0 _ refl (sym (z .1))
-        (next 5 1 (rankIn bs) _ refl refl
-        (next 6 0 (sizeIn bs) _ refl refl refl))))))
+        head-is 82 77 86 bs _ b (omega arith) m v
+        (sym (part-cons 5 1 bs (omega arith) ∙ ap (λ (l : List ℕ). rankIn bs ∷ l) (part-cons 6 0 bs (omega arith))))
 
     pub bytes-back : badMark bs ≡ false → badVersion bs ≡ false → recordBytes (tensorIn bs) (configIn bs) ≡ bs
     unfolding recordBytes tensorIn
