@@ -11,7 +11,7 @@ use lib.Seq.{sets, length-sets, sets-eq, take-at}
 use Rattle.plane.specs.declared.Tensor.{Tensor}
 use Rattle.plane.specs.declared.Config.{Config}
 use Rattle.faults.specs.Faults.{when, _orElse_}
-use Rattle.faults.proofs.Faults.{status, or-clear, or-none, or-path, when-clear, spared}
+use Rattle.faults.proofs.Faults.{status, or-clear, or-path, when-clear, spared}
 use Rattle.record.specs.Layout.{little, recordLength}
 use Rattle.record.specs.Records.{recordBytes, fieldsFault}
 use Rattle.record.proofs.Parts.{sets-next}
@@ -20,7 +20,7 @@ use Rattle.list.specs.declared.Appended.{Appended}
 use Rattle.list.specs.Layout.{listHeadLength, countPlace, most, listHead, listLength}
 use Rattle.list.specs.Lists.{listFault, recordCount}
 use Rattle.list.specs.Writers.{startFault, startedBuffer, appendFault, appendOf, appendedBuffer}
-use Rattle.list.proofs.Writing.{start-given, append-given, append-told}
+use Rattle.list.proofs.Writing.{start-given, append-given, append-told, append-rest}
 use Rattle.list.proofs.Listing.{Sound, length-head, length-listed, listed-opens, listed-count}
 
 -- after is the buffer with a list of n records at its start, which ends at len
@@ -77,13 +77,11 @@ module _ (buffer : List ℕ) (n : ℕ) (body after : List ℕ) (len : ℕ) (s : 
   module _ (t : Tensor) (c : Config) where
     -- what can be wrong with an append behind it: 37, 38, 1 and 28
     lies-fault : appendFault after len t c ≡ (when 37 0 (eqb n most) orElse when 38 0 (ltb (length buffer - listLength n) recordLength) orElse fieldsFault t c)
-    unfolding appendFault
     lies-fault =
         let e = s .ends in
         let l = lies-length in
         let r = s .room in
-        spared 25 0 _ _ (le-ltb (length after) len (omega arith)) ∙
-        or-none (listFault (take len after)) _ (ap (λ (bs : List ℕ). listFault bs .status) lies-taken ∙ listed-opens n body (s .sound)) ∙
+        append-rest after len t c (omega arith) (ap (λ (bs : List ℕ). listFault bs .status) lies-taken ∙ listed-opens n body (s .sound)) ∙
         or-path (ap (λ (k : ℕ). when 37 0 (eqb k most)) lies-count)
         (or-path (ap₂ (λ (k m : ℕ). when 38 0 (ltb (k - m) recordLength)) lies-length (s .ends)) refl)
 

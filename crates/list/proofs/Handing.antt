@@ -30,9 +30,9 @@ records-end bs k h = (at-past bs k h, after-past bs k h)
 -- ---- by a reader
 
 module _ (bs : List ℕ) where
-  -- the place after n records, as many as there are
-  place-later : (n : ℕ) → placeAfter bs (min n (recordCount bs)) ≡ min (suc n) (recordCount bs)
-  place-later n = ⊎-elim within past (in-or-past n (recordCount bs))
+  -- the place after n calls, and what one call more makes of it
+  place-calls : (n : ℕ) → placeAfter bs (min n (recordCount bs)) ≡ min (suc n) (recordCount bs)
+  place-calls n = ⊎-elim within past (in-or-past n (recordCount bs))
     where
       within : n < recordCount bs → placeAfter bs (min n (recordCount bs)) ≡ min (suc n) (recordCount bs)
       within l =
@@ -45,8 +45,8 @@ module _ (bs : List ℕ) where
           ap (placeAfter bs) m ∙ after-past bs (recordCount bs) (omega arith) ∙ omega arith
 
   -- there, record n is handed out
-  record-later : (n : ℕ) → recordAt bs (min n (recordCount bs)) ≡ recordAt bs n
-  record-later n = ⊎-elim within past (in-or-past n (recordCount bs))
+  record-calls : (n : ℕ) → recordAt bs (min n (recordCount bs)) ≡ recordAt bs n
+  record-calls n = ⊎-elim within past (in-or-past n (recordCount bs))
     where
       within : n < recordCount bs → recordAt bs (min n (recordCount bs)) ≡ recordAt bs n
       within l = let m : min n (recordCount bs) ≡ n = omega arith in ap (recordAt bs) m
@@ -54,14 +54,14 @@ module _ (bs : List ℕ) where
       past : recordCount bs ≤ n → recordAt bs (min n (recordCount bs)) ≡ recordAt bs n
       past l = at-past bs (min n (recordCount bs)) (omega arith) ∙ sym (at-past bs n l)
 
--- a reader after n records
+-- a reader after n calls
 after-calls : (bytes : RefT (List ℕ)) (n : ℕ) → afterCalls n (opened bytes .reader) ≡ record { bytes = bytes; next = min n (recordCount (now bytes)) }
 unfolding afterCalls
 after-calls bytes zero = ap (λ (n : ℕ). record { bytes = bytes; next = n }) (omega arith)
-after-calls bytes (suc n) = ap advanced (after-calls bytes n) ∙ ap (λ (k : ℕ). record { bytes = bytes; next = k }) (place-later (now bytes) n)
+after-calls bytes (suc n) = ap advanced (after-calls bytes n) ∙ ap (λ (k : ℕ). record { bytes = bytes; next = k }) (place-calls (now bytes) n)
 
 pub handed-out : HandedOut
-handed-out bytes n = ap answer (after-calls bytes n) ∙ record-later (now bytes) n
+handed-out bytes n = ap answer (after-calls bytes n) ∙ record-calls (now bytes) n
 
 pub reader-stays : ReaderStays
 reader-stays r h = (at-past (now (r .bytes)) (r .next) h, ap (λ (k : ℕ). record { bytes = r .bytes; next = k }) (after-past (now (r .bytes)) (r .next) h))

@@ -3,14 +3,15 @@ use Prim.Native.Nat.{ℕ, _+_, _-_, _≤_, _<_}
 use native.Mathlib.Decide.{ℕ-discrete}
 use native.Mathlib.Omega.{arith}
 use mathlib.Core.Path.{_≡_, refl, sym, ap, _∙_}
+use mathlib.Core.Bool.{false}
 use mathlib.Core.List.{List, _++_, append-assoc}
 use borrow.Author.Tests.{ltb-false, lt-ltb, le-ltb, eq-eqb, ne-eqb}
 use borrow.Rule.Slice.PartMut.{midOf, putMid, put-same, post-is}
-use lib.Dec.{ltb}
+use lib.Dec.{ltb, eqb}
 use lib.ListN.{length, take, drop, length-drop}
 use lib.Seq.{sets, sets-eq, length-take-le}
 use Rattle.faults.specs.declared.Fault.{Fault}
-use Rattle.faults.specs.Faults.{fault, when}
+use Rattle.faults.specs.Faults.{fault, when, _orElse_}
 use Rattle.faults.proofs.Faults.{status, is-fault, given, spared, passed, stopped, if-fault, if-none, or-clear, when-bad, when-good, when-clear}
 use Rattle.plane.specs.declared.Tensor.{Tensor}
 use Rattle.plane.specs.declared.Config.{Config}
@@ -104,30 +105,30 @@ module _ (buffer : List ℕ) (n : ℕ) (t : Tensor) (c : Config) where
       pub head-within : listHeadLength ≤ n
       head-within = let g = good (take n buffer) listed .head in let l = length-take-le n buffer within in omega arith
 
+      -- what can be wrong behind it: 37, 38, 1 and 28
+      pub append-rest : appendFault buffer n t c ≡ (when 37 0 (eqb (recordCount (take n buffer)) most) orElse when 38 0 (ltb (length buffer - n) recordLength) orElse fieldsFault t c)
+      unfolding appendFault
+      append-rest = spared 25 0 _ _ (le-ltb (length buffer) n within) ∙ passed _ refl listed
+
       -- the count that the buffer tells is the list's
-      pub count-so-far : countIn buffer ≡ recordCount (take n buffer)
+      count-so-far : countIn buffer ≡ recordCount (take n buffer)
       count-so-far =
           let h = head-within in
           sym (ap number (part-part 0 n countPlace 2 buffer (omega arith))) ∙ sym (count-given (take n buffer) listed)
 
       pub append-37 : countIn buffer ≡ most → appendFault buffer n t c ≡ fault 37 0
-      unfolding appendFault
-      append-37 e =
-          spared 25 0 _ _ (le-ltb (length buffer) n within) ∙ passed _ refl listed ∙ given 37 0 _ _ (omega arith) (eq-eqb (recordCount (take n buffer)) most (sym count-so-far ∙ e))
+      append-37 e = append-rest ∙ given 37 0 _ _ (omega arith) (eq-eqb (recordCount (take n buffer)) most (sym count-so-far ∙ e))
 
       module _ (more : countIn buffer ≡ most → ⊥) where
+        not-full : eqb (recordCount (take n buffer)) most ≡ false
+        not-full = ne-eqb (recordCount (take n buffer)) most (λ e. more (count-so-far ∙ e))
+
         pub append-38 : length buffer - n < recordLength → appendFault buffer n t c ≡ fault 38 0
-        unfolding appendFault
-        append-38 h =
-            spared 25 0 _ _ (le-ltb (length buffer) n within) ∙ passed _ refl listed ∙
-            spared 37 0 _ _ (ne-eqb (recordCount (take n buffer)) most (λ e. more (count-so-far ∙ e))) ∙ given 38 0 _ _ (omega arith) (lt-ltb (length buffer - n) recordLength h)
+        append-38 h = append-rest ∙ spared 37 0 _ _ not-full ∙ given 38 0 _ _ (omega arith) (lt-ltb (length buffer - n) recordLength h)
 
         module _ (space : recordLength ≤ length buffer - n) where
-          pub append-fields : appendFault buffer n t c ≡ fieldsFault t c
-          unfolding appendFault
-          append-fields =
-              spared 25 0 _ _ (le-ltb (length buffer) n within) ∙ passed _ refl listed ∙
-              spared 37 0 _ _ (ne-eqb (recordCount (take n buffer)) most (λ e. more (count-so-far ∙ e))) ∙ spared 38 0 _ _ (le-ltb (length buffer - n) recordLength space)
+          append-fields : appendFault buffer n t c ≡ fieldsFault t c
+          append-fields = append-rest ∙ spared 37 0 _ _ not-full ∙ spared 38 0 _ _ (le-ltb (length buffer - n) recordLength space)
 
           -- the part that is lent to the record's write
           abbrev Lent : List ℕ

@@ -1,6 +1,6 @@
 -- What a reader must believe: Layout is where the bytes stand, Lists is what bytes hold as a list, Readers the reader's answers and its
--- place, Writers what start and append do. Orders (the rules of each call, in order), Claims (of refusals, of what changes, of
--- handing out) and RoundTrip are what the theorems claim.
+-- place, Writers what start and append do. Orders (the rules of each call, in order), Claims (of refusals, of
+-- handing out, of what changes) and RoundTrip are what the theorems claim.
 pub mod Layout
 pub mod Lists
 pub mod Readers

@@ -81,7 +81,7 @@ appends w (m ∷ ms) = appends (appended w m) ms
 abbrev pub written : List ℕ → List Move → Written
 written buffer ms = appends (started buffer) ms
 
--- ---- the sentences
+-- ---- The sentences
 
 -- what start and any appends leave opens, and its records read in order are the fields of those that were accepted
 abbrev pub WrittenReads : Type 0

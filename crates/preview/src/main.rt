@@ -229,7 +229,7 @@ fn transfer_both(mem: &mut [u8]) {
 }
 
 // Appends the two moves to a list that was just started, as a camera stores them beside the picture. Each goes behind the length that
-// the one before it told.
+// the one before it told. (A refused append tells 0: who goes on after one keeps the length before.)
 fn append_both(buffer: &mut [u8]) {
     let small = list::append(buffer, list::HEAD, picture(), thumbnail());
     let large = list::append(buffer, small.length, picture(), turned());

@@ -1,4 +1,5 @@
--- Laws of numbers as bytes (`specs/Layout.antt`): the lowest byte first, there and back. Assumes nothing.
+-- Laws of numbers as bytes (`specs/Layout.antt`), the lowest byte first, there and back; and of a head of seven bytes, which records
+-- and lists share. Assumes nothing.
 use Prim.Native.Nat.{ℕ, zero, suc, _+_, _*_, _/_, _%_, _^_, _≤_, _<_}
 use native.Mathlib.Nat.{div-lt-iff-lt-mul, pow-suc}
 use native.Mathlib.Omega.{arith}

@@ -112,8 +112,8 @@ fn spoil_head(random: &mut Random, list: &mut [u8], number: u8) {
     }
 }
 
-/// A record's number: below the count, at it, a little or far above it; one that would be small again in 16 or 32 bits,
-/// or whose place would be in 64.
+/// A record's number: below the count, at it, a little or far above it; one that would be small again in 8, 16 or 32
+/// bits, or whose place would be in 64.
 fn draw_number(random: &mut Random, count: u64) -> u64 {
     let small = random.below(count.max(1));
     match random.below(12) {
@@ -274,7 +274,7 @@ pub fn history(work: &mut Work) {
     work.call(0x37, &Memory(bytes.clone()));
     let mut buffer = start_list(bytes).buffer.0;
     let mut length = HEAD as u64;
-    // The last one finds no room.
+    // Where all are accepted, the last one finds no room.
     for _ in 0..records + 1 {
         let random = &mut work.random;
         let (tensor, config) = if random.chance(80) { draw_good_fields(random) } else { draw_fields(random) };
