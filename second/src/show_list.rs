@@ -42,9 +42,9 @@ pub fn show_list(input: &[u8]) -> String {
     out
 }
 
-/// "a line a record: its number, status and dimension. For a record that is not refused there follow rank, element size,
-/// the shape with as many entries as the rank, and the room question's status and dimension, with span and need where
-/// that status is 0."
+/// "a line a record: its number, status and dimension. For a record that is not refused there follow rank, element
+/// size, the shape with as many entries as the rank, and the room question's status and dimension, with span and need
+/// where that status is 0."
 fn line(numbered: &Numbered) -> String {
     let reading = &numbered.reading;
     let mut out = format!("record {} status {} dim {}", numbered.number, reading.status, reading.dimension);
