@@ -21,11 +21,11 @@ use Rattle.plane.proofs.Good.{source-clear, config-clear, dst-clear, move-clear
 use Rattle.plane.proofs.Rules.{refuses, answer-refused, answer-given, answer-status}
 use Rattle.mover.specs.declared.Job.{Job}
 use Rattle.mover.specs.declared.plan.Plan.{Plan}
-use Rattle.mover.specs.declared.engine.Origin.the-variants.{Lent}
+use Rattle.mover.specs.declared.elements.Origin.the-variants.{Lent}
 use Rattle.mover.specs.Moved.{total, moveMemory}
 use Rattle.mover.specs.Within.{leaves, meets, jobFault, totalOf, verdictOf, bytesOf, advancedBy, further, advanceOf, advanceMemory}
 use Rattle.mover.specs.Private.{planOf, planTotal, movedBy, stretch, Ready}
-use Rattle.mover.proofs.Laws.{judged, judged-good, moved-whole, moved-none, source-fits, destination-fits, job-good}
+use Rattle.mover.proofs.Laws.{judged, judged-good, moved-whole, moved-none, source-fits, destination-fits, job-good, total-positive}
 use Rattle.mover.proofs.Planned.{planned-total, planned-ready, moved-planned}
 
 -- ---- a whole move
@@ -57,6 +57,9 @@ module _ (t : Tensor) (c : Config) (src dst : List ℕ) (g : GoodMove t c (lengt
   pub move-ready : Ready Lent plan src dst
   move-ready =
       subst (λ (p : Plan). Ready Lent p src dst) (sym ep) (planned-ready c (g .source) (g .config) src dst (g .long) (g .room))
+
+  pub move-some : 0 < planTotal plan
+  move-some = rw (ep, planned-total c (g .source)) (total-positive t c (g .source) (g .config))
 
   pub move-written : {all r : ℕ} {out : List ℕ} → all ≡ total t c → r ≡ min all (planTotal plan - 0) → out ≡ movedBy plan src 0 r dst → out ≡ moveMemory t c src dst
   move-written {all} {r} ea er eo =
@@ -215,11 +218,11 @@ module _ (j : Job) (from budget : ℕ) (m : List ℕ) {a : Answer} (e : a ≡ an
           subst (λ (p : Plan). Ready Lent p (bytesOf (j .source) m) (bytesOf (j .destination) m)) (sym ep)
           (planned-ready (j .config) (g .source) (g .config) (bytesOf (j .source) m) (bytesOf (j .destination) m) (omega (arith, g .long)) (omega (arith, g .room)))
 
-      pub advance-from : {all : ℕ} → all ≡ totalOf j → from < all → from ≤ planTotal plan
+      pub advance-from : {all : ℕ} → all ≡ totalOf j → from < all → from < planTotal plan
       advance-from p l = let q = all-is in omega arith
 
       -- and what it leaves
-      pub advance-written : {r : ℕ} {out : List ℕ} → from ≤ planTotal plan → r ≡ min budget (planTotal plan - from) →
+      pub advance-written : {r : ℕ} {out : List ℕ} → from < planTotal plan → r ≡ min budget (planTotal plan - from) →
           out ≡ sets m (j .destination .start) (movedBy plan (bytesOf (j .source) m) from r (bytesOf (j .destination) m)) →
           (record { status = 0; dim = 0; count = r } ≡ advanceOf j from budget m) × (out ≡ advanceMemory j from budget m)
       unfolding advancedBy

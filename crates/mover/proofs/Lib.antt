@@ -12,6 +12,10 @@ pub mod Laws
 -- Laws over plain values, which the functions' proofs cite.
 pub mod Runs
 pub mod Places
+pub mod Steps
+pub mod Numbered
+pub mod Stretches
+pub mod Blocks
 pub mod Turns
 pub mod Parts
 pub mod Sums

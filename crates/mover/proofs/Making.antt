@@ -6,16 +6,18 @@ use native.Mathlib.Numerals.{add-one}
 use native.Mathlib.Decide.{decLt}
 use native.Mathlib.Omega.{arith}
 use mathlib.Core.Path.{_≡_, refl, sym, ap, ap₂, subst, _∙_}
-use mathlib.Core.Bool.{cond}
+use mathlib.Core.Logic.{⊎-elim, inl, inr}
+use mathlib.Core.Bool.{Bool, true, false, cond, _||_}
 use mathlib.Core.List.{List}
-use borrow.Author.Tests.{lt-ltb, le-ltb}
-use lib.Dec.{ltb}
+use borrow.Author.Tests.{lt-ltb, le-ltb, eqb-true}
+use lib.Dec.{ltb, eqb}
 use Rattle.plane.specs.declared.Tensor.{Tensor}
 use Rattle.plane.specs.declared.Config.{Config}
 use Rattle.plane.specs.declared.Source.{Source}
 use Rattle.plane.specs.declared.Answer.{Answer}
 use Rattle.plane.specs.Arrays.{at, sum, product}
-use Rattle.plane.specs.Planes.{srcStrides, sourceOf}
+use Rattle.plane.specs.Planes.{elementSize, srcStrides, sourceOf}
+use Rattle.faults.proofs.Bools.{either-cases}
 use Rattle.plane.specs.Moves.{count, extent, dstExtents, roomFault, accepted}
 use Rattle.plane.proofs.Arrays.{firsts-at}
 use Rattle.plane.proofs.Bounds.{product-fits, element-small}
@@ -25,13 +27,29 @@ use Rattle.plane.proofs.Good.{source-good, config-good, dst-good}
 use Rattle.plane.proofs.Rules.{dst-extent, its-fault, its-strides}
 use Rattle.mover.specs.declared.plan.Axis.{Axis}
 use Rattle.mover.specs.Element.{dimOf}
-use Rattle.mover.specs.Private.{axisOf, axisAt, planOf, axisMade, loneMade, Fit}
+use Rattle.mover.specs.Private.{axisOf, axisAt, planOf, lone, axisMade, Fit, Sized}
 
 -- a sum of at most four offsets times strides, times an element size
 pub bytes-fit : (x n z : ℕ) → n ≤ 4 → z ≤ 4 → x ≤ n * (65535 * 4294967295) → x * z < 2 ^ 64
 bytes-fit x n z l s h =
     let u : x ≤ 4 * (65535 * 4294967295) = omega arith in
     omega (arith, mul-le-mul u s)
+
+-- a step times a stride, times an element size
+pub jump-fits : (x z : ℕ) → x ≤ 65535 * 4294967295 → z ≤ 4 → x * z < 2 ^ 64
+jump-fits x z h l = omega (arith, mul-le-mul h l)
+
+-- an element size that is taken
+pub element-sized : (z : ℕ) → (elementSize z ≡ 0 → ⊥) → Sized z
+element-sized z h = by-test (eqb z 1 || eqb z 2 || eqb z 4) refl
+  where
+    by-test : (b : Bool) → (eqb z 1 || eqb z 2 || eqb z 4) ≡ b → Sized z
+    by-test false e = absurd (h (simp e))
+    by-test true e =
+        ⊎-elim
+        (λ r. ⊎-elim (λ q. inl (eqb-true z 1 q)) (λ q. inr (inl (eqb-true z 2 q))) (either-cases _ _ r))
+        (λ q. inr (inr (eqb-true z 4 q)))
+        (either-cases _ _ e)
 
 -- a loop that multiplies extents up to n
 pub record Multiplied (n : ℕ) (f : ℕ → ℕ) (total i : ℕ) : Type 0 where
@@ -65,26 +83,28 @@ module _ {n : ℕ} {f : ℕ → ℕ} where
 
 -- ---- an accepted move
 
-module _ {t : Tensor} {c : Config} (g : GoodSource t) (k : GoodConfig t c) where
-  extent-is : (i : ℕ) → i < t .rank → at (dstExtents t c) i ≡ at (c .pre) (dimOf c i) + count t c (dimOf c i) + at (c .post) (dimOf c i)
+module _ {t : Tensor} (c : Config) (g : GoodSource t) where
+  pub extent-is : (i : ℕ) → i < t .rank → at (dstExtents t c) i ≡ at (c .pre) (dimOf c i) + count t c (dimOf c i) + at (c .post) (dimOf c i)
   unfolding dstExtents extent
   extent-is i h = firsts-at 0 (t .rank) (λ i. extent t c (at (c .perm) i)) i (g .rank .1) h
 
+module _ {t : Tensor} {c : Config} (g : GoodSource t) (k : GoodConfig t c) where
   pub accepted-fit : GoodDst t c → Fit c (accepted t c)
   accepted-fit p = record {
     rank = g .rank .1;
     element = element-small (t .«element_size») (g .element) .1;
     dim = λ i h. omega (arith, k .perm i h, g .rank .1);
     offset = λ i h. omega (arith, k .offset (dimOf c i) (k .perm i h), g .shape (dimOf c i) (k .perm i h) .1);
+    step = λ i h. k .step (dimOf c i) (k .perm i h) .1;
     dst-offset = p .offset;
     extent = λ i h. dst-extent k i (g .rank .1) h .1;
-    padding = λ i h. omega (arith, extent-is i h);
+    padding = λ i h. omega (arith, extent-is c g i h);
   }
 
   -- what the padding leaves of an extent is kept
   axis-made : (i : ℕ) → i < t .rank → axisMade c (accepted t c) (srcStrides t) i ≡ axisOf t c i
   axis-made i h =
-      let e : at (dstExtents t c) i - at (c .pre) (dimOf c i) - at (c .post) (dimOf c i) ≡ count t c (dimOf c i) = omega (arith, extent-is i h) in
+      let e : at (dstExtents t c) i - at (c .pre) (dimOf c i) - at (c .post) (dimOf c i) ≡ count t c (dimOf c i) = omega (arith, extent-is c g i h) in
       λ x. record {
         extent = axisOf t c i .extent;
         pre = axisOf t c i .pre;
@@ -93,7 +113,7 @@ module _ {t : Tensor} {c : Config} (g : GoodSource t) (k : GoodConfig t c) where
         stride = axisOf t c i .stride;
       }
 
-  at-made : (j : ℕ) → j < 4 → cond (ltb j (4 - t .rank)) (loneMade (accepted t c)) (axisMade c (accepted t c) (srcStrides t) (j - (4 - t .rank))) ≡ axisAt t c j
+  at-made : (j : ℕ) → j < 4 → cond (ltb j (4 - t .rank)) lone (axisMade c (accepted t c) (srcStrides t) (j - (4 - t .rank))) ≡ axisAt t c j
   at-made j l = elim (decLt j (4 - t .rank)) [
     | yes h ↦ rw (lt-ltb j (4 - t .rank) h)
     | no h ↦ rw (le-ltb j (4 - t .rank) (omega arith)) (axis-made (j - (4 - t .rank)) (omega (arith, g .rank .1)))
@@ -122,10 +142,10 @@ module _ (t : Tensor) (c : Config) (z : roomFault t c .status ≡ 0) where
 
     module _ {strides : List ℕ} (es : strides ≡ srcStrides t) where
       -- axis j, as the code has it
-      pub axis-is : (j : ℕ) {x : Axis} → j < 4 → x ≡ cond (ltb j (4 - a .rank)) (loneMade a) (axisMade c a strides (j - (4 - a .rank))) → x ≡ axisAt t c j
+      pub axis-is : (j : ℕ) {x : Axis} → j < 4 → x ≡ cond (ltb j (4 - a .rank)) lone (axisMade c a strides (j - (4 - a .rank))) → x ≡ axisAt t c j
       axis-is j l e =
           e ∙
-          ap₂ (λ (a : Answer) (s : List ℕ). cond (ltb j (4 - a .rank)) (loneMade a) (axisMade c a s (j - (4 - a .rank)))) ea es ∙
+          ap₂ (λ (a : Answer) (s : List ℕ). cond (ltb j (4 - a .rank)) lone (axisMade c a s (j - (4 - a .rank)))) ea es ∙
           at-made room-source room-config j l
 
       pub plan-is : {h b : ℕ} {d0 d1 d2 d3 : Axis} →

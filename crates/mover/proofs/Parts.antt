@@ -7,13 +7,13 @@ use native.Mathlib.Nat.{add-suc, suc-add, zero-add, add-assoc, min-le-right}
 use native.Mathlib.Omega.{arith}
 use lib.ListN.{length, set, getD, take, drop, replicate, length-set, length-drop, take-append-drop}
 use mathlib.Core.Logic.{_⊎_, ⊎-elim, inl, inr}
-use Rattle.mover.specs.declared.engine.Origin.the-variants.{Lent, Inside}
+use Rattle.mover.specs.declared.elements.Origin.the-variants.{Lent, Inside}
 use lib.Seq.{sets-eq, set-set, set-comm, drop-at, take-append-seam, sets, length-sets, set-append-left, ext-getD, getD-take, getD-drop, length-take-le, drop-drop}
 use Rattle.mover.specs.declared.plan.Plan.{Plan}
 use Rattle.mover.specs.Private.{planKept, spotOf, placeOf, homeOf, planBytes, putAt, co0, co1, co2, co3, putNumber, planTotal, movedBy, homeEnd, placeEnd, stretch, placedAt, InExtents, Ready, RunsApart}
 use Rattle.mover.proofs.Runs.{length-take-most, getD-sets-out}
-use Rattle.mover.proofs.Places.{place-most, home-most, apart-part}
-use Rattle.mover.proofs.Turns.{length-moved, length-bytes, spread-within, pick-same, run-same}
+use Rattle.mover.proofs.Places.{place-most, home-most, extent-some, apart-part}
+use Rattle.mover.proofs.Numbered.{length-moved, length-bytes, spread-within, pick-same, run-same}
 
 set-past : (x l : List ℕ) (i v : ℕ) → set (x ++ l) (length x + i) v ≡ x ++ set l i v
 set-past [] l i v = rw zero-add
@@ -108,10 +108,10 @@ module _ (p : Plan) (a b : ℕ) where
       let y = r .need in
       record {
         sized = r .sized;
-        some0 = r .some0;
-        some1 = r .some1;
-        some2 = r .some2;
-        some3 = r .some3;
+        sound0 = r .sound0;
+        sound1 = r .sound1;
+        sound2 = r .sound2;
+        sound3 = r .sound3;
         span = omega (arith, placed-homeEnd);
         need = omega (arith, placed-placeEnd);
         apart = apart-part Inside u (omega arith) (omega (arith, placed-homeEnd)) (omega arith) (omega (arith, placed-placeEnd));
@@ -126,13 +126,13 @@ module _ (p : Plan) (a b : ℕ) where
       (omega (arith, length-take-most l (drop a m)), omega (arith, length-take-most k (drop b m)))
 
   -- what the engine leaves of the memory is what the move between the parts leaves of the destination part
-  pub placed-written : (m e : List ℕ) (l k from budget r : ℕ) → a + l ≤ length m → b + k ≤ length m → Ready Lent p (stretch m a l) (stretch m b k) → from ≤ planTotal p
+  pub placed-written : (m e : List ℕ) (l k from budget r : ℕ) → a + l ≤ length m → b + k ≤ length m → Ready Lent p (stretch m a l) (stretch m b k) → from < planTotal p
       → r ≡ min budget (planTotal p - from) → e ≡ movedBy (placedAt a b p) m from r m
       → e ≡ sets m b (movedBy p (stretch m a l) from r (stretch m b k))
   placed-written m e l k from budget r wa wb g f n w =
       let s = g .span in
       let d = g .need in
-      w ∙ moved-within (g .some1) (g .some2) (g .some3) m l k from r wa wb
+      w ∙ moved-within (extent-some (g .sound1)) (extent-some (g .sound2)) (extent-some (g .sound3)) m l k from r wa wb
       (omega (arith, length-take-most l (drop a m))) (omega (arith, length-take-most k (drop b m)))
       (omega (arith, min-le-right budget (planTotal p - from)))
 

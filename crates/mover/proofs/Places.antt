@@ -1,37 +1,39 @@
 -- Where elements stand: every place is within the bounds that the checks worked out. Assumes nothing.
-use mathlib.Core.Path.{_≡_, sym, _∙_}
+use mathlib.Core.Path.{_≡_}
 use mathlib.Core.Logic.{⊎-elim, inl, inr}
-use mathlib.Core.Bool.{Bool, true, false, _&&_}
+use mathlib.Core.Bool.{true, _&&_}
 use mathlib.Core.List.{List}
-use Prim.Native.Nat.{ℕ, _+_, _-_, _≤_}
+use Prim.Native.Nat.{ℕ, _+_, _-_, _≤_, _<_}
 use native.Mathlib.Nat.{mul-le-mul-right}
 use native.Mathlib.Omega.{arith}
 use borrow.Author.Tests.{leb-true, ltb-true}
-use lib.ListN.{length, take, drop, replicate}
-use lib.Seq.{sets}
+use lib.ListN.{length}
 use lib.Dec.{leb, ltb}
 use Rattle.faults.proofs.Bools.{both-first, both-second}
 use Rattle.mover.specs.declared.plan.Axis.{Axis}
 use Rattle.mover.specs.declared.plan.Plan.{Plan}
-use Rattle.mover.specs.declared.engine.Origin.{Origin}
-use Rattle.mover.specs.declared.engine.Origin.the-variants.{Lent, Inside}
-use Rattle.mover.specs.Private.{axisKept, planKept, sum4, spotOf, placeOf, homeOf, planBytes, putAt, homeEnd, placeEnd, RunsApart, Ready, InExtents, sourceBytes}
+use Rattle.mover.specs.declared.elements.Origin.{Origin}
+use Rattle.mover.specs.declared.elements.Origin.the-variants.{Lent, Inside}
+use Rattle.mover.specs.Private.{axisKept, planKept, spotOf, placeOf, homeOf, homeEnd, placeEnd, RunsApart, Sound, Ready, InExtents, sourceBytes}
 
 -- a spot grows with each of its counts
-pub spot-most : (b z : ℕ) {k0 m0 k1 m1 k2 m2 k3 m3 : ℕ} (t0 t1 t2 t3 : ℕ) → k0 ≤ m0 → k1 ≤ m1 → k2 ≤ m2 → k3 ≤ m3
-    → spotOf b z k0 t0 k1 t1 k2 t2 k3 t3 ≤ spotOf b z m0 t0 m1 t1 m2 t2 m3 t3
+pub spot-most : (b : ℕ) {k0 m0 k1 m1 k2 m2 k3 m3 : ℕ} (t0 t1 t2 t3 : ℕ) → k0 ≤ m0 → k1 ≤ m1 → k2 ≤ m2 → k3 ≤ m3
+    → spotOf b k0 t0 k1 t1 k2 t2 k3 t3 ≤ spotOf b m0 t0 m1 t1 m2 t2 m3 t3
 unfolding spotOf
-spot-most b z {k0} {m0} {k1} {m1} {k2} {m2} {k3} {m3} t0 t1 t2 t3 h0 h1 h2 h3 =
+spot-most b {k0} {m0} {k1} {m1} {k2} {m2} {k3} {m3} t0 t1 t2 t3 h0 h1 h2 h3 =
     let p0 = mul-le-mul-right t0 h0 in
     let p1 = mul-le-mul-right t1 h1 in
     let p2 = mul-le-mul-right t2 h2 in
     let p3 = mul-le-mul-right t3 h3 in
-    let s : sum4 k0 t0 k1 t1 k2 t2 k3 t3 ≤ sum4 m0 t0 m1 t1 m2 t2 m3 t3 = omega arith in
-    omega (arith, mul-le-mul-right z s)
+    omega arith
 
-pub spot-least : (b z k0 t0 k1 t1 k2 t2 k3 t3 : ℕ) → b ≤ spotOf b z k0 t0 k1 t1 k2 t2 k3 t3
+pub spot-least : (b k0 t0 k1 t1 k2 t2 k3 t3 : ℕ) → b ≤ spotOf b k0 t0 k1 t1 k2 t2 k3 t3
 unfolding spotOf
-spot-least b z k0 t0 k1 t1 k2 t2 k3 t3 = omega arith
+spot-least b k0 t0 k1 t1 k2 t2 k3 t3 = omega arith
+
+-- a dimension of which something is kept has an extent
+pub extent-some : {x : Axis} → Sound x → 0 < x .extent
+extent-some {x} s = omega (arith, s .some, s .row)
 
 -- a coordinate that is kept
 pub record Kept (x : Axis) (c : ℕ) : Type 0 where
@@ -68,13 +70,9 @@ module _ (p : Plan) (c0 c1 c2 c3 : ℕ) where
         k3 = kept-of (p .d3) c3 (both-second (b0 && b1 && b2) b3 h);
       }
 
-  -- a test that says so
-  pub told : {r b : Bool} → r ≡ planKept p c0 c1 c2 c3 → r ≡ b → planKept p c0 c1 c2 c3 ≡ b
-  told e t = sym e ∙ t
-
   pub place-least : p .base ≤ placeOf p c0 c1 c2 c3
   unfolding placeOf
-  place-least = spot-least (p .base) (p .size) c0 (p .d0 .stride) c1 (p .d1 .stride) c2 (p .d2 .stride) c3 (p .d3 .stride)
+  place-least = spot-least (p .base) c0 (p .d0 .stride) c1 (p .d1 .stride) c2 (p .d2 .stride) c3 (p .d3 .stride)
 
   pub place-most : InExtents p c0 c1 c2 c3 → placeOf p c0 c1 c2 c3 + p .size ≤ placeEnd p
   unfolding placeOf placeEnd
@@ -83,12 +81,12 @@ module _ (p : Plan) (c0 c1 c2 c3 : ℕ) where
       let h1 : c1 ≤ p .d1 .extent - 1 = omega (arith, w .in1) in
       let h2 : c2 ≤ p .d2 .extent - 1 = omega (arith, w .in2) in
       let h3 : c3 ≤ p .d3 .extent - 1 = omega (arith, w .in3) in
-      omega (arith, spot-most (p .base) (p .size) (p .d0 .stride) (p .d1 .stride) (p .d2 .stride) (p .d3 .stride) h0 h1 h2 h3)
+      omega (arith, spot-most (p .base) (p .d0 .stride) (p .d1 .stride) (p .d2 .stride) (p .d3 .stride) h0 h1 h2 h3)
 
   pub home-least : p .home ≤ homeOf p c0 c1 c2 c3
   unfolding homeOf
   home-least =
-      spot-least (p .home) (p .size)
+      spot-least (p .home)
       (c0 - p .d0 .pre) (p .d0 .jump) (c1 - p .d1 .pre) (p .d1 .jump) (c2 - p .d2 .pre) (p .d2 .jump) (c3 - p .d3 .pre) (p .d3 .jump)
 
   pub home-most : planKept p c0 c1 c2 c3 ≡ true → homeOf p c0 c1 c2 c3 + p .size ≤ homeEnd p
@@ -97,20 +95,9 @@ module _ (p : Plan) (c0 c1 c2 c3 : ℕ) where
       let k = all-kept-of h in
       omega (
         arith,
-        spot-most (p .home) (p .size) (p .d0 .jump) (p .d1 .jump) (p .d2 .jump) (p .d3 .jump)
+        spot-most (p .home) (p .d0 .jump) (p .d1 .jump) (p .d2 .jump) (p .d3 .jump)
             (k .k0 .most) (k .k1 .most) (k .k2 .most) (k .k3 .most),
       )
-
-  -- what is stored at a kept element, and at one of padding
-  pub put-kept : (s d : List ℕ) {e : List ℕ} {at to : ℕ} → planKept p c0 c1 c2 c3 ≡ true → to ≡ placeOf p c0 c1 c2 c3 → at ≡ homeOf p c0 c1 c2 c3
-      → e ≡ sets d to (take (p .size) (drop at s)) → e ≡ putAt p s c0 c1 c2 c3 d
-  unfolding putAt planBytes
-  put-kept s d k f h g = g ∙ rw (k, f, h)
-
-  pub put-pad : (s d : List ℕ) {e : List ℕ} {to : ℕ} → planKept p c0 c1 c2 c3 ≡ false → to ≡ placeOf p c0 c1 c2 c3
-      → e ≡ sets d to (replicate (p .size) 0) → e ≡ putAt p s c0 c1 c2 c3 d
-  unfolding putAt planBytes
-  put-pad s d k f g = g ∙ rw (k, f)
 
 -- parts of runs that are apart are apart
 pub apart-part : (o : Origin) {a a' b b' x x' y y' : ℕ} → RunsApart o a a' b b' → a ≤ x → x' ≤ a' → b ≤ y → y' ≤ b' → RunsApart o x x' y y'
@@ -122,10 +109,10 @@ pub still-ready : (o : Origin) (p : Plan) (s d e : List ℕ) → length e ≡ le
 still-ready o p s d e h r =
     record {
       sized = r .sized;
-      some0 = r .some0;
-      some1 = r .some1;
-      some2 = r .some2;
-      some3 = r .some3;
+      sound0 = r .sound0;
+      sound1 = r .sound1;
+      sound2 = r .sound2;
+      sound3 = r .sound3;
       span = span o (r .span);
       need = rw h (r .need);
       apart = r .apart;

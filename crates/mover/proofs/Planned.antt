@@ -16,18 +16,18 @@ use Rattle.plane.specs.Arrays.{at, sum, product, every}
 use Rattle.plane.specs.Planes.{srcStrides, span}
 use Rattle.plane.specs.Moves.{count, dstExtents, dstStrides, need}
 use Rattle.plane.specs.Good.{GoodSource, GoodConfig}
-use Rattle.plane.proofs.Rules.{dst-extent}
-use Rattle.plane.proofs.Bounds.{element-small}
-use Rattle.mover.specs.declared.engine.Origin.the-variants.{Lent}
+use Rattle.plane.proofs.Rules.{count-positive, dst-extent}
+use Rattle.mover.specs.declared.elements.Origin.the-variants.{Lent}
 use Rattle.mover.specs.declared.plan.Axis.{Axis}
 use Rattle.mover.specs.declared.plan.Plan.{Plan}
 use Rattle.mover.specs.Element.{dimOf, kOf, isKept, areKept, sourcePlace, place, element}
 use Rattle.mover.specs.Moved.{extentAt, total, perStep, coordOf, stored, moved}
-use Rattle.mover.specs.Private.{axisOf, lone, planOf, axisKept, planKept, spotOf, placeOf, homeOf, planBytes, putAt, planTotal, co0, co1, co2, co3, putNumber, movedBy, homeEnd, placeEnd, Ready}
+use Rattle.mover.specs.Private.{axisOf, lone, planOf, axisKept, planKept, spotOf, placeOf, homeOf, planBytes, putAt, planTotal, co0, co1, co2, co3, putNumber, movedBy, homeEnd, placeEnd, Sound, Ready}
 use Rattle.mover.proofs.Numbers.{digit}
-use Rattle.mover.proofs.Sums.{sum-joined}
+use Rattle.mover.proofs.Sums.{sum-bytes}
 use Rattle.mover.proofs.Fitting.{home-fits, place-fits}
-use Rattle.mover.proofs.Turns.{spread-within}
+use Rattle.mover.proofs.Making.{extent-is, element-sized}
+use Rattle.mover.proofs.Numbered.{spread-within}
 
 -- ---- a plan of n axes, widened to four
 
@@ -42,28 +42,25 @@ wide-each P n z f j m l p h = elim (decLt j (4 - n)) [
   | no q ↦ rw (le-ltb j (4 - n) (omega arith)) (h (j - (4 - n)) (omega arith))
 ]
 
-abbrev loneOf : ℕ → Axis
-loneOf s = record { extent = 1; pre = 0; count = 1; jump = 0; stride = s }
-
-abbrev widened : ℕ → ℕ → ℕ → ℕ → (ℕ → Axis) → ℕ → Plan
-widened z h b s x n = record {
+abbrev widened : ℕ → ℕ → ℕ → (ℕ → Axis) → ℕ → Plan
+widened z h b x n = record {
   size = z;
   home = h;
   base = b;
-  d0 = wide n (loneOf s) x 0;
-  d1 = wide n (loneOf s) x 1;
-  d2 = wide n (loneOf s) x 2;
-  d3 = wide n (loneOf s) x 3;
+  d0 = wide n lone x 0;
+  d1 = wide n lone x 1;
+  d2 = wide n lone x 2;
+  d3 = wide n lone x 3;
 }
 
 -- what it comes to over n dimensions
-record Widened (z h b s : ℕ) (x : ℕ → Axis) (n : ℕ) : Type 0 where
-  pub all : planTotal (widened z h b s x n) ≡ product n (λ i. x i .extent)
-  pub place : (c : ℕ → ℕ) → placeOf (widened z h b s x n) (wide n 0 c 0) (wide n 0 c 1) (wide n 0 c 2) (wide n 0 c 3) ≡ b + sum n (λ i. c i * x i .stride) * z
-  pub home : (c : ℕ → ℕ) → homeOf (widened z h b s x n) (wide n 0 c 0) (wide n 0 c 1) (wide n 0 c 2) (wide n 0 c 3) ≡ h + sum n (λ i. (c i - x i .pre) * x i .jump) * z
-  pub kept : (c : ℕ → ℕ) → planKept (widened z h b s x n) (wide n 0 c 0) (wide n 0 c 1) (wide n 0 c 2) (wide n 0 c 3) ≡ every n (λ i. axisKept (x i) (c i))
-  pub home-end : homeEnd (widened z h b s x n) ≡ h + sum n (λ i. (x i .count - 1) * x i .jump) * z + z
-  pub place-end : placeEnd (widened z h b s x n) ≡ b + sum n (λ i. (x i .extent - 1) * x i .stride) * z + z
+record Widened (z h b : ℕ) (x : ℕ → Axis) (n : ℕ) : Type 0 where
+  pub all : planTotal (widened z h b x n) ≡ product n (λ i. x i .extent)
+  pub place : (c : ℕ → ℕ) → placeOf (widened z h b x n) (wide n 0 c 0) (wide n 0 c 1) (wide n 0 c 2) (wide n 0 c 3) ≡ b + sum n (λ i. c i * x i .stride)
+  pub home : (c : ℕ → ℕ) → homeOf (widened z h b x n) (wide n 0 c 0) (wide n 0 c 1) (wide n 0 c 2) (wide n 0 c 3) ≡ h + sum n (λ i. (c i - x i .pre) * x i .jump)
+  pub kept : (c : ℕ → ℕ) → planKept (widened z h b x n) (wide n 0 c 0) (wide n 0 c 1) (wide n 0 c 2) (wide n 0 c 3) ≡ every n (λ i. axisKept (x i) (c i))
+  pub home-end : homeEnd (widened z h b x n) ≡ h + sum n (λ i. (x i .count - 1) * x i .jump) + z
+  pub place-end : placeEnd (widened z h b x n) ≡ b + sum n (λ i. (x i .extent - 1) * x i .stride) + z
 
 by-rank : (P : ℕ → Type 0) → P 1 → P 2 → P 3 → P 4 → (n : ℕ) → 1 ≤ n → n ≤ 4 → P n
 by-rank P p1 p2 p3 p4 zero l m = absurd (not-suc-le-zero l)
@@ -78,66 +75,66 @@ by-three q a b c =
     rw (one-mul, div-div-eq-div-mul (q / c) b a, div-div-eq-div-mul q c (b * a))
     (ap (λ (y : ℕ). q / y) (mul-comm c (b * a) ∙ ap (λ (y : ℕ). y * c) (mul-comm b a)))
 
-module _ (z h b s : ℕ) (x : ℕ → Axis) where
-  widens : (n : ℕ) → 1 ≤ n → n ≤ 4 → Widened z h b s x n
+module _ (z h b : ℕ) (x : ℕ → Axis) where
+  widens : (n : ℕ) → 1 ≤ n → n ≤ 4 → Widened z h b x n
   unfolding planTotal product placeOf homeOf spotOf sum planKept axisKept every homeEnd placeEnd
   widens =
-      by-rank (λ n. Widened z h b s x n)
+      by-rank (λ n. Widened z h b x n)
       (record {
         all = simp one-mul;
-        place = λ c. ap (λ (y : ℕ). b + y * z) (omega arith);
-        home = λ c. ap (λ (y : ℕ). h + y * z) (omega arith);
+        place = λ c. omega arith;
+        home = λ c. omega arith;
         kept = λ c. refl;
-        home-end = ap (λ (y : ℕ). h + y * z + z) (omega arith);
-        place-end = ap (λ (y : ℕ). b + y * z + z) (omega arith);
+        home-end = omega arith;
+        place-end = omega arith;
       })
       (record {
         all = simp one-mul;
-        place = λ c. ap (λ (y : ℕ). b + y * z) (omega arith);
-        home = λ c. ap (λ (y : ℕ). h + y * z) (omega arith);
+        place = λ c. omega arith;
+        home = λ c. omega arith;
         kept = λ c. refl;
-        home-end = ap (λ (y : ℕ). h + y * z + z) (omega arith);
-        place-end = ap (λ (y : ℕ). b + y * z + z) (omega arith);
+        home-end = omega arith;
+        place-end = omega arith;
       })
       (record {
         all = simp one-mul;
-        place = λ c. ap (λ (y : ℕ). b + y * z) (omega arith);
-        home = λ c. ap (λ (y : ℕ). h + y * z) (omega arith);
+        place = λ c. omega arith;
+        home = λ c. omega arith;
         kept = λ c. refl;
-        home-end = ap (λ (y : ℕ). h + y * z + z) (omega arith);
-        place-end = ap (λ (y : ℕ). b + y * z + z) (omega arith);
+        home-end = omega arith;
+        place-end = omega arith;
       })
       (record {
         all = simp one-mul;
-        place = λ c. ap (λ (y : ℕ). b + y * z) (omega arith);
-        home = λ c. ap (λ (y : ℕ). h + y * z) (omega arith);
+        place = λ c. omega arith;
+        home = λ c. omega arith;
         kept = λ c. refl;
-        home-end = ap (λ (y : ℕ). h + y * z + z) (omega arith);
-        place-end = ap (λ (y : ℕ). b + y * z + z) (omega arith);
+        home-end = omega arith;
+        place-end = omega arith;
       })
 
   -- the plan's coordinates of a number are the paper's
   record Digits (q n : ℕ) : Type 0 where
-    pub at0 : co0 (widened z h b s x n) q ≡ wide n 0 (digit n (λ i. x i .extent) q) 0
-    pub at1 : co1 (widened z h b s x n) q ≡ wide n 0 (digit n (λ i. x i .extent) q) 1
-    pub at2 : co2 (widened z h b s x n) q ≡ wide n 0 (digit n (λ i. x i .extent) q) 2
-    pub at3 : co3 (widened z h b s x n) q ≡ wide n 0 (digit n (λ i. x i .extent) q) 3
+    pub at0 : co0 (widened z h b x n) q ≡ wide n 0 (digit n (λ i. x i .extent) q) 0
+    pub at1 : co1 (widened z h b x n) q ≡ wide n 0 (digit n (λ i. x i .extent) q) 1
+    pub at2 : co2 (widened z h b x n) q ≡ wide n 0 (digit n (λ i. x i .extent) q) 2
+    pub at3 : co3 (widened z h b x n) q ≡ wide n 0 (digit n (λ i. x i .extent) q) 3
 
   digits : (q n : ℕ) → 1 ≤ n → n ≤ 4 → ((i : ℕ) → i < n → 0 < x i .extent) → q < product n (λ i. x i .extent) → Digits q n
   unfolding planTotal product
   digits q =
       by-rank (λ n. ((i : ℕ) → i < n → 0 < x i .extent) → q < product n (λ i. x i .extent) → Digits q n)
       (λ p l.
-      let w = spread-within (widened z h b s x 1) (omega arith) (omega arith) (p 0 (omega arith)) q (rw (widens 1 (omega arith) (omega arith) .all) l) in
+      let w = spread-within (widened z h b x 1) (omega arith) (omega arith) (p 0 (omega arith)) q (rw (widens 1 (omega arith) (omega arith) .all) l) in
       record { at0 = omega (arith, w .in0); at1 = simp (div-one, mod-one); at2 = simp (mod-one); at3 = simp (div-one) })
       (λ p l.
-      let w = spread-within (widened z h b s x 2) (omega arith) (p 0 (omega arith)) (p 1 (omega arith)) q (rw (widens 2 (omega arith) (omega arith) .all) l) in
+      let w = spread-within (widened z h b x 2) (omega arith) (p 0 (omega arith)) (p 1 (omega arith)) q (rw (widens 2 (omega arith) (omega arith) .all) l) in
       record { at0 = omega (arith, w .in0); at1 = simp (mod-one); at2 = simp (one-mul); at3 = simp (div-one) })
       (λ p l.
-      let w = spread-within (widened z h b s x 3) (p 0 (omega arith)) (p 1 (omega arith)) (p 2 (omega arith)) q (rw (widens 3 (omega arith) (omega arith) .all) l) in
+      let w = spread-within (widened z h b x 3) (p 0 (omega arith)) (p 1 (omega arith)) (p 2 (omega arith)) q (rw (widens 3 (omega arith) (omega arith) .all) l) in
       record { at0 = omega (arith, w .in0); at1 = simp (one-mul, div-div-eq-div-mul, mul-comm (x 2 .extent)); at2 = simp (one-mul); at3 = simp (div-one) })
       (λ p l.
-      let w = spread-within (widened z h b s x 4) (p 1 (omega arith)) (p 2 (omega arith)) (p 3 (omega arith)) q (rw (widens 4 (omega arith) (omega arith) .all) l) in
+      let w = spread-within (widened z h b x 4) (p 1 (omega arith)) (p 2 (omega arith)) (p 3 (omega arith)) q (rw (widens 4 (omega arith) (omega arith) .all) l) in
       record { at0 = sym (mod-eq-of-lt (w .in0)) ∙ ap (λ (y : ℕ). y % x 0 .extent) (by-three q (x 1 .extent) (x 2 .extent) (x 3 .extent)); at1 = simp (one-mul, div-div-eq-div-mul, mul-comm (x 3 .extent)); at2 = simp (one-mul); at3 = simp (div-one) })
 
 -- ---- the plan of a move
@@ -157,13 +154,16 @@ pub record Planned (t : Tensor) (c : Config) (q : ℕ) : Type 0 where
   pub at2 : co2 (planOf t c) q ≡ front t (coordOf t c q) 2
   pub at3 : co3 (planOf t c) q ≡ front t (coordOf t c q) 3
 
--- the offset and k steps on, in elements
-stepped : (o k m s : ℕ) → o * s + k * (s * m) ≡ (o + k * m) * s
-stepped o k m s = rw (add-mul, mul-assoc, mul-comm m s)
+-- the offset and k on, in bytes; and k steps on
+further : (o k s z : ℕ) → o * s * z + k * (s * z) ≡ (o + k) * s * z
+further o k s z = rw (add-mul o k s, add-mul (o * s) (k * s) z, mul-assoc k s z)
+
+stepped : (o k m s z : ℕ) → o * s * z + k * (m * s * z) ≡ (o + k * m) * s * z
+stepped o k m s z = rw (add-mul o (k * m) s, add-mul (o * s) (k * m * s) z, mul-assoc k m s, mul-assoc k (m * s) z)
 
 module _ {t : Tensor} (c : Config) (g : GoodSource t) where
-  its : (z h b s : ℕ) → Widened z h b s (axisOf t c) (t .rank)
-  its z h b s = widens z h b s (axisOf t c) (t .rank) (g .rank .0) (g .rank .1)
+  its : (z h b : ℕ) → Widened z h b (axisOf t c) (t .rank)
+  its z h b = widens z h b (axisOf t c) (t .rank) (g .rank .0) (g .rank .1)
 
   pub planned-size : planOf t c .size ≡ t .«element_size»
   unfolding planOf
@@ -171,20 +171,20 @@ module _ {t : Tensor} (c : Config) (g : GoodSource t) where
 
   pub planned-total : planTotal (planOf t c) ≡ total t c
   unfolding planOf total
-  planned-total = its _ _ _ _ .all
+  planned-total = its _ _ _ .all
 
   module _ (x : ℕ → ℕ) where
     pub planned-place : placeOf (planOf t c) (front t x 0) (front t x 1) (front t x 2) (front t x 3) ≡ place t c x * t .«element_size»
     unfolding planOf place
-    planned-place = its _ _ _ _ .place x ∙ sum-joined (t .rank) _ _ _ (t .«element_size») (λ i _. sym (add-mul (at (c .«dst_offset») i) (x i) (at (dstStrides t c) i)))
+    planned-place = its _ _ _ .place x ∙ sum-bytes (t .rank) _ _ _ (t .«element_size») (λ i _. further (at (c .«dst_offset») i) (x i) (at (dstStrides t c) i) (t .«element_size»))
 
     pub planned-home : homeOf (planOf t c) (front t x 0) (front t x 1) (front t x 2) (front t x 3) ≡ sourcePlace t c x * t .«element_size»
     unfolding planOf sourcePlace
-    planned-home = its _ _ _ _ .home x ∙ sum-joined (t .rank) _ _ _ (t .«element_size») (λ i _. stepped (at (c .offset) (dimOf c i)) (kOf c i (x i)) (at (c .step) (dimOf c i)) (at (srcStrides t) (dimOf c i)))
+    planned-home = its _ _ _ .home x ∙ sum-bytes (t .rank) _ _ _ (t .«element_size») (λ i _. stepped (at (c .offset) (dimOf c i)) (kOf c i (x i)) (at (c .step) (dimOf c i)) (at (srcStrides t) (dimOf c i)) (t .«element_size»))
 
     pub planned-kept : planKept (planOf t c) (front t x 0) (front t x 1) (front t x 2) (front t x 3) ≡ areKept t c x
     unfolding planOf areKept isKept axisKept
-    planned-kept = its _ _ _ _ .kept x
+    planned-kept = its _ _ _ .kept x
 
     pub planned-bytes : (src : List ℕ) → planBytes (planOf t c) src (front t x 0) (front t x 1) (front t x 2) (front t x 3) ≡ element t c src x
     unfolding planBytes element
@@ -194,7 +194,7 @@ module _ {t : Tensor} (c : Config) (g : GoodSource t) where
     pub planned-coords : (q : ℕ) → q < total t c → Planned t c q
     unfolding planOf coordOf perStep total
     planned-coords q l =
-        let d = digits (t .«element_size») (planOf t c .home) (planOf t c .base) (at (dstStrides t c) 0 * at (dstExtents t c) 0) (axisOf t c) q (t .rank) (g .rank .0) (g .rank .1) (λ i h. dst-extent k i (g .rank .1) h .0) l in
+        let d = digits (t .«element_size») (planOf t c .home) (planOf t c .base) (axisOf t c) q (t .rank) (g .rank .0) (g .rank .1) (λ i h. dst-extent k i (g .rank .1) h .0) l in
         record { at0 = d .at0; at1 = d .at1; at2 = d .at2; at3 = d .at3 }
 
     pub stored-planned : (src : List ℕ) (q : ℕ) (dst : List ℕ) → q < total t c → stored t c src q dst ≡ putNumber (planOf t c) src q dst
@@ -217,7 +217,7 @@ module _ {t : Tensor} (c : Config) (g : GoodSource t) where
     planned-homeEnd =
         let l : ℕ → ℕ = λ i. count t c (dimOf c i) - 1 in
         let e : homeEnd (planOf t c) ≡ (1 + sum (t .rank) (λ i. (at (c .offset) (dimOf c i) + l i * at (c .step) (dimOf c i)) * at (srcStrides t) (dimOf c i))) * t .«element_size» =
-        its _ _ _ _ .home-end ∙ ended _ (t .«element_size») (sum-joined (t .rank) _ _ _ (t .«element_size») (λ i _. stepped (at (c .offset) (dimOf c i)) (l i) (at (c .step) (dimOf c i)) (at (srcStrides t) (dimOf c i)))) in
+        its _ _ _ .home-end ∙ ended _ (t .«element_size») (sum-bytes (t .rank) _ _ _ (t .«element_size») (λ i _. stepped (at (c .offset) (dimOf c i)) (l i) (at (c .step) (dimOf c i)) (at (srcStrides t) (dimOf c i)) (t .«element_size»))) in
         rw e (home-fits k l (λ i h. omega arith))
 
     pub planned-placeEnd : placeEnd (planOf t c) ≤ need t c
@@ -225,22 +225,22 @@ module _ {t : Tensor} (c : Config) (g : GoodSource t) where
     planned-placeEnd =
         let x : ℕ → ℕ = λ i. extentAt t c i - 1 in
         let e : placeEnd (planOf t c) ≡ (1 + place t c x) * t .«element_size» =
-        its _ _ _ _ .place-end ∙ ended _ (t .«element_size») (sum-joined (t .rank) _ _ _ (t .«element_size») (λ i _. sym (add-mul (at (c .«dst_offset») i) (x i) (at (dstStrides t c) i)))) in
+        its _ _ _ .place-end ∙ ended _ (t .«element_size») (sum-bytes (t .rank) _ _ _ (t .«element_size») (λ i _. further (at (c .«dst_offset») i) (x i) (at (dstStrides t c) i) (t .«element_size»))) in
         rw e (place-fits k x (λ i h. omega (arith, dst-extent k i (g .rank .1) h .0)))
 
     -- between two lent slices
     pub planned-ready : (src dst : List ℕ) → span t ≤ length src → need t c ≤ length dst → Ready Lent (planOf t c) src dst
     unfolding planOf
     planned-ready src dst l m =
-        let some : (j : ℕ) → j < 4 → 0 < wide (t .rank) (lone t c) (axisOf t c) j .extent = λ j h.
-        wide-each (λ (a : Axis). 0 < a .extent) (t .rank) (lone t c) (axisOf t c) j (g .rank .1) h (omega arith)
-        (λ i l. dst-extent k i (g .rank .1) l .0) in
+        let sound : (j : ℕ) → j < 4 → Sound (wide (t .rank) lone (axisOf t c) j) = λ j h.
+        wide-each Sound (t .rank) lone (axisOf t c) j (g .rank .1) h (record { some = omega arith; row = omega arith })
+        (λ i l. record { some = count-positive k (dimOf c i) (k .perm i l); row = omega (arith, extent-is c g i l) }) in
         record {
-          sized = element-small (t .«element_size») (g .element) .0;
-          some0 = some 0 (omega arith);
-          some1 = some 1 (omega arith);
-          some2 = some 2 (omega arith);
-          some3 = some 3 (omega arith);
+          sized = element-sized (t .«element_size») (g .element);
+          sound0 = sound 0 (omega arith);
+          sound1 = sound 1 (omega arith);
+          sound2 = sound 2 (omega arith);
+          sound3 = sound 3 (omega arith);
           span = omega (arith, planned-homeEnd);
           need = omega (arith, planned-placeEnd);
           apart = tt;

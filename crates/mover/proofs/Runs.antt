@@ -1,24 +1,16 @@
 -- Laws of a run of stores, `sets`. Assumes nothing.
-use mathlib.Core.Path.{_≡_, refl, ap, _∙_}
+use mathlib.Core.Path.{_≡_, refl, sym, _∙_}
 use mathlib.Core.Logic.{_⊎_, ⊎-elim, inl, inr}
-use mathlib.Core.List.{List, [], _∷_, _++_}
+use mathlib.Core.List.{List, [], _∷_}
 use Prim.Native.Nat.{ℕ, suc, _+_, _≤_, _<_}
-use native.Mathlib.Nat.{add-zero, add-suc, suc-add, min-le-left}
+use native.Mathlib.Nat.{min-le-left}
 use native.Mathlib.Numerals.{add-one}
 use native.Mathlib.Omega.{arith}
-use lib.ListN.{length, getD, set, take, drop, replicate, length-take, length-drop, length-replicate, replicate-append-replicate}
-use lib.Seq.{sets, take-suc, getD-drop, getD-set-other, length-take-le}
-use Rattle.mover.specs.declared.engine.Origin.{Origin}
-use Rattle.mover.specs.declared.engine.Origin.the-variants.{Lent, Inside}
-use Rattle.mover.specs.Private.{sourceBytes}
-
-pub sets-snoc : (l : List ℕ) (i : ℕ) (vs : List ℕ) (a : ℕ) → sets l i (vs ++ (a ∷ [])) ≡ set (sets l i vs) (i + length vs) a
-sets-snoc l i [] a = rw add-zero
-sets-snoc l i (v ∷ vs) a = rw (add-suc, ← suc-add) (sets-snoc (set l i v) (suc i) vs a)
-
--- one store more, after k
-pub sets-more : (l : List ℕ) (i k : ℕ) (vs : List ℕ) (a : ℕ) → length vs ≡ k → set (sets l i vs) (i + k) a ≡ sets l i (vs ++ (a ∷ []))
-sets-more l i k vs a e = rw (sets-snoc, e)
+use lib.ListN.{length, getD, set, take, drop, replicate, length-take}
+use lib.Seq.{sets, drop-cons, getD-set-other}
+use Rattle.mover.specs.declared.elements.Origin.{Origin}
+use Rattle.mover.specs.declared.elements.Origin.the-variants.{Lent, Inside}
+use Rattle.mover.specs.Private.{sourceBytes, Sized}
 
 -- what is stored elsewhere leaves a byte as it was
 pub getD-sets-out : (vs l : List ℕ) (i k : ℕ) → (k < i) ⊎ (i + length vs ≤ k) → getD (sets l i vs) k 0 ≡ getD l k 0
@@ -27,28 +19,54 @@ getD-sets-out (v ∷ vs) l i k h =
     getD-sets-out vs (set l i v) (suc i) k (⊎-elim (λ a. inl (omega arith)) (λ b. inr (omega arith)) h)
     ∙ getD-set-other l i k v 0 (λ e. ⊎-elim {C = ⊥} (λ a. omega arith) (λ b. omega arith) h)
 
--- zeros, one more
-pub zeros-more : (l : List ℕ) (to i : ℕ) → set (sets l to (replicate i 0)) (to + i) 0 ≡ sets l to (replicate (i + 1) 0)
-zeros-more l to i =
-    sets-more l to i (replicate i 0) 0 (length-replicate i 0) ∙ ap (λ (v : List ℕ). sets l to v) (replicate-append-replicate i 1 0)
+-- the sizes of an element
+pub sized-one : {z : ℕ} → Sized z → 1 ≤ z
+sized-one h = ⊎-elim (λ a. omega arith) (λ r. ⊎-elim (λ b. omega arith) (λ c. omega arith) r) h
 
--- bytes of s from `at`, one more
-pub copy-more : (l s : List ℕ) (at to i : ℕ) → at + i < length s
-    → set (sets l to (take i (drop at s))) (to + i) (getD s (at + i) 0) ≡ sets l to (take (i + 1) (drop at s))
-copy-more l s at to i h =
-    let hd : i < length (drop at s) = simp length-drop (omega arith) in
-    sets-more l to i (take i (drop at s)) (getD s (at + i) 0) (length-take-le i (drop at s) (omega arith))
-    ∙ rw (add-one, take-suc (drop at s) i 0 hd, getD-drop)
+pub sized-two : {z : ℕ} → Sized z → (z ≡ 1 → ⊥) → 2 ≤ z
+sized-two h n = ⊎-elim (λ a. absurd (n a)) (λ r. ⊎-elim (λ b. omega arith) (λ c. omega arith) r) h
+
+pub sized-four : {z : ℕ} → Sized z → (z ≡ 1 → ⊥) → (z ≡ 2 → ⊥) → z ≡ 4
+sized-four h n m = ⊎-elim (λ a. absurd (n a)) (λ r. ⊎-elim (λ b. absurd (m b)) (λ c. c) r) h
+
+-- bytes of s from `at`, the first of them stored
+sets-part : (d s : List ℕ) (at to n a t : ℕ) → at + 1 ≡ a → to + 1 ≡ t → at < length s
+    → sets d to (take (suc n) (drop at s)) ≡ sets (set d to (getD s at 0)) t (take n (drop a s))
+sets-part d s at to n a t p q h = rw (← p, ← q, add-one, add-one, drop-cons s at 0 h)
+
+module _ (d s : List ℕ) (at to : ℕ) where
+  pub copied-one : at + 1 ≤ length s → set d to (getD s at 0) ≡ sets d to (take 1 (drop at s))
+  copied-one h = sym (sets-part d s at to 0 (at + 1) (to + 1) refl refl (omega arith))
+
+  pub copied-two : at + 2 ≤ length s → set (set d to (getD s at 0)) (to + 1) (getD s (at + 1) 0) ≡ sets d to (take 2 (drop at s))
+  copied-two h =
+      sym (sets-part d s at to 1 (at + 1) (to + 1) refl refl (omega arith) ∙
+      sets-part (set d to (getD s at 0)) s (at + 1) (to + 1) 0 (at + 2) (to + 2) (omega arith) (omega arith) (omega arith))
+
+  pub copied-four : at + 4 ≤ length s
+      → set (set (set (set d to (getD s at 0)) (to + 1) (getD s (at + 1) 0)) (to + 2) (getD s (at + 2) 0)) (to + 3) (getD s (at + 3) 0) ≡ sets d to (take 4 (drop at s))
+  copied-four h =
+      let e = set d to (getD s at 0) in
+      let f = set e (to + 1) (getD s (at + 1) 0) in
+      let g = set f (to + 2) (getD s (at + 2) 0) in
+      sym (sets-part d s at to 3 (at + 1) (to + 1) refl refl (omega arith) ∙
+      sets-part e s (at + 1) (to + 1) 2 (at + 2) (to + 2) (omega arith) (omega arith) (omega arith) ∙
+      sets-part f s (at + 2) (to + 2) 1 (at + 3) (to + 3) (omega arith) (omega arith) (omega arith) ∙
+      sets-part g s (at + 3) (to + 3) 0 (at + 4) (to + 4) (omega arith) (omega arith) (omega arith))
+
+module _ (d : List ℕ) (to : ℕ) where
+  pub cleared-two : set (set d to 0) (to + 1) 0 ≡ sets d to (replicate 2 0)
+  cleared-two = rw add-one
+
+  pub cleared-four : set (set (set (set d to 0) (to + 1) 0) (to + 2) 0) (to + 3) 0 ≡ sets d to (replicate 4 0)
+  cleared-four =
+      let p : to + 1 ≡ suc to = omega arith in
+      let q : to + 2 ≡ suc (suc to) = omega arith in
+      let r : to + 3 ≡ suc (suc (suc to)) = omega arith in
+      rw (p, q, r)
 
 pub length-take-most : (i : ℕ) (l : List ℕ) → length (take i l) ≤ i
 length-take-most i l = rw length-take (min-le-left i (length l))
-
--- while bytes are copied within one list, those still to be read are as they were
-pub copy-keeps : (d v : List ℕ) (at to size i : ℕ) → i < size → (at + size ≤ to) ⊎ (to + size ≤ at)
-    → getD (sets d to (take i v)) (at + i) 0 ≡ getD d (at + i) 0
-copy-keeps d v at to size i h o =
-    getD-sets-out (take i v) d to (at + i)
-    (⊎-elim (λ a. inl (omega arith)) (λ b. inr (omega (arith, length-take-most i v))) o)
 
 -- either source is as long as one of the two lists
 pub source-long : (o : Origin) (s d : List ℕ) → length (sourceBytes o s d) ≤ length s + length d

@@ -20,6 +20,14 @@ sum-add (suc n) f g h e = omega (arith, sum-add n f g h (λ i l. e i (omega arit
 pub sum-joined : (n : ℕ) (f g h : ℕ → ℕ) (z : ℕ) → ((i : ℕ) → i < n → f i + g i ≡ h i) → sum n f * z + sum n g * z ≡ sum n h * z
 sum-joined n f g h z e = sym (add-mul (sum n f) (sum n g) z) ∙ ap (λ (y : ℕ). y * z) (sum-add n f g h e)
 
+-- a sum of elements, in bytes, and a sum of bytes
+pub sum-bytes : (n : ℕ) (f g h : ℕ → ℕ) (z : ℕ) → ((i : ℕ) → i < n → f i * z + g i ≡ h i * z) → sum n f * z + sum n g ≡ sum n h * z
+unfolding sum
+sum-bytes zero f g h z e = omega arith
+sum-bytes (suc n) f g h z e =
+    rw (add-mul (sum n f) (f n) z, add-mul (sum n h) (h n) z)
+    (omega (arith, sum-bytes n f g h z (λ i l. e i (omega arith)), e n (omega arith)))
+
 pub sum-least : (n : ℕ) (f g : ℕ → ℕ) → ((i : ℕ) → i < n → f i ≤ g i) → sum n f ≤ sum n g
 unfolding sum
 sum-least zero f g e = omega arith

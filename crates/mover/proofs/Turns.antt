@@ -1,178 +1,67 @@
--- Laws of `movedBy`, and what a turn of the engine's loops keeps. Assumes nothing.
-use mathlib.Core.Path.{_≡_, refl, sym, ap, _∙_}
-use mathlib.Core.Logic.{_⊎_, ⊎-elim, inl, inr}
-use mathlib.Core.Bool.{Bool, true, false, cond}
+-- What a turn of the engine's loops keeps: a run is elements by their numbers, and the end of a row, a plane and a block is the start of
+-- the next. Assumes nothing.
+use mathlib.Core.Path.{_≡_, refl, sym, ap, ap₂, _∙_}
+use mathlib.Core.Logic.{_⊎_, ⊎-elim}
+use mathlib.Core.Bool.{Bool, true, false, _&&_}
 use mathlib.Core.List.{List}
-use Prim.Native.Nat.{ℕ, zero, suc, _+_, _-_, _*_, _/_, _≤_, _<_, min}
-use native.Mathlib.Nat.{add-zero, add-suc, add-assoc, add-mul, one-mul, div-add-mod', mod-lt, div-lt-iff-lt-mul, min-eq-left, min-eq-right, sub-self, pos-of-ne-zero, le-trans, le-add-right, mul-le-mul-right}
+use Prim.Native.Nat.{ℕ, zero, suc, _+_, _-_, _*_, _%_, _^_, _≤_, _<_, min}
+use native.Mathlib.Nat.{add-zero, add-assoc, add-mul, one-mul, zero-sub, min-eq-left, min-eq-right, sub-self, le-trans, le-add-right, mul-le-mul-right, mod-eq-of-lt}
 use native.Mathlib.Omega.{arith}
-use lib.Arith.{digits-lt, digits-div, digits-mod}
-use lib.ListN.{length, getD, take, drop, replicate, length-take, length-drop, length-replicate}
-use lib.Seq.{length-sets, ext-getD, getD-take, getD-drop}
+use lib.ListN.{length, take, drop, replicate}
+use lib.Seq.{sets}
 use Rattle.mover.specs.declared.plan.Plan.{Plan}
-use Rattle.mover.specs.declared.engine.Origin.{Origin}
-use Rattle.mover.specs.declared.engine.Origin.the-variants.{Lent, Inside}
-use Rattle.mover.specs.Private.{sourceBytes, planKept, placeOf, homeOf, planBytes, putAt, co0, co1, co2, co3, putNumber, planTotal, movedBy, placeEnd, Ready, InExtents}
-use Rattle.mover.proofs.Runs.{getD-sets-out, length-take-most}
-use Rattle.mover.proofs.Places.{place-least, place-most, home-least, home-most, still-ready}
+use Rattle.mover.specs.declared.start.Spot.{Spot}
+use Rattle.mover.specs.declared.start.Start.{Start}
+use Rattle.mover.specs.declared.engine.Run.{Run}
+use Rattle.mover.specs.declared.elements.Origin.{Origin}
+use Rattle.mover.specs.Private.{sourceBytes, axisKept, planKept, placeOf, homeOf, planBytes, putAt, putNumber, planTotal, movedBy, along, stepsOf, reachOf, onwardOf, firstOf, startOf, runOf, keptRun, padRun, Held, RunsApart, Parted, Alike, homeEnd, placeEnd, Sound, Ready, InExtents, co0, co1, co2, co3}
+use Rattle.mover.proofs.Runs.{source-long}
+use Rattle.mover.proofs.Places.{place-least, place-most, home-least, home-most, all-kept-of, extent-some, apart-part, still-ready}
+use Rattle.mover.proofs.Steps.{along-none, along-on, steps-kept, reach-to, reach-at, reach-none, reach-on, row-place, row-home}
+use Rattle.mover.proofs.Numbered.{length-moved, moved-add, numberOf, put-number, number-lt, spread, source-same}
 
--- ---- movedBy
+-- ---- a run
 
-module _ (p : Plan) (s : List ℕ) where
-  pub length-put : (q : ℕ) (d : List ℕ) → length (putNumber p s q d) ≡ length d
-  unfolding putNumber putAt
-  length-put q d = simp length-sets
-
-  pub length-moved : (from n : ℕ) (d : List ℕ) → length (movedBy p s from n d) ≡ length d
-  unfolding movedBy
-  length-moved from zero d = refl
-  length-moved from (suc n) d = length-put (from + n) (movedBy p s from n d) ∙ length-moved from n d
-
-  -- a + b elements: a, and then b
-  pub moved-add : (from a b : ℕ) (d : List ℕ) → movedBy p s from (a + b) d ≡ movedBy p s (from + a) b (movedBy p s from a d)
-  unfolding movedBy
-  moved-add from a zero d = rw add-zero
-  moved-add from a (suc b) d = rw (add-suc, moved-add from a b d, add-assoc)
-
--- ---- numbers and coordinates
-
--- the number of the element at the coordinates
-abbrev pub numberOf : Plan → ℕ → ℕ → ℕ → ℕ → ℕ
-numberOf p c0 c1 c2 c3 = ((c0 * p .d1 .extent + c1) * p .d2 .extent + c2) * p .d3 .extent + c3
-
--- the coordinates of an element's number are those it was made from
-pub record Coords (p : Plan) (q c0 c1 c2 c3 : ℕ) : Type 0 where
-  pub at0 : co0 p q ≡ c0
-  pub at1 : co1 p q ≡ c1
-  pub at2 : co2 p q ≡ c2
-  pub at3 : co3 p q ≡ c3
-
-module _ (p : Plan) where
-  pub coords : {q c0 c1 c2 c3 : ℕ} → numberOf p c0 c1 c2 c3 ≡ q → InExtents p c0 c1 c2 c3 → Coords p q c0 c1 c2 c3
-  coords {q} {c0} {c1} {c2} {c3} e w =
-      let q3 = (c0 * p .d1 .extent + c1) * p .d2 .extent + c2 in
-      let q2 = c0 * p .d1 .extent + c1 in
-      record {
-        at0 = rw (← e, digits-div q3 (w .in3), digits-div q2 (w .in2), digits-div c0 (w .in1));
-        at1 = rw (← e, digits-div q3 (w .in3), digits-div q2 (w .in2), digits-mod c0 (w .in1));
-        at2 = rw (← e, digits-div q3 (w .in3), digits-mod q2 (w .in2));
-        at3 = rw (← e, digits-mod q3 (w .in3));
-      }
-
-  pub put-number : (s d : List ℕ) {q c0 c1 c2 c3 : ℕ} → numberOf p c0 c1 c2 c3 ≡ q → InExtents p c0 c1 c2 c3
-      → putNumber p s q d ≡ putAt p s c0 c1 c2 c3 d
-  unfolding putNumber
-  put-number s d e w = let c = coords e w in rw (c .at0, c .at1, c .at2, c .at3)
-
-  pub number-lt : {c0 c1 c2 c3 : ℕ} → InExtents p c0 c1 c2 c3 → numberOf p c0 c1 c2 c3 < planTotal p
-  unfolding planTotal
-  number-lt w = digits-lt (digits-lt (digits-lt (w .in0) (w .in1)) (w .in2)) (w .in3)
-
--- the coordinates of an element's number
-pub record Spread (p : Plan) (q : ℕ) : Type 0 where
-  pub back : numberOf p (co0 p q) (co1 p q) (co2 p q) (co3 p q) ≡ q
-  pub in1 : co1 p q < p .d1 .extent
-  pub in2 : co2 p q < p .d2 .extent
-  pub in3 : co3 p q < p .d3 .extent
-
-module _ (p : Plan) (h1 : 0 < p .d1 .extent) (h2 : 0 < p .d2 .extent) (h3 : 0 < p .d3 .extent) where
-  pub spread : (q : ℕ) → Spread p q
-  spread q =
-      record {
-        back = rw (div-add-mod' (q / p .d3 .extent / p .d2 .extent), div-add-mod' (q / p .d3 .extent), div-add-mod' q);
-        in1 = mod-lt (q / p .d3 .extent / p .d2 .extent) h1;
-        in2 = mod-lt (q / p .d3 .extent) h2;
-        in3 = mod-lt q h3;
-      }
-
-  pub spread-within : (q : ℕ) → q < planTotal p
-      → InExtents p (co0 p q) (co1 p q) (co2 p q) (co3 p q)
-  unfolding planTotal
-  spread-within q h =
-      let s = spread q in
-      record {
-        in0 = div-lt-iff-lt-mul h1 .1 (div-lt-iff-lt-mul h2 .1 (div-lt-iff-lt-mul h3 .1 h));
-        in1 = s .in1;
-        in2 = s .in2;
-        in3 = s .in3;
-      }
-
--- ---- bytes that no element holds
-
-module _ (p : Plan) (s : List ℕ) where
-  length-pick : (b : Bool) (z : ℕ) (l : List ℕ) → length (cond b (take z l) (replicate z 0)) ≤ z
-  length-pick true z l = length-take-most z l
-  length-pick false z l = rw length-replicate (omega arith)
-
-  pub length-bytes : (c0 c1 c2 c3 : ℕ) → length (planBytes p s c0 c1 c2 c3) ≤ p .size
-  unfolding planBytes
-  length-bytes c0 c1 c2 c3 = length-pick (planKept p c0 c1 c2 c3) (p .size) (drop (homeOf p c0 c1 c2 c3) s)
-
-  pub put-out : {c0 c1 c2 c3 : ℕ} (d : List ℕ) (k : ℕ) → InExtents p c0 c1 c2 c3 → (k < p .base) ⊎ (placeEnd p ≤ k)
-      → getD (putAt p s c0 c1 c2 c3 d) k 0 ≡ getD d k 0
-  unfolding putAt
-  put-out {c0} {c1} {c2} {c3} d k w h =
-      let a = place-least p c0 c1 c2 c3 in
-      let b = place-most p c0 c1 c2 c3 w in
-      let l = length-bytes c0 c1 c2 c3 in
-      getD-sets-out (planBytes p s c0 c1 c2 c3) d (placeOf p c0 c1 c2 c3) k
-      (⊎-elim (λ u. inl (omega arith)) (λ v. inr (omega arith)) h)
-
-  module _ (h1 : 0 < p .d1 .extent) (h2 : 0 < p .d2 .extent) (h3 : 0 < p .d3 .extent) where
-    pub moved-out : (from n : ℕ) (d : List ℕ) (k : ℕ) → from + n ≤ planTotal p → (k < p .base) ⊎ (placeEnd p ≤ k)
-        → getD (movedBy p s from n d) k 0 ≡ getD d k 0
-    unfolding movedBy putNumber
-    moved-out from zero d k m h = refl
-    moved-out from (suc n) d k m h =
-        put-out (movedBy p s from n d) k (spread-within p h1 h2 h3 (from + n) (omega arith)) h
-        ∙ moved-out from n d k (omega arith) h
-
--- lists of one length that agree over a run have it in common
-pub run-same : (l m : List ℕ) (at z : ℕ) → length l ≡ length m → ((k : ℕ) → at ≤ k → k < at + z → getD l k 0 ≡ getD m k 0)
-    → take z (drop at l) ≡ take z (drop at m)
-run-same l m at z e f =
-    ext-getD 0 (take z (drop at l)) (take z (drop at m))
-    (simp (length-take, length-drop, e))
-    (λ i h.
-    let hz : i < z = omega (arith, length-take-most z (drop at l)) in
-    rw (getD-take, getD-drop, getD-take, getD-drop) (f (at + i) (omega arith) (omega arith)))
-
-pub pick-same : (b : Bool) {x y : List ℕ} (z : List ℕ) → (b ≡ true → x ≡ y) → cond b x z ≡ cond b y z
-pick-same true z f = f refl
-pick-same false z f = refl
-
--- while elements are written, the source's are as they were
-pub source-same : (o : Origin) (p : Plan) (s d : List ℕ) (from n c0 c1 c2 c3 : ℕ) → Ready o p s d → from + n ≤ planTotal p
-    → planBytes p (sourceBytes o s (movedBy p (sourceBytes o s d) from n d)) c0 c1 c2 c3 ≡ planBytes p (sourceBytes o s d) c0 c1 c2 c3
-unfolding planBytes
-source-same Lent p s d from n c0 c1 c2 c3 r m = refl
-source-same Inside p s d from n c0 c1 c2 c3 r m =
-    pick-same (planKept p c0 c1 c2 c3) (replicate (p .size) 0)
-    (λ t.
-    let a = home-least p c0 c1 c2 c3 in
-    let b = home-most p c0 c1 c2 c3 t in
-    run-same (movedBy p d from n d) d (homeOf p c0 c1 c2 c3) (p .size) (length-moved p d from n d)
-    (λ k u v.
-    moved-out p d (r .some1) (r .some2) (r .some3) from n d k m
-    (⊎-elim (λ x. inl (omega arith)) (λ y. inr (omega arith)) (r .apart))))
+-- neighbours in a row, stored one by one at their places
+pub run-moved : (p : Plan) (s d : List ℕ) (e : ℕ → List ℕ) (to c0 c1 c2 c3 n : ℕ) {q : ℕ} → numberOf p c0 c1 c2 c3 ≡ q
+    → ((k : ℕ) → k < n → InExtents p c0 c1 c2 (c3 + k))
+    → ((k : ℕ) → k < n → along to (p .d3 .stride) k ≡ placeOf p c0 c1 c2 (c3 + k))
+    → ((k : ℕ) → k < n → planBytes p s c0 c1 c2 (c3 + k) ≡ e k)
+    → movedBy p s q n d ≡ runOf e to (p .d3 .stride) n d
+unfolding movedBy runOf putAt
+run-moved p s d e to c0 c1 c2 c3 zero h w f g = refl
+run-moved p s d e to c0 c1 c2 c3 (suc n) {q} h w f g =
+    let z : numberOf p c0 c1 c2 (c3 + n) ≡ q + n = omega arith in
+    put-number p s (movedBy p s q n d) z (w n (omega arith))
+    ∙ rw (run-moved p s d e to c0 c1 c2 c3 n h (λ k l. w k (omega arith)) (λ k l. f k (omega arith)) (λ k l. g k (omega arith)), f n (omega arith), g n (omega arith))
 
 -- ---- the engine's loops
 
--- the coordinates are those of element number from + done, where done is the part of the budget that is not left, and what
--- is before it has been moved
-pub record At (o : Origin) (p : Plan) (s d₀ : List ℕ) (from budget : ℕ) (d : List ℕ) (c0 c1 c2 c3 left : ℕ) : Type 0 where
+-- the coordinates are those of element number from + done, where done is the part of the budget that is not left; what
+-- is before it has been moved; and the places are those of its block, plane and row and its own. Of the source's place nothing is
+-- said where no element is left, or none that is kept in the row
+pub record At (o : Origin) (p : Plan) (s d₀ : List ℕ) (from budget : ℕ) (d : List ℕ) (c0 c1 c2 c3 left : ℕ) (u v w : Spot) (to at : ℕ) : Type 0 where
   pub in1 : c1 ≤ p .d1 .extent
   pub in2 : c2 ≤ p .d2 .extent
   pub in3 : c3 ≤ p .d3 .extent
+  pub new1 : p .d1 .extent ≤ c1 → (c2 ≡ 0) × (c3 ≡ 0)
+  pub new2 : p .d2 .extent ≤ c2 → c3 ≡ 0
   pub fund : left ≤ budget
   pub number : numberOf p c0 c1 c2 c3 ≡ from + (budget - left)
   pub most : from + (budget - left) ≤ planTotal p
   pub bytes : d ≡ movedBy p (sourceBytes o s d₀) from (budget - left) d₀
+  pub block : u ≡ reachOf (firstOf p) (p .d0) c0
+  pub plane : v ≡ reachOf u (p .d1) c1
+  pub row : w ≡ reachOf v (p .d2) c2
+  pub place : to ≡ along (w .to) (p .d3 .stride) c3
+  pub home : 0 < left → c3 < p .d3 .pre + p .d3 .count → at ≡ along (w .at) (p .d3 .jump) (c3 - p .d3 .pre)
 
 -- from one state of the loops to another, `At` is kept, whatever destination it began with
-abbrev pub Keeps : Origin → Plan → List ℕ → ℕ → ℕ → List ℕ → ℕ → ℕ → ℕ → ℕ → ℕ → List ℕ → ℕ → ℕ → ℕ → ℕ → ℕ → Type 0
-Keeps o p s from budget e b0 b1 b2 b3 had d c0 c1 c2 c3 left =
-    (d₀ : List ℕ) → At o p s d₀ from budget e b0 b1 b2 b3 had → At o p s d₀ from budget d c0 c1 c2 c3 left
+abbrev pub Keeps : Origin → Plan → List ℕ → ℕ → ℕ
+    → List ℕ → ℕ → ℕ → ℕ → ℕ → ℕ → Spot → Spot → Spot → ℕ → ℕ
+    → List ℕ → ℕ → ℕ → ℕ → ℕ → ℕ → Spot → Spot → Spot → ℕ → ℕ → Type 0
+Keeps o p s from budget e b0 b1 b2 b3 had bb bp br bt ba d c0 c1 c2 c3 left block plane row to at =
+    (d₀ : List ℕ) → At o p s d₀ from budget e b0 b1 b2 b3 had bb bp br bt ba → At o p s d₀ from budget d c0 c1 c2 c3 left block plane row to at
 
 -- what is so when the loops are left
 pub record Over (o : Origin) (p : Plan) (s d₀ : List ℕ) (from budget : ℕ) (d : List ℕ) (left : ℕ) : Type 0 where
@@ -188,23 +77,30 @@ carry a c e = rw (← add-assoc) (add-zero ((a + c + 1) * e) ∙ add-mul (a + c)
 carry0 : (c e : ℕ) → (c + 1) * e + 0 ≡ c * e + e
 carry0 c e = add-zero ((c + 1) * e) ∙ add-mul c 1 e ∙ rw one-mul
 
-pub start : (o : Origin) (p : Plan) (s d : List ℕ) (from budget : ℕ) → Ready o p s d → from ≤ planTotal p
-    → At o p s d from budget d
-    (co0 p from) (co1 p from) (co2 p from) (co3 p from) budget
-unfolding movedBy
-start o p s d from budget r h =
-    let w = spread p (r .some1) (r .some2) (r .some3) from in
-    record {
+pub start : (o : Origin) (p : Plan) (s d : List ℕ) (from budget : ℕ) {b : Start} → Ready o p s d → from < planTotal p → b ≡ startOf p from
+    → At o p s d from budget d (b .c0) (b .c1) (b .c2) (b .c3) budget (b .block) (b .plane) (b .row) (b .here .to) (b .here .at)
+unfolding movedBy startOf reachOf
+start o p s d from budget r h e =
+    let w = spread p (extent-some (r .sound1)) (extent-some (r .sound2)) (extent-some (r .sound3)) from in
+    rw e
+    (record {
       in1 = omega (arith, w .in1);
       in2 = omega (arith, w .in2);
       in3 = omega (arith, w .in3);
+      new1 = λ l. absurd (omega (arith, w .in1));
+      new2 = λ l. absurd (omega (arith, w .in2));
       fund = omega arith;
       number = w .back ∙ sym (rw (sub-self) (add-zero from));
       most = omega arith;
       bytes = sym (rw sub-self);
-    }
+      block = refl;
+      plane = refl;
+      row = refl;
+      place = refl;
+      home = λ _ l. ap (along _ (p .d3 .jump)) (steps-kept (p .d3) (co3 p from) (omega arith));
+    })
 
-module _ {o : Origin} {p : Plan} {s d₀ : List ℕ} {from budget : ℕ} {d : List ℕ} {c0 c1 c2 c3 left : ℕ} (a : At o p s d₀ from budget d c0 c1 c2 c3 left) where
+module _ {o : Origin} {p : Plan} {s d₀ : List ℕ} {from budget : ℕ} {d : List ℕ} {c0 c1 c2 c3 left : ℕ} {block plane row : Spot} {to at : ℕ} (a : At o p s d₀ from budget d c0 c1 c2 c3 left block plane row to at) where
   pub at-length : length d ≡ length d₀
   at-length = ap length (a .bytes) ∙ length-moved p (sourceBytes o s d₀) from (budget - left) d₀
 
@@ -214,64 +110,171 @@ module _ {o : Origin} {p : Plan} {s d₀ : List ℕ} {from budget : ℕ} {d : Li
   pub at-was-ready : Ready o p s d → Ready o p s d₀
   at-was-ready r = still-ready o p s d d₀ (sym at-length) r
 
-  pub turn : {e : List ℕ} → Ready o p s d → InExtents p c0 c1 c2 c3 → (left ≡ 0 → ⊥)
-      → e ≡ putAt p (sourceBytes o s d) c0 c1 c2 c3 d → At o p s d₀ from budget e c0 c1 c2 (c3 + 1) (left - 1)
-  unfolding movedBy putAt
-  turn {e} r w f g =
-      let n = number-lt p w in
-      let z = pos-of-ne-zero f in
-      let m : budget - (left - 1) ≡ suc (budget - left) = omega (arith, a .fund) in
-      record {
-        in1 = a .in1;
-        in2 = a .in2;
-        in3 = omega (arith, w .in3);
-        fund = omega (arith, a .fund);
-        number = omega (arith, a .number);
-        most = omega (arith, a .number);
-        bytes =
-            g
-            ∙ rw (a .bytes, source-same o p s d₀ from (budget - left) c0 c1 c2 c3 (at-was-ready r) (a .most), m)
-            (sym (put-number p (sourceBytes o s d₀) (movedBy p (sourceBytes o s d₀) from (budget - left) d₀) (a .number) w));
-      }
+  -- a run from here on
+  module _ (r : Ready o p s d) (f : length s + length d < 2 ^ 64) (w : InExtents p c0 c1 c2 c3) {outer : Bool} (q : outer ≡ (axisKept (p .d0) c0 && axisKept (p .d1) c1 && axisKept (p .d2) c2)) {u : Run} (l : Alike (p .d3) outer c3 left u) where
+    run-within : (k : ℕ) → k < u .n → InExtents p c0 c1 c2 (c3 + k)
+    run-within k h = record { in0 = w .in0; in1 = w .in1; in2 = w .in2; in3 = omega (arith, l .row) }
+
+    run-kept : (k : ℕ) → k < u .n → planKept p c0 c1 c2 (c3 + k) ≡ u .kept
+    unfolding planKept
+    run-kept k h = rw (← q) (l .same k h)
+
+    -- its places: the first place and k strides, or k jumps
+    run-to : (k : ℕ) → k < u .n → along to (p .d3 .stride) k ≡ placeOf p c0 c1 c2 (c3 + k)
+    run-to k h =
+        let m = place-most p c0 c1 c2 (c3 + k) (run-within k h) in
+        ap (λ (y : ℕ). along y (p .d3 .stride) k) (a .place)
+        ∙ along-on (row .to) (p .d3 .stride) c3 k
+        ∙ row-place p c0 c1 c2 (a .block) (a .plane) (a .row) (c3 + k)
+        ∙ mod-eq-of-lt (omega (arith, r .need))
+
+    pub run-into : Held (length d) to (p .d3 .stride) (p .size) (u .n)
+    run-into k h = rw (run-to k h) (omega (arith, place-most p c0 c1 c2 (c3 + k) (run-within k h), r .need))
+
+    -- what a run leaves
+    after : (e : ℕ → List ℕ) {d' : List ℕ} {to' : ℕ} → ((k : ℕ) → k < u .n → planBytes p (sourceBytes o s d) c0 c1 c2 (c3 + k) ≡ e k)
+        → (to' ≡ along to (p .d3 .stride) (u .n)) × (d' ≡ runOf e to (p .d3 .stride) (u .n) d)
+        → At o p s d₀ from budget d' c0 c1 c2 (c3 + u .n) (left - u .n) block plane row to' at
+    after e g t =
+        let m : budget - (left - u .n) ≡ budget - left + u .n = omega (arith, a .fund, l .fund) in
+        let z = number-lt p (run-within (u .n - 1) (omega (arith, l .some))) in
+        let same : (k : ℕ) → planBytes p (sourceBytes o s d₀) c0 c1 c2 (c3 + k) ≡ planBytes p (sourceBytes o s d) c0 c1 c2 (c3 + k) = λ k.
+        sym (source-same o p s d₀ from (budget - left) c0 c1 c2 (c3 + k) (at-was-ready r) (a .most)) ∙ ap (λ (y : List ℕ). planBytes p (sourceBytes o s y) c0 c1 c2 (c3 + k)) (sym (a .bytes)) in
+        record {
+          in1 = a .in1;
+          in2 = a .in2;
+          in3 = l .row;
+          new1 = λ h. absurd (omega (arith, w .in1));
+          new2 = λ h. absurd (omega (arith, w .in2));
+          fund = omega (arith, a .fund);
+          number = omega (arith, a .number, a .fund, l .fund);
+          most = omega (arith, a .number, a .fund, l .fund, l .some);
+          bytes =
+              t .1
+              ∙ sym (run-moved p (sourceBytes o s d₀) d e to c0 c1 c2 c3 (u .n) (a .number) run-within run-to (λ k h. same k ∙ g k h))
+              ∙ ap (movedBy p (sourceBytes o s d₀) (from + (budget - left)) (u .n)) (a .bytes)
+              ∙ sym (moved-add p (sourceBytes o s d₀) from (budget - left) (u .n) d₀)
+              ∙ ap (λ (j : ℕ). movedBy p (sourceBytes o s d₀) from j d₀) (sym m);
+          block = a .block;
+          plane = a .plane;
+          row = a .row;
+          place = t .0 ∙ ap (λ (y : ℕ). along y (p .d3 .stride) (u .n)) (a .place) ∙ along-on (row .to) (p .d3 .stride) c3 (u .n);
+          home = λ h v.
+              ⊎-elim
+              (λ x. a .home (omega arith) (omega arith) ∙ ap (along (row .at) (p .d3 .jump)) (omega arith))
+              (λ y. absurd (omega arith))
+              (l .whole (omega arith));
+        }
+
+    -- of padding
+    pub turn-pad : {d' : List ℕ} {to' : ℕ} → u .kept ≡ false → (to' ≡ along to (p .d3 .stride) (u .n)) × (d' ≡ runOf (padRun (p .size)) to (p .d3 .stride) (u .n) d)
+        → At o p s d₀ from budget d' c0 c1 c2 (c3 + u .n) (left - u .n) block plane row to' at
+    unfolding planBytes
+    turn-pad t g = after (padRun (p .size)) (λ k h. rw (run-kept k h, t)) g
+
+    -- of kept elements
+    module _ (t : u .kept ≡ true) where
+      run-all : (k : ℕ) → k < u .n → planKept p c0 c1 c2 (c3 + k) ≡ true
+      run-all k h = run-kept k h ∙ t
+
+      run-at : (k : ℕ) → k < u .n → along at (p .d3 .jump) k ≡ homeOf p c0 c1 c2 (c3 + k)
+      run-at k h =
+          let z = all-kept-of p c0 c1 c2 (c3 + 0) (run-all 0 (l .some)) .k3 in
+          let m = home-most p c0 c1 c2 (c3 + k) (run-all k h) in
+          let e : c3 - p .d3 .pre + k ≡ c3 + k - p .d3 .pre = omega (arith, z .past) in
+          ap (λ (y : ℕ). along y (p .d3 .jump) k) (a .home (omega (arith, l .some, l .fund)) (omega (arith, z .past, z .most, r .sound3 .some)))
+          ∙ along-on (row .at) (p .d3 .jump) (c3 - p .d3 .pre) k
+          ∙ ap (along (row .at) (p .d3 .jump)) e
+          ∙ row-home p c0 c1 c2 (a .block) (a .plane) (a .row) (c3 + k) (run-all k h)
+          ∙ mod-eq-of-lt (omega (arith, r .span, source-long o s d))
+
+      pub run-from : Held (length (sourceBytes o s d)) at (p .d3 .jump) (p .size) (u .n)
+      run-from k h = rw (run-at k h) (omega (arith, home-most p c0 c1 c2 (c3 + k) (run-all k h), r .span))
+
+      pub run-parted : Parted o at (p .d3 .jump) to (p .d3 .stride) (p .size) (u .n)
+      run-parted i k h g =
+          rw (run-at i h, run-to k g)
+          (apart-part o (r .apart) (home-least p c0 c1 c2 (c3 + i)) (home-most p c0 c1 c2 (c3 + i) (run-all i h))
+          (place-least p c0 c1 c2 (c3 + k)) (place-most p c0 c1 c2 (c3 + k) (run-within k g)))
+
+      pub turn-kept : {d' : List ℕ} {to' : ℕ}
+          → (to' ≡ along to (p .d3 .stride) (u .n)) × (d' ≡ runOf (keptRun (sourceBytes o s d) at (p .d3 .jump) (p .size)) to (p .d3 .stride) (u .n) d)
+          → At o p s d₀ from budget d' c0 c1 c2 (c3 + u .n) (left - u .n) block plane row to' at
+      unfolding planBytes
+      turn-kept g = after (keptRun (sourceBytes o s d) at (p .d3 .jump) (p .size)) (λ k h. rw (run-all k h, run-at k h)) g
 
   -- a row, a plane and a block are done
-  pub row : c2 < p .d2 .extent → p .d3 .extent ≤ c3 → At o p s d₀ from budget d c0 c1 (c2 + 1) 0 left
-  row h l =
+  pub next-row : {r : Spot} → c1 < p .d1 .extent → c2 < p .d2 .extent → p .d3 .extent ≤ c3 → r ≡ onwardOf row (p .d2) (c2 + 1)
+      → At o p s d₀ from budget d c0 c1 (c2 + 1) 0 left block plane r (r .to) (r .at)
+  next-row {r} h1 h l g =
       let e : c3 ≡ p .d3 .extent = omega (arith, a .in3) in
+      let k : r ≡ reachOf plane (p .d2) (c2 + 1) = g ∙ ap (λ (y : Spot). onwardOf y (p .d2) (c2 + 1)) (a .row) ∙ reach-on plane (p .d2) c2 in
       record {
         in1 = a .in1;
         in2 = omega arith;
         in3 = omega arith;
+        new1 = λ h. absurd (omega arith);
+        new2 = λ h. refl;
         number = carry ((c0 * p .d1 .extent + c1) * p .d2 .extent) c2 (p .d3 .extent) ∙ (rw e at (a .number));
         fund = a .fund;
         most = a .most;
         bytes = a .bytes;
+        block = a .block;
+        plane = a .plane;
+        row = k;
+        place = sym (along-none (r .to) (p .d3 .stride) (rw k (reach-to plane (p .d2) (c2 + 1))));
+        home = λ h l. sym (rw zero-sub (along-none (r .at) (p .d3 .jump) (rw k (reach-at plane (p .d2) (c2 + 1)))));
       }
 
-  pub plane : c1 < p .d1 .extent → p .d2 .extent ≤ c2 → At o p s d₀ from budget d c0 (c1 + 1) 0 c3 left
-  plane h l =
+  pub next-plane : {r : Spot} → c1 < p .d1 .extent → p .d2 .extent ≤ c2 → r ≡ onwardOf plane (p .d1) (c1 + 1)
+      → At o p s d₀ from budget d c0 (c1 + 1) 0 c3 left block r r (r .to) (r .at)
+  next-plane {r} h l g =
       let e : c2 ≡ p .d2 .extent = omega (arith, a .in2) in
+      let z : c3 ≡ 0 = a .new2 l in
+      let k : r ≡ reachOf block (p .d1) (c1 + 1) = g ∙ ap (λ (y : Spot). onwardOf y (p .d1) (c1 + 1)) (a .plane) ∙ reach-on block (p .d1) c1 in
+      let kt : r .to < 2 ^ 64 = rw k (reach-to block (p .d1) (c1 + 1)) in
+      let ka : r .at < 2 ^ 64 = rw k (reach-at block (p .d1) (c1 + 1)) in
       record {
         in1 = omega arith;
         in2 = omega arith;
         in3 = a .in3;
+        new1 = λ h. (refl, z);
+        new2 = λ h. z;
         number = rw (carry (c0 * p .d1 .extent) c1 (p .d2 .extent)) (rw e at (a .number));
         fund = a .fund;
         most = a .most;
         bytes = a .bytes;
+        block = a .block;
+        plane = k;
+        row = sym (reach-none r (p .d2) kt ka);
+        place = sym (rw z (along-none (r .to) (p .d3 .stride) kt));
+        home = λ h l. sym (rw (z, zero-sub) (along-none (r .at) (p .d3 .jump) ka));
       }
 
-  pub block : p .d1 .extent ≤ c1 → At o p s d₀ from budget d (c0 + 1) 0 c2 c3 left
-  block l =
+  pub next-block : {r : Spot} → p .d1 .extent ≤ c1 → r ≡ onwardOf block (p .d0) (c0 + 1)
+      → At o p s d₀ from budget d (c0 + 1) 0 c2 c3 left r r r (r .to) (r .at)
+  next-block {r} l g =
       let e : c1 ≡ p .d1 .extent = omega (arith, a .in1) in
+      let y = a .new1 l .0 in
+      let z = a .new1 l .1 in
+      let k : r ≡ reachOf (firstOf p) (p .d0) (c0 + 1) = g ∙ ap (λ (y : Spot). onwardOf y (p .d0) (c0 + 1)) (a .block) ∙ reach-on (firstOf p) (p .d0) c0 in
+      let kt : r .to < 2 ^ 64 = rw k (reach-to (firstOf p) (p .d0) (c0 + 1)) in
+      let ka : r .at < 2 ^ 64 = rw k (reach-at (firstOf p) (p .d0) (c0 + 1)) in
       record {
         in1 = omega arith;
         in2 = a .in2;
         in3 = a .in3;
+        new1 = λ h. (y, z);
+        new2 = λ h. z;
         number = rw (carry0 c0 (p .d1 .extent)) (rw e at (a .number));
         fund = a .fund;
         most = a .most;
         bytes = a .bytes;
+        block = k;
+        plane = sym (reach-none r (p .d1) kt ka);
+        row = sym (rw y (reach-none r (p .d2) kt ka));
+        place = sym (rw z (along-none (r .to) (p .d3 .stride) kt));
+        home = λ h l. sym (rw (z, zero-sub) (along-none (r .at) (p .d3 .jump) ka));
       }
 
   -- the budget is spent

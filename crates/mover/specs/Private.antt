@@ -1,8 +1,9 @@
 -- What the contracts of private functions cite: a move as the engine wants it. No reader of a public contract needs this file.
+use mathlib.Core.Path.{_≡_}
 use mathlib.Core.Logic.{_⊎_}
 use mathlib.Core.Bool.{Bool, cond, _&&_}
 use mathlib.Core.List.{List}
-use Prim.Native.Nat.{ℕ, zero, suc, _+_, _-_, _*_, _/_, _%_, _≤_, _<_}
+use Prim.Native.Nat.{ℕ, zero, suc, _+_, _-_, _*_, _/_, _%_, _^_, min, _≤_, _<_}
 use lib.Dec.{leb, ltb}
 use lib.ListN.{length, take, drop, replicate}
 use lib.Seq.{sets}
@@ -15,30 +16,33 @@ use Rattle.plane.specs.Moves.{count, dstExtents, dstStrides}
 use Rattle.mover.specs.declared.Part.{Part}
 use Rattle.mover.specs.declared.plan.Axis.{Axis}
 use Rattle.mover.specs.declared.plan.Plan.{Plan}
-use Rattle.mover.specs.declared.engine.Origin.{Origin}
-use Rattle.mover.specs.declared.engine.Origin.the-variants.{Lent, Inside}
+use Rattle.mover.specs.declared.start.Spot.{Spot}
+use Rattle.mover.specs.declared.start.Start.{Start}
+use Rattle.mover.specs.declared.elements.Origin.{Origin}
+use Rattle.mover.specs.declared.elements.Origin.the-variants.{Lent, Inside}
+use Rattle.mover.specs.declared.engine.Run.{Run}
 use Rattle.mover.specs.Element.{dimOf}
 use Rattle.mover.specs.Within.{bytesOf}
 
 -- ---- the plan of an accepted move
 
--- destination dimension i
+-- destination dimension i; jump and stride are in bytes
 abbrev pub axisOf : Tensor → Config → ℕ → Axis
 axisOf t c i = record {
   extent = at (dstExtents t c) i;
   pre = at (c .pre) (dimOf c i);
   count = count t c (dimOf c i);
-  jump = at (srcStrides t) (dimOf c i) * at (c .step) (dimOf c i);
-  stride = at (dstStrides t c) i;
+  jump = at (c .step) (dimOf c i) * at (srcStrides t) (dimOf c i) * t .«element_size»;
+  stride = at (dstStrides t c) i * t .«element_size»;
 }
 
--- a dimension that the rank lacks: one element, as far on as all of the plane
-abbrev pub lone : Tensor → Config → Axis
-lone t c = record { extent = 1; pre = 0; count = 1; jump = 0; stride = at (dstStrides t c) 0 * at (dstExtents t c) 0 }
+-- a dimension that the rank lacks: one element
+abbrev pub lone : Axis
+lone = record { extent = 1; pre = 0; count = 1; jump = 0; stride = 0 }
 
 -- axis j of four: those that the rank lacks stand first
 abbrev pub axisAt : Tensor → Config → ℕ → Axis
-axisAt t c j = cond (ltb j (4 - t .rank)) (lone t c) (axisOf t c (j - (4 - t .rank)))
+axisAt t c j = cond (ltb j (4 - t .rank)) lone (axisOf t c (j - (4 - t .rank)))
 
 unfoldable pub planOf : Tensor → Config → Plan
 planOf t c = record {
@@ -58,12 +62,9 @@ axisMade c a strides i = record {
   extent = at (a .extent) i;
   pre = at (c .pre) (dimOf c i);
   count = at (a .extent) i - at (c .pre) (dimOf c i) - at (c .post) (dimOf c i);
-  jump = at strides (dimOf c i) * at (c .step) (dimOf c i);
-  stride = at (a .stride) i;
+  jump = at (c .step) (dimOf c i) * at strides (dimOf c i) * a .«element_size»;
+  stride = at (a .stride) i * a .«element_size»;
 }
-
-abbrev pub loneMade : Answer → Axis
-loneMade a = record { extent = 1; pre = 0; count = 1; jump = 0; stride = at (a .stride) 0 * at (a .extent) 0 }
 
 -- what acceptance tells of the configuration c and the answer a
 pub record Fit (c : Config) (a : Answer) : Type 0 where
@@ -71,6 +72,7 @@ pub record Fit (c : Config) (a : Answer) : Type 0 where
   pub element : a .«element_size» ≤ 4
   pub dim : (i : ℕ) → i < a .rank → dimOf c i < 4
   pub offset : (i : ℕ) → i < a .rank → at (c .offset) (dimOf c i) ≤ 65535
+  pub step : (i : ℕ) → i < a .rank → at (c .step) (dimOf c i) ≤ 65535
   pub dst-offset : (i : ℕ) → i < a .rank → at (c .«dst_offset») i ≤ 65535
   pub extent : (i : ℕ) → i < a .rank → at (a .extent) i ≤ 65535
   pub padding : (i : ℕ) → i < a .rank → at (c .pre) (dimOf c i) + at (c .post) (dimOf c i) ≤ at (a .extent) i
@@ -92,18 +94,18 @@ planKept p c0 c1 c2 c3 = axisKept (p .d0) c0 && axisKept (p .d1) c1 && axisKept 
 abbrev pub sum4 : ℕ → ℕ → ℕ → ℕ → ℕ → ℕ → ℕ → ℕ → ℕ
 sum4 k0 t0 k1 t1 k2 t2 k3 t3 = k0 * t0 + k1 * t1 + k2 * t2 + k3 * t3
 
-unfoldable pub spotOf : ℕ → ℕ → ℕ → ℕ → ℕ → ℕ → ℕ → ℕ → ℕ → ℕ → ℕ
-spotOf base size k0 t0 k1 t1 k2 t2 k3 t3 = base + sum4 k0 t0 k1 t1 k2 t2 k3 t3 * size
+unfoldable pub spotOf : ℕ → ℕ → ℕ → ℕ → ℕ → ℕ → ℕ → ℕ → ℕ → ℕ
+spotOf base k0 t0 k1 t1 k2 t2 k3 t3 = base + sum4 k0 t0 k1 t1 k2 t2 k3 t3
 
--- the byte of the destination element at the coordinates: (sum of c x stride) x size, from the base
+-- the byte of the destination element at the coordinates: the sum of c x stride, from the base
 unfoldable pub placeOf : Plan → ℕ → ℕ → ℕ → ℕ → ℕ
 placeOf p c0 c1 c2 c3 =
-    spotOf (p .base) (p .size) c0 (p .d0 .stride) c1 (p .d1 .stride) c2 (p .d2 .stride) c3 (p .d3 .stride)
+    spotOf (p .base) c0 (p .d0 .stride) c1 (p .d1 .stride) c2 (p .d2 .stride) c3 (p .d3 .stride)
 
--- the byte of the source element for them: (sum of k x jump) x size, from the home
+-- the byte of the source element for them: the sum of k x jump, from the home
 unfoldable pub homeOf : Plan → ℕ → ℕ → ℕ → ℕ → ℕ
 homeOf p c0 c1 c2 c3 =
-    spotOf (p .home) (p .size)
+    spotOf (p .home)
     (c0 - p .d0 .pre) (p .d0 .jump) (c1 - p .d1 .pre) (p .d1 .jump)
     (c2 - p .d2 .pre) (p .d2 .jump) (c3 - p .d3 .pre) (p .d3 .jump)
 
@@ -141,15 +143,87 @@ unfoldable pub movedBy : Plan → List ℕ → ℕ → ℕ → List ℕ → List
 movedBy p s from zero d = d
 movedBy p s from (suc n) d = putNumber p s (from + n) (movedBy p s from n d)
 
+-- ---- by steps
+
+-- k steps of j from a, as 64 bits count them
+unfoldable pub along : ℕ → ℕ → ℕ → ℕ
+along a j k = (a + k * j) % 2 ^ 64
+
+-- how many jumps the source is on at coordinate c: those to the nearest coordinate that is kept
+unfoldable pub stepsOf : Axis → ℕ → ℕ
+stepsOf x c = min (c - x .pre) (x .count - 1)
+
+-- the places at coordinate c of a dimension, from those at its start
+unfoldable pub reachOf : Spot → Axis → ℕ → Spot
+reachOf s x c = record { to = along (s .to) (x .stride) c; at = along (s .at) (x .jump) (stepsOf x c) }
+
+-- the places at coordinate c, from those at the one before: the source goes on between two that are kept
+unfoldable pub onwardOf : Spot → Axis → ℕ → Spot
+onwardOf s x c = record {
+  to = (s .to + x .stride) % 2 ^ 64;
+  at = cond (ltb (x .pre) c && ltb (c - x .pre) (x .count)) ((s .at + x .jump) % 2 ^ 64) (s .at);
+}
+
+abbrev pub firstOf : Plan → Spot
+firstOf p = record { to = p .base; at = p .home }
+
+abbrev pub blockOf : Plan → ℕ → Spot
+blockOf p q = reachOf (firstOf p) (p .d0) (co0 p q)
+
+abbrev pub planeOf : Plan → ℕ → Spot
+planeOf p q = reachOf (blockOf p q) (p .d1) (co1 p q)
+
+abbrev pub rowOf : Plan → ℕ → Spot
+rowOf p q = reachOf (planeOf p q) (p .d2) (co2 p q)
+
+-- where a step that begins at element number q begins
+unfoldable pub startOf : Plan → ℕ → Start
+startOf p q = record {
+  c0 = co0 p q;
+  c1 = co1 p q;
+  c2 = co2 p q;
+  c3 = co3 p q;
+  block = blockOf p q;
+  plane = planeOf p q;
+  row = rowOf p q;
+  here = reachOf (rowOf p q) (p .d3) (co3 p q);
+}
+
+-- ---- a run: elements of a row, all kept or all padding
+
+-- from coordinate c on, at most `most`; `outer` tells whether the other coordinates are kept
+pub record Alike (x : Axis) (outer : Bool) (c most : ℕ) (r : Run) : Type 0 where
+  pub some : 0 < r .n
+  pub fund : r .n ≤ most
+  pub row : c + r .n ≤ x .extent
+  pub same : (k : ℕ) → k < r .n → (outer && axisKept x (c + k)) ≡ r .kept
+  pub whole : r .n < most → (c + r .n ≤ x .pre) ⊎ (x .pre + x .count ≤ c + r .n)
+
+-- the destination d with n elements stored, whose bytes e tells, the first at `to` and each a stride further
+unfoldable pub runOf : (ℕ → List ℕ) → ℕ → ℕ → ℕ → List ℕ → List ℕ
+runOf e to stride zero d = d
+runOf e to stride (suc n) d = sets (runOf e to stride n d) (along to stride n) (e n)
+
+-- the elements of the source s, the first at `at` and each a jump further; and padding
+abbrev pub keptRun : List ℕ → ℕ → ℕ → ℕ → ℕ → List ℕ
+keptRun s at jump size k = take size (drop (along at jump k) s)
+
+abbrev pub padRun : ℕ → ℕ → List ℕ
+padRun size k = replicate size 0
+
+-- an element size that is taken
+abbrev pub Sized : ℕ → Type 0
+Sized z = (z ≡ 1) ⊎ ((z ≡ 2) ⊎ (z ≡ 4))
+
+-- n elements, the first at a and each j further, lie in l bytes
+abbrev pub Held : ℕ → ℕ → ℕ → ℕ → ℕ → Type 0
+Held l a j size n = (k : ℕ) → k < n → along a j k + size ≤ l
+
 -- ---- what the engine leaves of the destination d, from a source that stands in s or in d
 
 -- a run of size bytes, from `at` of the source to `to`
 abbrev pub runCopied : Origin → List ℕ → List ℕ → ℕ → ℕ → ℕ → List ℕ
 runCopied o s d at to size = sets d to (take size (drop at (sourceBytes o s d)))
-
--- the element at the coordinates
-abbrev pub putFrom : Origin → Plan → List ℕ → List ℕ → ℕ → ℕ → ℕ → ℕ → List ℕ
-putFrom o p s d c0 c1 c2 c3 = putAt p (sourceBytes o s d) c0 c1 c2 c3 d
 
 -- n elements from number `from` on
 abbrev pub movedFrom : Origin → Plan → List ℕ → List ℕ → ℕ → ℕ → List ℕ
@@ -183,14 +257,14 @@ placedAt a b p =
 -- past the last byte of a source element that can be kept, and of a destination element
 unfoldable pub homeEnd : Plan → ℕ
 homeEnd p =
-    spotOf (p .home) (p .size)
+    spotOf (p .home)
     (p .d0 .count - 1) (p .d0 .jump) (p .d1 .count - 1) (p .d1 .jump)
     (p .d2 .count - 1) (p .d2 .jump) (p .d3 .count - 1) (p .d3 .jump)
     + p .size
 
 unfoldable pub placeEnd : Plan → ℕ
 placeEnd p =
-    spotOf (p .base) (p .size)
+    spotOf (p .base)
     (p .d0 .extent - 1) (p .d0 .stride) (p .d1 .extent - 1) (p .d1 .stride)
     (p .d2 .extent - 1) (p .d2 .stride) (p .d3 .extent - 1) (p .d3 .stride)
     + p .size
@@ -207,12 +281,22 @@ LiesIn p m = p .start + p .length ≤ length m
 abbrev pub PartsApart : Part → Part → Type 0
 PartsApart p q = RunsApart Inside (p .start) (p .start + p .length) (q .start) (q .start + q .length)
 
+-- no element of the one run shares a byte with one of the other
+abbrev pub Parted : Origin → ℕ → ℕ → ℕ → ℕ → ℕ → ℕ → Type 0
+Parted o at jump to stride size n =
+    (i k : ℕ) → i < n → k < n → RunsApart o (along at jump i) (along at jump i + size) (along to stride k) (along to stride k + size)
+
+-- something of a dimension is kept, and lies in its extent
+pub record Sound (x : Axis) : Type 0 where
+  pub some : 0 < x .count
+  pub row : x .pre + x .count ≤ x .extent
+
 pub record Ready (o : Origin) (p : Plan) (s d : List ℕ) : Type 0 where
-  pub sized : 0 < p .size
-  pub some0 : 0 < p .d0 .extent
-  pub some1 : 0 < p .d1 .extent
-  pub some2 : 0 < p .d2 .extent
-  pub some3 : 0 < p .d3 .extent
+  pub sized : Sized (p .size)
+  pub sound0 : Sound (p .d0)
+  pub sound1 : Sound (p .d1)
+  pub sound2 : Sound (p .d2)
+  pub sound3 : Sound (p .d3)
   pub span : homeEnd p ≤ length (sourceBytes o s d)
   pub need : placeEnd p ≤ length d
   pub apart : RunsApart o (p .home) (homeEnd p) (p .base) (placeEnd p)

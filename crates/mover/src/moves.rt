@@ -1,5 +1,5 @@
 // A whole move between two lent slices.
-use crate::engine::Origin;
+use crate::elements::Origin;
 use crate::engine::advance;
 use crate::plan::plan_of;
 use crate::plan::total;

@@ -9,15 +9,15 @@ ghost use lib.Dec.{ltb};
 ghost use Rattle.plane.specs.Arrays.{at, sum, product};
 ghost use Rattle.plane.specs.Moves.{roomFault, accepted};
 ghost use Rattle.mover.specs.Element.{dimOf};
-ghost use Rattle.mover.specs.Private.{planOf, axisMade, loneMade, Fit};
+ghost use Rattle.mover.specs.Private.{planOf, axisMade, lone, Fit};
 
 // One destination dimension.
 pub(crate) struct Axis {
     pub(crate) extent: usize, // pre + count + post
     pub(crate) pre: usize, // padding before
     pub(crate) count: usize, // kept
-    pub(crate) jump: usize, // source stride x step, in elements
-    pub(crate) stride: usize, // destination stride, in elements
+    pub(crate) jump: usize, // step x source stride, in bytes
+    pub(crate) stride: usize, // destination stride, in bytes
 }
 
 // The move, widened to four destination dimensions: those that the rank lacks stand first, with extent and count 1.
@@ -71,7 +71,7 @@ fn axis_of(c: Config, a: Answer, strides: [u32; 4], i: usize) -> Axis
     ensures { λ r. ⌜ r ≡ axisMade c a strides i ⌝ }
 {
     let extent = a.extent[i] as usize;
-    let stride = a.stride[i] as usize;
+    let size = a.element_size as usize;
     let d = c.perm[i] as usize;
     let pre = c.pre[d] as usize;
     let post = c.post[d] as usize;
@@ -79,21 +79,21 @@ fn axis_of(c: Config, a: Answer, strides: [u32; 4], i: usize) -> Axis
         extent,
         pre,
         count: extent - pre - post,
-        jump: times(strides[d], c.step[d]),
-        stride,
+        jump: times(c.step[d], strides[d]) * size,
+        stride: times(a.stride[i], a.element_size as u32),
     }
 }
 
-// A dimension that the rank lacks: one element, with a stride past all of the destination.
-fn lone(a: Answer) -> Axis
-    ensures { λ r. ⌜ r ≡ loneMade a ⌝ }
+// A dimension that the rank lacks: one element.
+fn lone() -> Axis
+    ensures { λ r. ⌜ r ≡ lone ⌝ }
 {
     Axis {
         extent: 1,
         pre: 0,
         count: 1,
         jump: 0,
-        stride: times(a.stride[0], a.extent[0]),
+        stride: 0,
     }
 }
 
@@ -101,11 +101,11 @@ fn lone(a: Answer) -> Axis
 fn axis_at(c: Config, a: Answer, strides: [u32; 4], j: usize) -> Axis
     requires { ⌜ Fit c a ⌝ }
     requires { ⌜ j < 4 ⌝ }
-    ensures { λ r. ⌜ r ≡ cond (ltb j (4 - a .rank)) (loneMade a) (axisMade c a strides (j - (4 - a .rank))) ⌝ }
+    ensures { λ r. ⌜ r ≡ cond (ltb j (4 - a .rank)) lone (axisMade c a strides (j - (4 - a .rank))) ⌝ }
 {
     let lacking = 4 - (a.rank as usize);
     if j < lacking {
-        return lone(a);
+        return lone();
     }
     axis_of(c, a, strides, j - lacking)
 }

@@ -1,13 +1,12 @@
 -- `mover::move_plane` moves all the elements of an accepted move, and none of a refused one. Assumes nothing.
 use mathlib.Core.Path.{_≡_, sym}
-use native.Mathlib.Omega.{arith}
 use borrow.Author.Needs.{needs}
 use Rattle.plane.specs.Moves.{roomFault, accepted}
 use Rattle.plane.specs.Good.{GoodMove}
 use lib.ListN.{length}
 use Rattle.mover.proofs.Laws.{moved-refused}
 use Rattle.mover.proofs.Making.{answer-fit}
-use Rattle.mover.proofs.Judged.{judged-stopped, judged-move, judged-accepted, total-is, move-ready, move-written}
+use Rattle.mover.proofs.Judged.{judged-stopped, judged-move, judged-accepted, total-is, move-ready, move-some, move-written}
 use Rattle.mover.proofs.moves.move_plane.Statement.{statement}
 use Rattle.mover.proofs.moves.move_plane.Tie as tie
 
@@ -39,7 +38,7 @@ advance-requires : tie.Need-advance-requires
 advance-requires c κs =
     let i = c .before .before .before in
     let a = i .before .before .before .before .before .args in
-    (move-ready (a .t) (a .c) (a .src .now) (a .dst .now) (good i) (c .before .plan-of .ensures), omega arith)
+    (move-ready (a .t) (a .c) (a .src .now) (a .dst .now) (good i) (c .before .plan-of .ensures), move-some (a .t) (a .c) (a .src .now) (a .dst .now) (good i) (c .before .plan-of .ensures))
 
 returns-2 : tie.Need-returns-2
 returns-2 c =

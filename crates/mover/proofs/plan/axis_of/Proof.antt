@@ -4,6 +4,7 @@ use native.Mathlib.Omega.{arith}
 use borrow.Author.Needs.{needs}
 use Rattle.plane.specs.Arrays.{at}
 use Rattle.mover.specs.Element.{dimOf}
+use Rattle.mover.proofs.Making.{jump-fits}
 use Rattle.mover.proofs.plan.axis_of.Statement.{statement}
 use Rattle.mover.proofs.plan.axis_of.Tie as tie
 
@@ -18,8 +19,13 @@ padding c = c .pre .0 .padding (c .args .i) (c .pre .1)
 small : (c : tie.Start) → at (c .args .t2 .extent) (c .args .i) ≤ 65535
 small c = c .pre .0 .extent (c .args .i) (c .pre .1)
 
+jump : tie.Need-mul-t33
+jump c =
+    let s = c .before .before .before .before .before .before in
+    record { fits = jump-fits (c .times .result) (s .args .t2 .«element_size») (omega (arith, c .times .ensures .1, s .pre .0 .step (s .args .i) (s .pre .1))) (s .pre .0 .element) }
+
 returns : tie.Need-returns
-returns c = rw (c .times .ensures .0)
+returns c = rw (c .times2 .ensures .0, c .before .before .times .ensures .0)
 
 pub axis-of-spec : {M : Type 1} → statement M
 axis-of-spec =
@@ -31,17 +37,20 @@ axis-of-spec =
     (λ c. search needs)
     (λ c. search needs)
     (λ c. search needs)
-    (λ c. search needs)
+    (λ c. dim (c .before .before))
     (λ c. search needs)
     (λ c. dim (c .before .before .before))
-    (λ c. search needs)
+    (λ c. let s = c .before .before .before .before in omega (arith, padding s, small s))
+    (λ c. let s = c .before .before .before .before in omega (arith, padding s))
+    (λ c. let s = c .before .before .before .before in omega (arith, padding s))
+    (λ c. omega (arith, dim (c .before .before .before .before)))
     (λ c. dim (c .before .before .before .before))
-    (λ c. let s = c .before .before .before .before .before in omega (arith, padding s, small s))
-    (λ c. let s = c .before .before .before .before .before in omega (arith, padding s))
-    (λ c. let s = c .before .before .before .before .before in omega (arith, padding s))
     (λ c. omega (arith, dim (c .before .before .before .before .before)))
     (λ c. dim (c .before .before .before .before .before))
-    (λ c. omega (arith, dim (c .before .before .before .before .before)))
-    (λ c. dim (c .before .before .before .before .before))
+    (λ c κs. search needs)
+    jump
+    (λ c. search needs)
+    (λ c. search needs)
+    (λ c. search needs)
     (λ c κs. search needs)
     returns)

@@ -1,6 +1,6 @@
 -- `mover::advance` moves what the budget allows of a job's elements from a number on. Assumes nothing.
 use mathlib.Core.Path.{_≡_}
-use Prim.Native.Nat.{_≤_}
+use Prim.Native.Nat.{_<_}
 use borrow.Author.Needs.{needs}
 use lib.ListN.{length}
 use Rattle.plane.specs.Moves.{roomFault, accepted}
@@ -42,7 +42,7 @@ returns-2 c =
     advance-past (a .job) (a .from) (a .budget) (a .mem .now) (i .before .before .answer .ensures) (i .if1 .left) (all (c .before)) (c .if2 .taken)
 
 -- the plan has an element number `from`
-within : (c : tie.After-plan-of) → c .before .before .before .before .before .before .before .before .args .from ≤ planTotal (c .plan-of .result)
+within : (c : tie.After-plan-of) → c .before .before .before .before .before .before .before .before .args .from < planTotal (c .plan-of .result)
 within c =
     let o = c .before .before in
     let i = o .before .before in

@@ -1,0 +1,76 @@
+-- Laws of a run of elements, `runOf`, and of a loop that stores one. Assumes nothing.
+use mathlib.Core.Path.{_≡_, refl, sym, ap, _∙_}
+use mathlib.Core.Logic.{_⊎_, ⊎-elim, inl, inr}
+use mathlib.Core.List.{List}
+use Prim.Native.Nat.{ℕ, zero, suc, _+_, _%_, _^_, _≤_, _<_}
+use native.Mathlib.Numerals.{add-one}
+use native.Mathlib.Omega.{arith}
+use lib.ListN.{length, getD, take, drop}
+use lib.Seq.{sets, length-sets}
+use Rattle.mover.specs.declared.elements.Origin.{Origin}
+use Rattle.mover.specs.declared.elements.Origin.the-variants.{Lent, Inside}
+use Rattle.mover.specs.Private.{sourceBytes, along, runOf, keptRun, Parted}
+use Rattle.mover.proofs.Runs.{getD-sets-out, length-take-most}
+use Rattle.mover.proofs.Steps.{along-none, along-next}
+use Rattle.mover.proofs.Numbered.{run-same}
+
+module _ (e : ℕ → List ℕ) (to stride : ℕ) where
+  pub length-run : (n : ℕ) (d : List ℕ) → length (runOf e to stride n d) ≡ length d
+  unfolding runOf
+  length-run zero d = refl
+  length-run (suc n) d = simp length-sets (length-run n d)
+
+  -- a byte that belongs to none of the elements is as it was
+  run-out : (n : ℕ) (d : List ℕ) (k : ℕ) → ((j : ℕ) → j < n → (k < along to stride j) ⊎ (along to stride j + length (e j) ≤ k))
+      → getD (runOf e to stride n d) k 0 ≡ getD d k 0
+  unfolding runOf
+  run-out zero d k h = refl
+  run-out (suc n) d k h =
+      getD-sets-out (e n) (runOf e to stride n d) (along to stride n) k (h n (omega arith)) ∙ run-out n d k (λ j l. h j (omega arith))
+
+-- while kept elements are stored, those still to be read are as they were
+pub run-keeps : (o : Origin) (s d v : List ℕ) (at jump to stride size n k : ℕ) → Parted o at jump to stride size n → k < n
+    → keptRun (sourceBytes o s (runOf (keptRun v at jump size) to stride k d)) at jump size k ≡ keptRun (sourceBytes o s d) at jump size k
+run-keeps Lent s d v at jump to stride size n k p h = refl
+run-keeps Inside s d v at jump to stride size n k p h =
+    run-same (runOf (keptRun v at jump size) to stride k d) d (along at jump k) size (length-run (keptRun v at jump size) to stride k d)
+    (λ i a b.
+    run-out (keptRun v at jump size) to stride k d i
+    (λ j l.
+    let m = length-take-most size (drop (along at jump j) v) in
+    ⊎-elim (λ x. inl (omega arith)) (λ y. inr (omega arith)) (p k j h (omega arith))))
+
+-- a source of the same length
+pub still-held : (o : Origin) (s d e : List ℕ) {m : ℕ} → length e ≡ length d → m ≤ length (sourceBytes o s d) → m ≤ length (sourceBytes o s e)
+still-held Lent s d e h l = l
+still-held Inside s d e h l = rw h l
+
+-- ---- a loop that stores n elements: k are, and the next stands at t
+
+pub record Done (e : ℕ → List ℕ) (to stride n : ℕ) (d₀ d : List ℕ) (t k : ℕ) : Type 0 where
+  pub within : k ≤ n
+  pub place : t ≡ along to stride k
+  pub bytes : d ≡ runOf e to stride k d₀
+
+pub done-start : (e : ℕ → List ℕ) (to stride n : ℕ) (d : List ℕ) → to < 2 ^ 64 → Done e to stride n d d to 0
+unfolding runOf
+done-start e to stride n d h = record { within = omega arith; place = sym (along-none to stride h); bytes = refl }
+
+module _ {e : ℕ → List ℕ} {to stride n : ℕ} {d₀ d : List ℕ} {t k : ℕ} (a : Done e to stride n d₀ d t k) where
+  pub done-length : length d ≡ length d₀
+  done-length = ap length (a .bytes) ∙ length-run e to stride k d₀
+
+  pub done-next : {t' : ℕ} {d' : List ℕ} → k < n → t' ≡ (t + stride) % 2 ^ 64 → d' ≡ sets d t (e k) → Done e to stride n d₀ d' t' (k + 1)
+  unfolding runOf
+  done-next h p b =
+      record {
+        within = omega arith;
+        place = p ∙ ap (λ (y : ℕ). (y + stride) % 2 ^ 64) (a .place) ∙ along-next to stride k;
+        bytes = b ∙ rw (a .bytes, a .place, add-one);
+      }
+
+  pub done-end : n ≤ k → (t ≡ along to stride n) × (d ≡ runOf e to stride n d₀)
+  done-end h =
+      let w = a .within in
+      let q : k ≡ n = omega arith in
+      (a .place ∙ ap (along to stride) q, a .bytes ∙ ap (λ (j : ℕ). runOf e to stride j d₀) q)

@@ -1,0 +1,161 @@
+// Runs of elements: the leaves of the engine. Each moves the n elements of a run, whose places lie a stride apart.
+use std::num::wrapping_add_usize;
+ghost use mathlib.Core.Path.{_≡_};
+ghost use Prim.Native.Nat.{_+_, _*_, _^_, _≤_, _<_};
+ghost use lib.ListN.{length, getD, take, drop, replicate};
+ghost use lib.Seq.{sets};
+ghost use Rattle.mover.specs.Private.{sourceBytes, along, runOf, keptRun, padRun, Sized, Held, Parted};
+
+// Where the source's bytes stand: in the slice lent for reading, or in the destination's own.
+pub(crate) enum Origin {
+    Lent,
+    Inside,
+}
+
+// Zeros for the bytes of an element, at `to`.
+fn clear(dst: &mut [u8], to: usize, size: usize)
+    requires { ⌜ Sized size ⌝ }
+    requires { ⌜ to + size ≤ length (now dst) ⌝ }
+    ensures { λ _. ⌜ now (dst .exit) ≡ sets (now (dst .entry)) to (replicate size 0) ⌝ }
+{
+    if size == 1 {
+        dst[to] = 0;
+        return;
+    }
+    if size == 2 {
+        dst[to] = 0;
+        dst[to + 1] = 0;
+        return;
+    }
+    dst[to] = 0;
+    dst[to + 1] = 0;
+    dst[to + 2] = 0;
+    dst[to + 3] = 0;
+}
+
+// A byte of the source.
+fn byte(src: &[u8], dst: &[u8], origin: Origin, i: usize) -> u8
+    requires { ⌜ i < length (sourceBytes origin (now src) (now dst)) ⌝ }
+    ensures { λ r. ⌜ r ≡ getD (sourceBytes origin (now (src .entry)) (now (dst .entry))) i 0 ⌝ }
+{
+    match origin {
+        Origin::Lent => src[i],
+        Origin::Inside => dst[i],
+    }
+}
+
+// The bytes of the source's element at `at`, to `to`: all are read before one is stored.
+fn copy(src: &[u8], dst: &mut [u8], origin: Origin, at: usize, to: usize, size: usize)
+    requires { ⌜ Sized size ⌝ }
+    requires { ⌜ at + size ≤ length (sourceBytes origin (now src) (now dst)) ⌝ }
+    requires { ⌜ to + size ≤ length (now dst) ⌝ }
+    ensures { λ _. ⌜ now (dst .exit) ≡ sets (now (dst .entry)) to (take size (drop at (sourceBytes origin (now (src .entry)) (now (dst .entry))))) ⌝ }
+{
+    let a = byte(src, dst, origin, at);
+    if size == 1 {
+        dst[to] = a;
+        return;
+    }
+    let b = byte(src, dst, origin, at + 1);
+    if size == 2 {
+        dst[to] = a;
+        dst[to + 1] = b;
+        return;
+    }
+    let c = byte(src, dst, origin, at + 2);
+    let d = byte(src, dst, origin, at + 3);
+    dst[to] = a;
+    dst[to + 1] = b;
+    dst[to + 2] = c;
+    dst[to + 3] = d;
+}
+
+// A run of padding; tells where the next element stands.
+pub(crate) fn clear_run(dst: &mut [u8], to: usize, stride: usize, size: usize, n: usize) -> usize
+    requires { ⌜ Sized size ⌝ }
+    requires { ⌜ Held (length (now dst)) to stride size n ⌝ }
+    ensures next { λ r. ⌜ r ≡ along to stride n ⌝ }
+    ensures written { λ _. ⌜ now (dst .exit) ≡ runOf (padRun size) to stride n (now (dst .entry)) ⌝ }
+{
+    let mut t = to;
+    let mut k = 0;
+    while k < n {
+        clear(dst, t, size);
+        t = wrapping_add_usize(t, stride);
+        k += 1;
+    }
+    t
+}
+
+// A run of kept elements, one by one; tells where the next one stands.
+fn copy_each(
+    src: &[u8],
+    dst: &mut [u8],
+    origin: Origin,
+    at: usize,
+    jump: usize,
+    to: usize,
+    stride: usize,
+    size: usize,
+    n: usize,
+) -> usize
+    requires { ⌜ Sized size ⌝ }
+    requires { ⌜ Held (length (sourceBytes origin (now src) (now dst))) at jump size n ⌝ }
+    requires { ⌜ Held (length (now dst)) to stride size n ⌝ }
+    requires { ⌜ Parted origin at jump to stride size n ⌝ }
+    ensures next { λ r. ⌜ r ≡ along to stride n ⌝ }
+    ensures written { λ _. ⌜ now (dst .exit) ≡ runOf (keptRun (sourceBytes origin (now (src .entry)) (now (dst .entry))) at jump size) to stride n (now (dst .entry)) ⌝ }
+{
+    let mut a = at;
+    let mut t = to;
+    let mut k = 0;
+    while k < n {
+        copy(src, dst, origin, a, t, size);
+        a = wrapping_add_usize(a, jump);
+        t = wrapping_add_usize(t, stride);
+        k += 1;
+    }
+    t
+}
+
+// How many bytes n elements have.
+fn bytes(size: usize, n: usize) -> usize
+    requires { ⌜ Sized size ⌝ }
+    requires { ⌜ n * size < 2 ^ 64 ⌝ }
+    ensures { λ r. ⌜ r ≡ n * size ⌝ }
+{
+    if size == 1 {
+        return n;
+    }
+    if size == 2 {
+        return n + n;
+    }
+    n + n + n + n
+}
+
+// A run of kept elements; tells where the next one stands. Where they lie side by side in both, the run is one of bytes.
+pub(crate) fn copy_run(
+    src: &[u8],
+    dst: &mut [u8],
+    origin: Origin,
+    at: usize,
+    jump: usize,
+    to: usize,
+    stride: usize,
+    size: usize,
+    n: usize,
+) -> usize
+    requires { ⌜ Sized size ⌝ }
+    requires { ⌜ Held (length (sourceBytes origin (now src) (now dst))) at jump size n ⌝ }
+    requires { ⌜ Held (length (now dst)) to stride size n ⌝ }
+    requires { ⌜ Parted origin at jump to stride size n ⌝ }
+    ensures next { λ r. ⌜ r ≡ along to stride n ⌝ }
+    ensures written { λ _. ⌜ now (dst .exit) ≡ runOf (keptRun (sourceBytes origin (now (src .entry)) (now (dst .entry))) at jump size) to stride n (now (dst .entry)) ⌝ }
+{
+    if jump == size {
+        if stride == size {
+            return copy_each(src, dst, origin, at, 1, to, 1, 1, bytes(size, n));
+        }
+    }
+    copy_each(src, dst, origin, at, jump, to, stride, size, n)
+}
