@@ -8,9 +8,10 @@ use native.Mathlib.Omega.{arith}
 use lib.ListN.{length, getD, set, take, drop, length-drop}
 use lib.Seq.{sets, take-suc, getD-drop, length-take-le}
 use Rattle.mover.specs.declared.elements.Origin.{Origin}
-use Rattle.mover.specs.Private.{along, runOf, keptRun, Held, Parted}
+use Rattle.mover.specs.Private.Steps.{along}
+use Rattle.mover.specs.Private.Runs.{runOf, keptRun, Held, Parted}
 use Rattle.mover.proofs.Places.{apart-part}
-use Rattle.mover.proofs.Runs.{copied-one}
+use Rattle.mover.proofs.Bytes.{copied-one}
 use Rattle.mover.proofs.Steps.{along-none, along-next, along-on}
 
 sets-snoc : (l : List ℕ) (i : ℕ) (vs : List ℕ) (a : ℕ) → sets l i (vs ++ (a ∷ [])) ≡ set (sets l i vs) (i + length vs) a

@@ -24,7 +24,9 @@ use Rattle.mover.specs.declared.plan.Plan.{Plan}
 use Rattle.mover.specs.declared.elements.Origin.the-variants.{Lent}
 use Rattle.mover.specs.Moved.{total, moveMemory}
 use Rattle.mover.specs.Within.{leaves, meets, jobFault, totalOf, verdictOf, bytesOf, advancedBy, further, advanceOf, advanceMemory}
-use Rattle.mover.specs.Private.{planOf, planTotal, movedBy, stretch, Ready}
+use Rattle.mover.specs.Private.Plans.{planOf}
+use Rattle.mover.specs.Private.Elements.{planTotal, movedBy}
+use Rattle.mover.specs.Private.Ready.{stretch, Ready}
 use Rattle.mover.proofs.Laws.{judged, judged-good, moved-whole, moved-none, source-fits, destination-fits, job-good, total-positive}
 use Rattle.mover.proofs.Planned.{planned-total, planned-ready, moved-planned}
 

@@ -28,7 +28,7 @@ use Rattle.mover.specs.declared.Job.{Job}
 use Rattle.mover.specs.Moved.{extentAt, total, stored, moved, moveMemory}
 use Rattle.mover.specs.Within.{leaves, meets, jobFault, totalOf, bytesOf, advancedBy}
 use Rattle.mover.specs.Claims.{Has, MoveLaws, JobLaws}
-use Rattle.mover.proofs.Runs.{getD-sets-out, length-take-most}
+use Rattle.mover.proofs.Bytes.{getD-sets-out, length-take-most}
 use Rattle.mover.proofs.Parts.{part-own, part-other, part-again}
 
 -- ---- elements

@@ -10,11 +10,11 @@ pub mod Reaching
 pub mod Meeting
 pub mod Laws
 -- Laws over plain values, which the functions' proofs cite.
-pub mod Runs
+pub mod Bytes
 pub mod Places
 pub mod Steps
-pub mod Numbered
-pub mod Stretches
+pub mod ByNumber
+pub mod Runs
 pub mod Blocks
 pub mod Turns
 pub mod Parts

@@ -6,18 +6,16 @@ use native.Mathlib.Numerals.{add-one}
 use native.Mathlib.Decide.{decLt}
 use native.Mathlib.Omega.{arith}
 use mathlib.Core.Path.{_≡_, refl, sym, ap, ap₂, subst, _∙_}
-use mathlib.Core.Logic.{⊎-elim, inl, inr}
-use mathlib.Core.Bool.{Bool, true, false, cond, _||_}
+use mathlib.Core.Bool.{cond}
 use mathlib.Core.List.{List}
-use borrow.Author.Tests.{lt-ltb, le-ltb, eqb-true}
-use lib.Dec.{ltb, eqb}
+use borrow.Author.Tests.{lt-ltb, le-ltb}
+use lib.Dec.{ltb}
 use Rattle.plane.specs.declared.Tensor.{Tensor}
 use Rattle.plane.specs.declared.Config.{Config}
 use Rattle.plane.specs.declared.Source.{Source}
 use Rattle.plane.specs.declared.Answer.{Answer}
 use Rattle.plane.specs.Arrays.{at, sum, product}
-use Rattle.plane.specs.Planes.{elementSize, srcStrides, sourceOf}
-use Rattle.faults.proofs.Bools.{either-cases}
+use Rattle.plane.specs.Planes.{srcStrides, sourceOf}
 use Rattle.plane.specs.Moves.{count, extent, dstExtents, roomFault, accepted}
 use Rattle.plane.proofs.Arrays.{firsts-at}
 use Rattle.plane.proofs.Bounds.{product-fits, element-small}
@@ -27,7 +25,7 @@ use Rattle.plane.proofs.Good.{source-good, config-good, dst-good}
 use Rattle.plane.proofs.Rules.{dst-extent, its-fault, its-strides}
 use Rattle.mover.specs.declared.plan.Axis.{Axis}
 use Rattle.mover.specs.Element.{dimOf}
-use Rattle.mover.specs.Private.{axisOf, axisAt, planOf, lone, axisMade, Fit, Sized}
+use Rattle.mover.specs.Private.Plans.{axisOf, axisAt, planOf, lone, axisMade, Fit}
 
 -- a sum of at most four offsets times strides, times an element size
 pub bytes-fit : (x n z : ℕ) → n ≤ 4 → z ≤ 4 → x ≤ n * (65535 * 4294967295) → x * z < 2 ^ 64
@@ -38,18 +36,6 @@ bytes-fit x n z l s h =
 -- a step times a stride, times an element size
 pub jump-fits : (x z : ℕ) → x ≤ 65535 * 4294967295 → z ≤ 4 → x * z < 2 ^ 64
 jump-fits x z h l = omega (arith, mul-le-mul h l)
-
--- an element size that is taken
-pub element-sized : (z : ℕ) → (elementSize z ≡ 0 → ⊥) → Sized z
-element-sized z h = by-test (eqb z 1 || eqb z 2 || eqb z 4) refl
-  where
-    by-test : (b : Bool) → (eqb z 1 || eqb z 2 || eqb z 4) ≡ b → Sized z
-    by-test false e = absurd (h (simp e))
-    by-test true e =
-        ⊎-elim
-        (λ r. ⊎-elim (λ q. inl (eqb-true z 1 q)) (λ q. inr (inl (eqb-true z 2 q))) (either-cases _ _ r))
-        (λ q. inr (inr (eqb-true z 4 q)))
-        (either-cases _ _ e)
 
 -- a loop that multiplies extents up to n
 pub record Multiplied (n : ℕ) (f : ℕ → ℕ) (total i : ℕ) : Type 0 where

@@ -10,10 +10,12 @@ use mathlib.Core.Logic.{_⊎_, ⊎-elim, inl, inr}
 use Rattle.mover.specs.declared.elements.Origin.the-variants.{Lent, Inside}
 use lib.Seq.{sets-eq, set-set, set-comm, drop-at, take-append-seam, sets, length-sets, set-append-left, ext-getD, getD-take, getD-drop, length-take-le, drop-drop}
 use Rattle.mover.specs.declared.plan.Plan.{Plan}
-use Rattle.mover.specs.Private.{planKept, spotOf, placeOf, homeOf, planBytes, putAt, co0, co1, co2, co3, putNumber, planTotal, movedBy, homeEnd, placeEnd, stretch, placedAt, InExtents, Ready, RunsApart}
-use Rattle.mover.proofs.Runs.{length-take-most, getD-sets-out}
-use Rattle.mover.proofs.Places.{place-most, home-most, extent-some, apart-part}
-use Rattle.mover.proofs.Numbered.{length-moved, length-bytes, spread-within, pick-same, run-same}
+use Rattle.mover.specs.Private.Elements.{planKept, stepped, placeOf, homeOf, planBytes, putAt, co0, co1, co2, co3, putNumber, planTotal, movedBy}
+use Rattle.mover.specs.Private.Runs.{BytesApart}
+use Rattle.mover.specs.Private.Ready.{homeEnd, placeEnd, stretch, placedAt, GoodAxes, InExtents, Ready}
+use Rattle.mover.proofs.Bytes.{length-take-most, getD-sets-out}
+use Rattle.mover.proofs.Places.{place-most, home-most, apart-part}
+use Rattle.mover.proofs.ByNumber.{length-moved, length-bytes, within-good, pick-same, run-same}
 
 set-past : (x l : List ℕ) (i v : ℕ) → set (x ++ l) (length x + i) v ≡ x ++ set l i v
 set-past [] l i v = rw zero-add
@@ -44,11 +46,11 @@ run-within m a l h z w k =
 
 module _ (p : Plan) (a b : ℕ) where
   placed-place : (c0 c1 c2 c3 : ℕ) → placeOf (placedAt a b p) c0 c1 c2 c3 ≡ b + placeOf p c0 c1 c2 c3
-  unfolding placeOf spotOf placedAt
+  unfolding placeOf stepped placedAt
   placed-place c0 c1 c2 c3 = omega arith
 
   placed-home : (c0 c1 c2 c3 : ℕ) → homeOf (placedAt a b p) c0 c1 c2 c3 ≡ a + homeOf p c0 c1 c2 c3
-  unfolding homeOf spotOf placedAt
+  unfolding homeOf stepped placedAt
   placed-home c0 c1 c2 c3 = omega arith
 
   placed-bytes : (m : List ℕ) (l c0 c1 c2 c3 : ℕ) → a + l ≤ length m → homeEnd p ≤ l
@@ -66,7 +68,7 @@ module _ (p : Plan) (a b : ℕ) where
       rw (placed-place c0 c1 c2 c3, placed-bytes m l c0 c1 c2 c3 w e, ← g)
       (sets-middle (planBytes p (stretch m a l) c0 c1 c2 c3) x d y (placeOf p c0 c1 c2 c3) (omega (arith, place-most p c0 c1 c2 c3 i)))
 
-  module _ (h1 : 0 < p .d1 .extent) (h2 : 0 < p .d2 .extent) (h3 : 0 < p .d3 .extent) where
+  module _ (good : GoodAxes p) where
     placed-moved : (m x d y : List ℕ) (l from n : ℕ) → a + l ≤ length m → homeEnd p ≤ l → length x ≡ b → placeEnd p ≤ length d → from + n ≤ planTotal p
         → movedBy (placedAt a b p) m from n (x ++ (d ++ y)) ≡ x ++ (movedBy p (stretch m a l) from n d ++ y)
     unfolding movedBy putNumber placedAt
@@ -75,7 +77,7 @@ module _ (p : Plan) (a b : ℕ) where
         let q = from + n in
         rw (placed-moved m x d y l from n w e g f (omega arith))
         (placed-put m x (movedBy p (stretch m a l) from n d) y l (co0 p q) (co1 p q) (co2 p q) (co3 p q) w e g
-        (rw length-moved f) (spread-within p h1 h2 h3 q (omega arith)))
+        (rw length-moved f) (within-good p good q (omega arith)))
 
     -- the move within a memory m, from its l bytes at a to its k bytes at b
     pub moved-within : (m : List ℕ) (l k from n : ℕ) → a + l ≤ length m → b + k ≤ length m → homeEnd p ≤ l → placeEnd p ≤ k → from + n ≤ planTotal p
@@ -90,15 +92,15 @@ module _ (p : Plan) (a b : ℕ) where
         ∙ sym (sets-eq (movedBy p (stretch m a l) from n (stretch m b k)) m b (rw (length-moved, len) (omega arith)) ∙ rw (length-moved, len, append-assoc))
 
   placed-homeEnd : homeEnd (placedAt a b p) ≡ a + homeEnd p
-  unfolding homeEnd spotOf placedAt
+  unfolding homeEnd stepped placedAt
   placed-homeEnd = omega arith
 
   placed-placeEnd : placeEnd (placedAt a b p) ≡ b + placeEnd p
-  unfolding placeEnd spotOf placedAt
+  unfolding placeEnd stepped placedAt
   placed-placeEnd = omega arith
 
   -- what a move between the parts asks, and that they are apart, is what the move within the memory asks
-  pub placed-ready : (m none : List ℕ) (l k : ℕ) → a + l ≤ length m → b + k ≤ length m → RunsApart Inside a (a + l) b (b + k)
+  pub placed-ready : (m none : List ℕ) (l k : ℕ) → a + l ≤ length m → b + k ≤ length m → BytesApart Inside a (a + l) b (b + k)
       → Ready Lent p (stretch m a l) (stretch m b k) → Ready Inside (placedAt a b p) none m
   unfolding placedAt
   placed-ready m none l k wa wb u r =
@@ -108,10 +110,7 @@ module _ (p : Plan) (a b : ℕ) where
       let y = r .need in
       record {
         sized = r .sized;
-        sound0 = r .sound0;
-        sound1 = r .sound1;
-        sound2 = r .sound2;
-        sound3 = r .sound3;
+        axes = record { in0 = r .axes .in0; in1 = r .axes .in1; in2 = r .axes .in2; in3 = r .axes .in3 };
         span = omega (arith, placed-homeEnd);
         need = omega (arith, placed-placeEnd);
         apart = apart-part Inside u (omega arith) (omega (arith, placed-homeEnd)) (omega arith) (omega (arith, placed-placeEnd));
@@ -119,7 +118,7 @@ module _ (p : Plan) (a b : ℕ) where
 
   pub placed-fits : (m : List ℕ) (l k : ℕ) → a + l ≤ length m → b + k ≤ length m → Ready Lent p (stretch m a l) (stretch m b k)
       → (a + p .home ≤ length m) × (b + p .base ≤ length m)
-  unfolding homeEnd placeEnd spotOf
+  unfolding homeEnd placeEnd stepped
   placed-fits m l k wa wb r =
       let x = r .span in
       let y = r .need in
@@ -132,7 +131,7 @@ module _ (p : Plan) (a b : ℕ) where
   placed-written m e l k from budget r wa wb g f n w =
       let s = g .span in
       let d = g .need in
-      w ∙ moved-within (extent-some (g .sound1)) (extent-some (g .sound2)) (extent-some (g .sound3)) m l k from r wa wb
+      w ∙ moved-within (g .axes) m l k from r wa wb
       (omega (arith, length-take-most l (drop a m))) (omega (arith, length-take-most k (drop b m)))
       (omega (arith, min-le-right budget (planTotal p - from)))
 

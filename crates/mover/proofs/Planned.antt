@@ -22,12 +22,14 @@ use Rattle.mover.specs.declared.plan.Axis.{Axis}
 use Rattle.mover.specs.declared.plan.Plan.{Plan}
 use Rattle.mover.specs.Element.{dimOf, kOf, isKept, areKept, sourcePlace, place, element}
 use Rattle.mover.specs.Moved.{extentAt, total, perStep, coordOf, stored, moved}
-use Rattle.mover.specs.Private.{axisOf, lone, planOf, axisKept, planKept, spotOf, placeOf, homeOf, planBytes, putAt, planTotal, co0, co1, co2, co3, putNumber, movedBy, homeEnd, placeEnd, Sound, Ready}
+use Rattle.mover.specs.Private.Plans.{axisOf, lone, planOf}
+use Rattle.mover.specs.Private.Elements.{axisKept, planKept, stepped, placeOf, homeOf, planBytes, putAt, planTotal, co0, co1, co2, co3, putNumber, movedBy}
+use Rattle.mover.specs.Private.Ready.{homeEnd, placeEnd, GoodAxis, Ready}
 use Rattle.mover.proofs.Numbers.{digit}
 use Rattle.mover.proofs.Sums.{sum-bytes}
 use Rattle.mover.proofs.Fitting.{home-fits, place-fits}
-use Rattle.mover.proofs.Making.{extent-is, element-sized}
-use Rattle.mover.proofs.Numbered.{spread-within}
+use Rattle.mover.proofs.Making.{extent-is}
+use Rattle.mover.proofs.ByNumber.{spread-within}
 
 -- ---- a plan of n axes, widened to four
 
@@ -77,7 +79,7 @@ by-three q a b c =
 
 module _ (z h b : ℕ) (x : ℕ → Axis) where
   widens : (n : ℕ) → 1 ≤ n → n ≤ 4 → Widened z h b x n
-  unfolding planTotal product placeOf homeOf spotOf sum planKept axisKept every homeEnd placeEnd
+  unfolding planTotal product placeOf homeOf stepped sum planKept axisKept every homeEnd placeEnd
   widens =
       by-rank (λ n. Widened z h b x n)
       (record {
@@ -158,8 +160,8 @@ pub record Planned (t : Tensor) (c : Config) (q : ℕ) : Type 0 where
 further : (o k s z : ℕ) → o * s * z + k * (s * z) ≡ (o + k) * s * z
 further o k s z = rw (add-mul o k s, add-mul (o * s) (k * s) z, mul-assoc k s z)
 
-stepped : (o k m s z : ℕ) → o * s * z + k * (m * s * z) ≡ (o + k * m) * s * z
-stepped o k m s z = rw (add-mul o (k * m) s, add-mul (o * s) (k * m * s) z, mul-assoc k m s, mul-assoc k (m * s) z)
+step-joined : (o k m s z : ℕ) → o * s * z + k * (m * s * z) ≡ (o + k * m) * s * z
+step-joined o k m s z = rw (add-mul o (k * m) s, add-mul (o * s) (k * m * s) z, mul-assoc k m s, mul-assoc k (m * s) z)
 
 module _ {t : Tensor} (c : Config) (g : GoodSource t) where
   its : (z h b : ℕ) → Widened z h b (axisOf t c) (t .rank)
@@ -180,7 +182,7 @@ module _ {t : Tensor} (c : Config) (g : GoodSource t) where
 
     pub planned-home : homeOf (planOf t c) (front t x 0) (front t x 1) (front t x 2) (front t x 3) ≡ sourcePlace t c x * t .«element_size»
     unfolding planOf sourcePlace
-    planned-home = its _ _ _ .home x ∙ sum-bytes (t .rank) _ _ _ (t .«element_size») (λ i _. stepped (at (c .offset) (dimOf c i)) (kOf c i (x i)) (at (c .step) (dimOf c i)) (at (srcStrides t) (dimOf c i)) (t .«element_size»))
+    planned-home = its _ _ _ .home x ∙ sum-bytes (t .rank) _ _ _ (t .«element_size») (λ i _. step-joined (at (c .offset) (dimOf c i)) (kOf c i (x i)) (at (c .step) (dimOf c i)) (at (srcStrides t) (dimOf c i)) (t .«element_size»))
 
     pub planned-kept : planKept (planOf t c) (front t x 0) (front t x 1) (front t x 2) (front t x 3) ≡ areKept t c x
     unfolding planOf areKept isKept axisKept
@@ -217,7 +219,7 @@ module _ {t : Tensor} (c : Config) (g : GoodSource t) where
     planned-homeEnd =
         let l : ℕ → ℕ = λ i. count t c (dimOf c i) - 1 in
         let e : homeEnd (planOf t c) ≡ (1 + sum (t .rank) (λ i. (at (c .offset) (dimOf c i) + l i * at (c .step) (dimOf c i)) * at (srcStrides t) (dimOf c i))) * t .«element_size» =
-        its _ _ _ .home-end ∙ ended _ (t .«element_size») (sum-bytes (t .rank) _ _ _ (t .«element_size») (λ i _. stepped (at (c .offset) (dimOf c i)) (l i) (at (c .step) (dimOf c i)) (at (srcStrides t) (dimOf c i)) (t .«element_size»))) in
+        its _ _ _ .home-end ∙ ended _ (t .«element_size») (sum-bytes (t .rank) _ _ _ (t .«element_size») (λ i _. step-joined (at (c .offset) (dimOf c i)) (l i) (at (c .step) (dimOf c i)) (at (srcStrides t) (dimOf c i)) (t .«element_size»))) in
         rw e (home-fits k l (λ i h. omega arith))
 
     pub planned-placeEnd : placeEnd (planOf t c) ≤ need t c
@@ -232,15 +234,12 @@ module _ {t : Tensor} (c : Config) (g : GoodSource t) where
     pub planned-ready : (src dst : List ℕ) → span t ≤ length src → need t c ≤ length dst → Ready Lent (planOf t c) src dst
     unfolding planOf
     planned-ready src dst l m =
-        let sound : (j : ℕ) → j < 4 → Sound (wide (t .rank) lone (axisOf t c) j) = λ j h.
-        wide-each Sound (t .rank) lone (axisOf t c) j (g .rank .1) h (record { some = omega arith; row = omega arith })
+        let good : (j : ℕ) → j < 4 → GoodAxis (wide (t .rank) lone (axisOf t c) j) = λ j h.
+        wide-each GoodAxis (t .rank) lone (axisOf t c) j (g .rank .1) h (record { some = omega arith; row = omega arith })
         (λ i l. record { some = count-positive k (dimOf c i) (k .perm i l); row = omega (arith, extent-is c g i l) }) in
         record {
-          sized = element-sized (t .«element_size») (g .element);
-          sound0 = sound 0 (omega arith);
-          sound1 = sound 1 (omega arith);
-          sound2 = sound 2 (omega arith);
-          sound3 = sound 3 (omega arith);
+          sized = g .element;
+          axes = record { in0 = good 0 (omega arith); in1 = good 1 (omega arith); in2 = good 2 (omega arith); in3 = good 3 (omega arith) };
           span = omega (arith, planned-homeEnd);
           need = omega (arith, planned-placeEnd);
           apart = tt;

@@ -1,74 +1,128 @@
--- Laws of a run of stores, `sets`. Assumes nothing.
-use mathlib.Core.Path.{_≡_, refl, sym, _∙_}
+-- Laws of a run: where it ends, what its elements leave, `runOf`, and a loop that stores them. Assumes nothing.
+use mathlib.Core.Path.{_≡_, refl, sym, ap, _∙_}
 use mathlib.Core.Logic.{_⊎_, ⊎-elim, inl, inr}
-use mathlib.Core.List.{List, [], _∷_}
-use Prim.Native.Nat.{ℕ, suc, _+_, _≤_, _<_}
-use native.Mathlib.Nat.{min-le-left}
+use mathlib.Core.Bool.{Bool, true, false, _&&_}
+use mathlib.Core.List.{List}
+use Prim.Native.Nat.{ℕ, zero, suc, _+_, _-_, _%_, _^_, min, _≤_, _<_}
 use native.Mathlib.Numerals.{add-one}
 use native.Mathlib.Omega.{arith}
-use lib.ListN.{length, getD, set, take, drop, replicate, length-take}
-use lib.Seq.{sets, drop-cons, getD-set-other}
+use borrow.Author.Tests.{le-ltb, lt-leb}
+use lib.Dec.{leb, ltb}
+use lib.ListN.{length, getD, take, drop}
+use lib.Seq.{sets, length-sets}
+use Rattle.faults.proofs.Bools.{not-second}
+use Rattle.mover.specs.declared.plan.Axis.{Axis}
 use Rattle.mover.specs.declared.elements.Origin.{Origin}
 use Rattle.mover.specs.declared.elements.Origin.the-variants.{Lent, Inside}
-use Rattle.mover.specs.Private.{sourceBytes, Sized}
+use Rattle.mover.specs.Private.Elements.{sourceBytes, axisKept}
+use Rattle.mover.specs.Private.Steps.{along}
+use Rattle.mover.specs.Private.Runs.{Alike, runOf, keptRun, Parted}
+use Rattle.mover.proofs.Keeping.{range-test}
+use Rattle.mover.proofs.Bytes.{getD-sets-out, length-take-most}
+use Rattle.mover.proofs.Steps.{along-none, along-next}
+use Rattle.mover.proofs.ByNumber.{run-same}
 
--- what is stored elsewhere leaves a byte as it was
-pub getD-sets-out : (vs l : List ℕ) (i k : ℕ) → (k < i) ⊎ (i + length vs ≤ k) → getD (sets l i vs) k 0 ≡ getD l k 0
-getD-sets-out [] l i k h = refl
-getD-sets-out (v ∷ vs) l i k h =
-    getD-sets-out vs (set l i v) (suc i) k (⊎-elim (λ a. inl (omega arith)) (λ b. inr (omega arith)) h)
-    ∙ getD-set-other l i k v 0 (λ e. ⊎-elim {C = ⊥} (λ a. omega arith) (λ b. omega arith) h)
+-- ---- the run from a coordinate on
 
--- the sizes of an element
-pub sized-one : {z : ℕ} → Sized z → 1 ≤ z
-sized-one h = ⊎-elim (λ a. omega arith) (λ r. ⊎-elim (λ b. omega arith) (λ c. omega arith) r) h
+no-more : (b : Bool) → (b && false) ≡ false
+no-more true = refl
+no-more false = refl
 
-pub sized-two : {z : ℕ} → Sized z → (z ≡ 1 → ⊥) → 2 ≤ z
-sized-two h n = ⊎-elim (λ a. absurd (n a)) (λ r. ⊎-elim (λ b. omega arith) (λ c. omega arith) r) h
+module _ (x : Axis) (c most : ℕ) {n : ℕ} (f : x .pre + x .count ≤ x .extent) (l : c < x .extent) (m : 0 < most) where
+  -- padding before, what is kept, padding behind, and where another coordinate is padding
+  pub run-before : c < x .pre → n ≡ min (x .pre - c) most → Alike x true c most (record { kept = false; n = n })
+  unfolding axisKept
+  run-before h e = record {
+    some = omega arith;
+    cut = omega arith;
+    row = omega arith;
+    same = λ k g. rw (lt-leb (x .pre) (c + k) (omega arith));
+    whole = λ g. inl (omega arith);
+  }
 
-pub sized-four : {z : ℕ} → Sized z → (z ≡ 1 → ⊥) → (z ≡ 2 → ⊥) → z ≡ 4
-sized-four h n m = ⊎-elim (λ a. absurd (n a)) (λ r. ⊎-elim (λ b. absurd (m b)) (λ c. c) r) h
+  pub run-kept : x .pre ≤ c → c - x .pre < x .count → n ≡ min (x .count - (c - x .pre)) most → Alike x true c most (record { kept = true; n = n })
+  unfolding axisKept
+  run-kept h g e = record {
+    some = omega arith;
+    cut = omega arith;
+    row = omega arith;
+    same = λ k i. range-test (x .pre) (c + k) (x .count) (omega arith, omega arith);
+    whole = λ i. inr (omega arith);
+  }
 
--- bytes of s from `at`, the first of them stored
-sets-part : (d s : List ℕ) (at to n a t : ℕ) → at + 1 ≡ a → to + 1 ≡ t → at < length s
-    → sets d to (take (suc n) (drop at s)) ≡ sets (set d to (getD s at 0)) t (take n (drop a s))
-sets-part d s at to n a t p q h = rw (← p, ← q, add-one, add-one, drop-cons s at 0 h)
+  pub run-behind : {outer : Bool} → (outer ≡ false) ⊎ ((x .pre ≤ c) × (x .count ≤ c - x .pre)) → n ≡ min (x .extent - c) most → Alike x outer c most (record { kept = false; n = n })
+  unfolding axisKept
+  run-behind {outer} h e = record {
+    some = omega arith;
+    cut = omega arith;
+    row = omega arith;
+    same = λ k i.
+        ⊎-elim
+        (λ u. rw u)
+        (λ v. not-second outer (axisKept x (c + k)) (rw (le-ltb (c + k - x .pre) (x .count) (omega arith)) (no-more (leb (x .pre) (c + k)))))
+        h;
+    whole = λ i. inr (omega arith);
+  }
 
-module _ (d s : List ℕ) (at to : ℕ) where
-  pub copied-one : at + 1 ≤ length s → set d to (getD s at 0) ≡ sets d to (take 1 (drop at s))
-  copied-one h = sym (sets-part d s at to 0 (at + 1) (to + 1) refl refl (omega arith))
+-- ---- what it stores
 
-  pub copied-two : at + 2 ≤ length s → set (set d to (getD s at 0)) (to + 1) (getD s (at + 1) 0) ≡ sets d to (take 2 (drop at s))
-  copied-two h =
-      sym (sets-part d s at to 1 (at + 1) (to + 1) refl refl (omega arith) ∙
-      sets-part (set d to (getD s at 0)) s (at + 1) (to + 1) 0 (at + 2) (to + 2) (omega arith) (omega arith) (omega arith))
+module _ (e : ℕ → List ℕ) (to stride : ℕ) where
+  pub length-run : (n : ℕ) (d : List ℕ) → length (runOf e to stride n d) ≡ length d
+  unfolding runOf
+  length-run zero d = refl
+  length-run (suc n) d = simp length-sets (length-run n d)
 
-  pub copied-four : at + 4 ≤ length s
-      → set (set (set (set d to (getD s at 0)) (to + 1) (getD s (at + 1) 0)) (to + 2) (getD s (at + 2) 0)) (to + 3) (getD s (at + 3) 0) ≡ sets d to (take 4 (drop at s))
-  copied-four h =
-      let e = set d to (getD s at 0) in
-      let f = set e (to + 1) (getD s (at + 1) 0) in
-      let g = set f (to + 2) (getD s (at + 2) 0) in
-      sym (sets-part d s at to 3 (at + 1) (to + 1) refl refl (omega arith) ∙
-      sets-part e s (at + 1) (to + 1) 2 (at + 2) (to + 2) (omega arith) (omega arith) (omega arith) ∙
-      sets-part f s (at + 2) (to + 2) 1 (at + 3) (to + 3) (omega arith) (omega arith) (omega arith) ∙
-      sets-part g s (at + 3) (to + 3) 0 (at + 4) (to + 4) (omega arith) (omega arith) (omega arith))
+  -- a byte that belongs to none of the elements is as it was
+  run-out : (n : ℕ) (d : List ℕ) (k : ℕ) → ((j : ℕ) → j < n → (k < along to stride j) ⊎ (along to stride j + length (e j) ≤ k))
+      → getD (runOf e to stride n d) k 0 ≡ getD d k 0
+  unfolding runOf
+  run-out zero d k h = refl
+  run-out (suc n) d k h =
+      getD-sets-out (e n) (runOf e to stride n d) (along to stride n) k (h n (omega arith)) ∙ run-out n d k (λ j l. h j (omega arith))
 
-module _ (d : List ℕ) (to : ℕ) where
-  pub cleared-two : set (set d to 0) (to + 1) 0 ≡ sets d to (replicate 2 0)
-  cleared-two = rw add-one
+-- while kept elements are stored, those still to be read are as they were
+pub run-keeps : (o : Origin) (s d v : List ℕ) (at jump to stride size n k : ℕ) → Parted o at jump to stride size n → k < n
+    → keptRun (sourceBytes o s (runOf (keptRun v at jump size) to stride k d)) at jump size k ≡ keptRun (sourceBytes o s d) at jump size k
+run-keeps Lent s d v at jump to stride size n k p h = refl
+run-keeps Inside s d v at jump to stride size n k p h =
+    run-same (runOf (keptRun v at jump size) to stride k d) d (along at jump k) size (length-run (keptRun v at jump size) to stride k d)
+    (λ i a b.
+    run-out (keptRun v at jump size) to stride k d i
+    (λ j l.
+    let m = length-take-most size (drop (along at jump j) v) in
+    ⊎-elim (λ x. inl (omega arith)) (λ y. inr (omega arith)) (p k j h (omega arith))))
 
-  pub cleared-four : set (set (set (set d to 0) (to + 1) 0) (to + 2) 0) (to + 3) 0 ≡ sets d to (replicate 4 0)
-  cleared-four =
-      let p : to + 1 ≡ suc to = omega arith in
-      let q : to + 2 ≡ suc (suc to) = omega arith in
-      let r : to + 3 ≡ suc (suc (suc to)) = omega arith in
-      rw (p, q, r)
+-- a source of the same length
+pub still-held : (o : Origin) (s d e : List ℕ) {m : ℕ} → length e ≡ length d → m ≤ length (sourceBytes o s d) → m ≤ length (sourceBytes o s e)
+still-held Lent s d e h l = l
+still-held Inside s d e h l = rw h l
 
-pub length-take-most : (i : ℕ) (l : List ℕ) → length (take i l) ≤ i
-length-take-most i l = rw length-take (min-le-left i (length l))
+-- ---- a loop that stores n elements: k are, and the next stands at t
 
--- either source is as long as one of the two lists
-pub source-long : (o : Origin) (s d : List ℕ) → length (sourceBytes o s d) ≤ length s + length d
-source-long Lent s d = omega arith
-source-long Inside s d = omega arith
+pub record Done (e : ℕ → List ℕ) (to stride n : ℕ) (d₀ d : List ℕ) (t k : ℕ) : Type 0 where
+  pub within : k ≤ n
+  pub place : t ≡ along to stride k
+  pub bytes : d ≡ runOf e to stride k d₀
+
+pub done-start : (e : ℕ → List ℕ) (to stride n : ℕ) (d : List ℕ) → to < 2 ^ 64 → Done e to stride n d d to 0
+unfolding runOf
+done-start e to stride n d h = record { within = omega arith; place = sym (along-none to stride h); bytes = refl }
+
+module _ {e : ℕ → List ℕ} {to stride n : ℕ} {d₀ d : List ℕ} {t k : ℕ} (a : Done e to stride n d₀ d t k) where
+  pub done-length : length d ≡ length d₀
+  done-length = ap length (a .bytes) ∙ length-run e to stride k d₀
+
+  pub done-next : {t' : ℕ} {d' : List ℕ} → k < n → t' ≡ (t + stride) % 2 ^ 64 → d' ≡ sets d t (e k) → Done e to stride n d₀ d' t' (k + 1)
+  unfolding runOf
+  done-next h p b =
+      record {
+        within = omega arith;
+        place = p ∙ ap (λ (y : ℕ). (y + stride) % 2 ^ 64) (a .place) ∙ along-next to stride k;
+        bytes = b ∙ rw (a .bytes, a .place, add-one);
+      }
+
+  pub done-end : n ≤ k → (t ≡ along to stride n) × (d ≡ runOf e to stride n d₀)
+  done-end h =
+      let w = a .within in
+      let q : k ≡ n = omega arith in
+      (a .place ∙ ap (along to stride) q, a .bytes ∙ ap (λ (j : ℕ). runOf e to stride j d₀) q)

@@ -1,20 +1,19 @@
--- Places by steps, as 64 bits count them: one step further, and a run of them. Assumes nothing.
+-- Places by steps, as 64 bits count them, and spots: one step further, and where the sums fit. Assumes nothing.
 use mathlib.Core.Path.{_≡_, refl, sym, ap, _∙_}
-use mathlib.Core.Logic.{_⊎_, ⊎-elim, inl, inr}
-use mathlib.Core.Bool.{Bool, cond, true, false, _&&_}
+use mathlib.Core.Bool.{cond, true, _&&_}
 use Prim.Native.Nat.{ℕ, _+_, _-_, _*_, _%_, _^_, min, _≤_, _<_}
 use native.Mathlib.Nat.{zero-mul, zero-sub, zero-min, one-mul, add-zero, add-assoc, add-mul, mod-lt, mod-add-mod, mod-eq-of-lt, min-eq-left, min-le-right}
 use native.Mathlib.Decide.{decLt}
 use native.Mathlib.Omega.{arith}
-use borrow.Author.Tests.{lt-ltb, le-ltb, lt-leb}
-use lib.Dec.{leb, ltb}
-use Rattle.faults.proofs.Bools.{not-second}
+use borrow.Author.Tests.{lt-ltb, le-ltb}
+use lib.Dec.{ltb}
 use Rattle.mover.specs.declared.plan.Axis.{Axis}
 use Rattle.mover.specs.declared.plan.Plan.{Plan}
-use Rattle.mover.specs.declared.start.Spot.{Spot}
-use Rattle.mover.specs.Private.{axisKept, planKept, spotOf, placeOf, homeOf, along, stepsOf, reachOf, onwardOf, firstOf, homeEnd, placeEnd, Alike, InExtents}
-use Rattle.mover.proofs.Keeping.{range-test}
-use Rattle.mover.proofs.Places.{Kept, AllKept, all-kept-of, spot-most, place-most}
+use Rattle.mover.specs.declared.spots.Spot.{Spot}
+use Rattle.mover.specs.Private.Elements.{planKept, stepped, placeOf, homeOf}
+use Rattle.mover.specs.Private.Steps.{along, jumpsOf, reachOf, onwardOf, firstSpot}
+use Rattle.mover.specs.Private.Ready.{homeEnd, placeEnd, InExtents}
+use Rattle.mover.proofs.Places.{all-kept-of, stepped-most, place-most}
 
 module _ (a j : ℕ) where
   pub along-fits : (k : ℕ) → along a j k < 2 ^ 64
@@ -37,13 +36,13 @@ module _ (a j : ℕ) where
 -- ---- the places at the start of a coordinate
 
 module _ (x : Axis) (c : ℕ) where
-  steps-on : x .pre < c + 1 → c + 1 - x .pre < x .count → stepsOf x c + 1 ≡ stepsOf x (c + 1)
-  unfolding stepsOf
-  steps-on h l = omega arith
+  jumps-on : x .pre < c + 1 → c + 1 - x .pre < x .count → jumpsOf x c + 1 ≡ jumpsOf x (c + 1)
+  unfolding jumpsOf
+  jumps-on h l = omega arith
 
-  steps-stay : (x .pre < c + 1 → c + 1 - x .pre < x .count → ⊥) → stepsOf x c ≡ stepsOf x (c + 1)
-  unfolding stepsOf
-  steps-stay h = elim (decLt (x .pre) (c + 1)) [
+  jumps-stay : (x .pre < c + 1 → c + 1 - x .pre < x .count → ⊥) → jumpsOf x c ≡ jumpsOf x (c + 1)
+  unfolding jumpsOf
+  jumps-stay h = elim (decLt (x .pre) (c + 1)) [
     | yes p ↦ elim (decLt (c + 1 - x .pre) (x .count)) [
       | yes q ↦ absurd (h p q)
       | no q ↦ omega arith
@@ -51,24 +50,20 @@ module _ (x : Axis) (c : ℕ) where
     | no p ↦ omega arith
   ]
 
-  pub steps-kept : c - x .pre ≤ x .count - 1 → stepsOf x c ≡ c - x .pre
-  unfolding stepsOf
-  steps-kept h = min-eq-left h
+  pub jumps-kept : c - x .pre ≤ x .count - 1 → jumpsOf x c ≡ c - x .pre
+  unfolding jumpsOf
+  jumps-kept h = min-eq-left h
 
 module _ (s : Spot) (x : Axis) where
-  pub reach-to : (c : ℕ) → reachOf s x c .to < 2 ^ 64
+  pub reach-fits : (c : ℕ) {r : Spot} → r ≡ reachOf s x c → (r .to < 2 ^ 64) × (r .at < 2 ^ 64)
   unfolding reachOf
-  reach-to c = along-fits (s .to) (x .stride) c
-
-  pub reach-at : (c : ℕ) → reachOf s x c .at < 2 ^ 64
-  unfolding reachOf
-  reach-at c = along-fits (s .at) (x .jump) (stepsOf x c)
+  reach-fits c e = rw e (along-fits (s .to) (x .stride) c, along-fits (s .at) (x .jump) (jumpsOf x c))
 
   pub reach-none : s .to < 2 ^ 64 → s .at < 2 ^ 64 → reachOf s x 0 ≡ s
-  unfolding reachOf stepsOf
+  unfolding reachOf jumpsOf
   reach-none h l =
       let t = along-none (s .to) (x .stride) h in
-      let e : along (s .at) (x .jump) (stepsOf x 0) ≡ s .at = rw (zero-sub, zero-min) (along-none (s .at) (x .jump) l) in
+      let e : along (s .at) (x .jump) (jumpsOf x 0) ≡ s .at = rw (zero-sub, zero-min) (along-none (s .at) (x .jump) l) in
       λ i. record { to = t i; at = e i }
 
   -- from one coordinate to the next
@@ -76,97 +71,55 @@ module _ (s : Spot) (x : Axis) where
   unfolding reachOf onwardOf
   reach-on c =
       let t = along-next (s .to) (x .stride) c in
-      let k = stepsOf x c in
+      let k = jumpsOf x c in
       let a = along (s .at) (x .jump) k in
-      let e : cond (ltb (x .pre) (c + 1) && ltb (c + 1 - x .pre) (x .count)) ((a + x .jump) % 2 ^ 64) a ≡ along (s .at) (x .jump) (stepsOf x (c + 1)) =
+      let e : cond (ltb (x .pre) (c + 1) && ltb (c + 1 - x .pre) (x .count)) ((a + x .jump) % 2 ^ 64) a ≡ along (s .at) (x .jump) (jumpsOf x (c + 1)) =
       elim (decLt (x .pre) (c + 1)) [
         | yes p ↦ elim (decLt (c + 1 - x .pre) (x .count)) [
-          | yes q ↦ rw (lt-ltb (x .pre) (c + 1) p, lt-ltb (c + 1 - x .pre) (x .count) q) (along-next (s .at) (x .jump) k ∙ ap (along (s .at) (x .jump)) (steps-on x c p q))
-          | no q ↦ rw (lt-ltb (x .pre) (c + 1) p, le-ltb (c + 1 - x .pre) (x .count) (omega arith)) (ap (along (s .at) (x .jump)) (steps-stay x c (λ _ l. q l)))
+          | yes q ↦ rw (lt-ltb (x .pre) (c + 1) p, lt-ltb (c + 1 - x .pre) (x .count) q) (along-next (s .at) (x .jump) k ∙ ap (along (s .at) (x .jump)) (jumps-on x c p q))
+          | no q ↦ rw (lt-ltb (x .pre) (c + 1) p, le-ltb (c + 1 - x .pre) (x .count) (omega arith)) (ap (along (s .at) (x .jump)) (jumps-stay x c (λ _ l. q l)))
         ]
-        | no p ↦ rw (le-ltb (x .pre) (c + 1) (omega arith)) (ap (along (s .at) (x .jump)) (steps-stay x c (λ l _. p l)))
+        | no p ↦ rw (le-ltb (x .pre) (c + 1) (omega arith)) (ap (along (s .at) (x .jump)) (jumps-stay x c (λ l _. p l)))
       ] in
       λ i. record { to = t i; at = e i }
 
 -- ---- an element's places, by the starts of its block, plane and row
 
-module _ (p : Plan) (c0 c1 c2 : ℕ) {block plane row : Spot} (e0 : block ≡ reachOf (firstOf p) (p .d0) c0) (e1 : plane ≡ reachOf block (p .d1) c1) (e2 : row ≡ reachOf plane (p .d2) c2) where
+module _ (p : Plan) (c0 c1 c2 : ℕ) {block plane row : Spot} (e0 : block ≡ reachOf (firstSpot p) (p .d0) c0) (e1 : plane ≡ reachOf block (p .d1) c1) (e2 : row ≡ reachOf plane (p .d2) c2) where
   pub row-place : (c3 : ℕ) → along (row .to) (p .d3 .stride) c3 ≡ placeOf p c0 c1 c2 c3 % 2 ^ 64
-  unfolding reachOf along placeOf spotOf
+  unfolding reachOf along placeOf stepped
   row-place c3 = rw (e2, e1, e0) (simp mod-add-mod (ap (λ (y : ℕ). y % 2 ^ 64) (omega arith)))
 
   pub row-home : (c3 : ℕ) → planKept p c0 c1 c2 c3 ≡ true → along (row .at) (p .d3 .jump) (c3 - p .d3 .pre) ≡ homeOf p c0 c1 c2 c3 % 2 ^ 64
-  unfolding reachOf along homeOf spotOf
+  unfolding reachOf along homeOf stepped
   row-home c3 h =
       let k = all-kept-of p c0 c1 c2 c3 h in
-      rw (e2, e1, e0, steps-kept (p .d0) c0 (k .k0 .most), steps-kept (p .d1) c1 (k .k1 .most), steps-kept (p .d2) c2 (k .k2 .most))
+      rw (e2, e1, e0, jumps-kept (p .d0) c0 (k .k0 .most), jumps-kept (p .d1) c1 (k .k1 .most), jumps-kept (p .d2) c2 (k .k2 .most))
       (simp mod-add-mod (ap (λ (y : ℕ). y % 2 ^ 64) (omega arith)))
 
 -- ---- where a step begins: no part of the sums is larger than the whole, which fits
 
-module _ (s : Spot) (x : Axis) (c : ℕ) (t : s .to + c * x .stride < 2 ^ 64) (a : s .at + stepsOf x c * x .jump < 2 ^ 64) where
-  pub reach-made : record { to = s .to + c * x .stride; at = s .at + stepsOf x c * x .jump } ≡ reachOf s x c
+module _ (s : Spot) (x : Axis) (c : ℕ) (t : s .to + c * x .stride < 2 ^ 64) (a : s .at + jumpsOf x c * x .jump < 2 ^ 64) where
+  pub reach-made : record { to = s .to + c * x .stride; at = s .at + jumpsOf x c * x .jump } ≡ reachOf s x c
   unfolding reachOf along
   reach-made =
       let u = sym (mod-eq-of-lt t) in
       let v = sym (mod-eq-of-lt a) in
       λ i. record { to = u i; at = v i }
 
-  pub reach-is : {r : Spot} → r ≡ reachOf s x c → (r .to ≡ s .to + c * x .stride) × (r .at ≡ s .at + stepsOf x c * x .jump)
+  pub reach-is : {r : Spot} → r ≡ reachOf s x c → (r .to ≡ s .to + c * x .stride) × (r .at ≡ s .at + jumpsOf x c * x .jump)
   reach-is e = let m = e ∙ sym reach-made in (ap (λ (y : Spot). y .to) m, ap (λ (y : Spot). y .at) m)
 
 module _ (p : Plan) {c0 c1 c2 c3 : ℕ} (w : InExtents p c0 c1 c2 c3) where
   pub begin-to : placeEnd p < 2 ^ 64 → p .base + c0 * p .d0 .stride + c1 * p .d1 .stride + c2 * p .d2 .stride + c3 * p .d3 .stride < 2 ^ 64
-  unfolding placeOf spotOf
+  unfolding placeOf stepped
   begin-to h = let m = place-most p c0 c1 c2 c3 w in omega arith
 
   pub begin-at : homeEnd p < 2 ^ 64
-      → p .home + stepsOf (p .d0) c0 * p .d0 .jump + stepsOf (p .d1) c1 * p .d1 .jump + stepsOf (p .d2) c2 * p .d2 .jump + stepsOf (p .d3) c3 * p .d3 .jump < 2 ^ 64
-  unfolding homeEnd spotOf stepsOf
+      → p .home + jumpsOf (p .d0) c0 * p .d0 .jump + jumpsOf (p .d1) c1 * p .d1 .jump + jumpsOf (p .d2) c2 * p .d2 .jump + jumpsOf (p .d3) c3 * p .d3 .jump < 2 ^ 64
+  unfolding homeEnd stepped jumpsOf
   begin-at h =
-      let m = spot-most (p .home) (p .d0 .jump) (p .d1 .jump) (p .d2 .jump) (p .d3 .jump)
+      let m = stepped-most (p .home) (p .d0 .jump) (p .d1 .jump) (p .d2 .jump) (p .d3 .jump)
       (min-le-right (c0 - p .d0 .pre) (p .d0 .count - 1)) (min-le-right (c1 - p .d1 .pre) (p .d1 .count - 1))
       (min-le-right (c2 - p .d2 .pre) (p .d2 .count - 1)) (min-le-right (c3 - p .d3 .pre) (p .d3 .count - 1)) in
       omega arith
-
--- ---- the run from a coordinate on
-
-no-more : (b : Bool) → (b && false) ≡ false
-no-more true = refl
-no-more false = refl
-
-module _ (x : Axis) (c most : ℕ) {n : ℕ} (f : x .pre + x .count ≤ x .extent) (l : c < x .extent) (m : 0 < most) where
-  -- padding before, what is kept, padding behind, and where another coordinate is padding
-  pub run-before : c < x .pre → n ≡ min (x .pre - c) most → Alike x true c most (record { kept = false; n = n })
-  unfolding axisKept
-  run-before h e = record {
-    some = omega arith;
-    fund = omega arith;
-    row = omega arith;
-    same = λ k g. rw (lt-leb (x .pre) (c + k) (omega arith));
-    whole = λ g. inl (omega arith);
-  }
-
-  pub run-kept : x .pre ≤ c → c - x .pre < x .count → n ≡ min (x .count - (c - x .pre)) most → Alike x true c most (record { kept = true; n = n })
-  unfolding axisKept
-  run-kept h g e = record {
-    some = omega arith;
-    fund = omega arith;
-    row = omega arith;
-    same = λ k i. range-test (x .pre) (c + k) (x .count) (omega arith, omega arith);
-    whole = λ i. inr (omega arith);
-  }
-
-  pub run-behind : {outer : Bool} → (outer ≡ false) ⊎ ((x .pre ≤ c) × (x .count ≤ c - x .pre)) → n ≡ min (x .extent - c) most → Alike x outer c most (record { kept = false; n = n })
-  unfolding axisKept
-  run-behind {outer} h e = record {
-    some = omega arith;
-    fund = omega arith;
-    row = omega arith;
-    same = λ k i.
-        ⊎-elim
-        (λ u. rw u)
-        (λ v. not-second outer (axisKept x (c + k)) (rw (le-ltb (c + k - x .pre) (x .count) (omega arith)) (no-more (leb (x .pre) (c + k)))))
-        h;
-    whole = λ i. inr (omega arith);
-  }

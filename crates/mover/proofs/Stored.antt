@@ -13,7 +13,7 @@ use Rattle.plane.specs.declared.Config.{Config}
 use Rattle.mover.specs.Element.{areKept, sourcePlace, element}
 use Rattle.mover.specs.Moved.{total, coordOf, stored, moved}
 use Rattle.mover.specs.Demand2.{byteAt}
-use Rattle.mover.proofs.Runs.{getD-sets-out, length-take-most}
+use Rattle.mover.proofs.Bytes.{getD-sets-out, length-take-most}
 use Rattle.mover.proofs.Laws.{moved-length}
 
 -- the byte at which element number q starts

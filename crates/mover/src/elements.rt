@@ -4,7 +4,9 @@ ghost use mathlib.Core.Path.{_≡_};
 ghost use Prim.Native.Nat.{_+_, _*_, _^_, _≤_, _<_};
 ghost use lib.ListN.{length, getD, take, drop, replicate};
 ghost use lib.Seq.{sets};
-ghost use Rattle.mover.specs.Private.{sourceBytes, along, runOf, keptRun, padRun, Sized, Held, Parted};
+ghost use Rattle.mover.specs.Private.Elements.{sourceBytes};
+ghost use Rattle.mover.specs.Private.Steps.{along};
+ghost use Rattle.mover.specs.Private.Runs.{runOf, keptRun, padRun, Sized, Readable, Writable};
 
 // Where the source's bytes stand: in the slice lent for reading, or in the destination's own.
 pub(crate) enum Origin {
@@ -72,8 +74,7 @@ fn copy(src: &[u8], dst: &mut [u8], origin: Origin, at: usize, to: usize, size: 
 
 // A run of padding; tells where the next element stands.
 pub(crate) fn clear_run(dst: &mut [u8], to: usize, stride: usize, size: usize, n: usize) -> usize
-    requires { ⌜ Sized size ⌝ }
-    requires { ⌜ Held (length (now dst)) to stride size n ⌝ }
+    requires { ⌜ Writable (now dst) to stride size n ⌝ }
     ensures next { λ r. ⌜ r ≡ along to stride n ⌝ }
     ensures written { λ _. ⌜ now (dst .exit) ≡ runOf (padRun size) to stride n (now (dst .entry)) ⌝ }
 {
@@ -99,10 +100,8 @@ fn copy_each(
     size: usize,
     n: usize,
 ) -> usize
-    requires { ⌜ Sized size ⌝ }
-    requires { ⌜ Held (length (sourceBytes origin (now src) (now dst))) at jump size n ⌝ }
-    requires { ⌜ Held (length (now dst)) to stride size n ⌝ }
-    requires { ⌜ Parted origin at jump to stride size n ⌝ }
+    requires { ⌜ Writable (now dst) to stride size n ⌝ }
+    requires { ⌜ Readable origin (now src) (now dst) at jump to stride size n ⌝ }
     ensures next { λ r. ⌜ r ≡ along to stride n ⌝ }
     ensures written { λ _. ⌜ now (dst .exit) ≡ runOf (keptRun (sourceBytes origin (now (src .entry)) (now (dst .entry))) at jump size) to stride n (now (dst .entry)) ⌝ }
 {
@@ -145,10 +144,8 @@ pub(crate) fn copy_run(
     size: usize,
     n: usize,
 ) -> usize
-    requires { ⌜ Sized size ⌝ }
-    requires { ⌜ Held (length (sourceBytes origin (now src) (now dst))) at jump size n ⌝ }
-    requires { ⌜ Held (length (now dst)) to stride size n ⌝ }
-    requires { ⌜ Parted origin at jump to stride size n ⌝ }
+    requires { ⌜ Writable (now dst) to stride size n ⌝ }
+    requires { ⌜ Readable origin (now src) (now dst) at jump to stride size n ⌝ }
     ensures next { λ r. ⌜ r ≡ along to stride n ⌝ }
     ensures written { λ _. ⌜ now (dst .exit) ≡ runOf (keptRun (sourceBytes origin (now (src .entry)) (now (dst .entry))) at jump size) to stride n (now (dst .entry)) ⌝ }
 {

@@ -1,18 +1,25 @@
 // The loops of a move: destination elements in destination order, the last coordinate fastest, from any element on, until the
-// budget is spent. The innermost goes on by runs, and places by adding. What they are handed was worked out and accepted by the rules.
+// budget is spent. The innermost goes on by runs. From one element to the next places go on by adding alone: nothing here, nor in
+// what the loops call, multiplies or divides. What the loops are handed was worked out and accepted by the rules.
 use crate::Part;
 use crate::elements::Origin;
 use crate::elements::clear_run;
 use crate::elements::copy_run;
 use crate::plan::Axis;
 use crate::plan::Plan;
-use crate::start::Spot;
+use crate::spots::Spot;
+use crate::spots::Spots;
+use crate::spots::next_block;
+use crate::spots::next_plane;
+use crate::spots::next_row;
 use crate::start::begin;
-use std::num::wrapping_add_usize;
 ghost use mathlib.Core.Path.{_≡_};
-ghost use mathlib.Core.Bool.{_&&_};
+ghost use mathlib.Core.Bool.{true, _&&_};
 ghost use Prim.Native.Nat.{_+_, _-_, min, _≤_, _<_};
-ghost use Rattle.mover.specs.Private.{axisKept, onwardOf, planTotal, movedFrom, movedWithin, Alike, Ready, LiesIn, PartsApart};
+ghost use Rattle.mover.specs.Private.Elements.{sourceBytes, axisKept, planTotal, movedFrom};
+ghost use Rattle.mover.specs.Private.Steps.{behind};
+ghost use Rattle.mover.specs.Private.Runs.{Alike, runOf, eitherRun, Readable, Writable};
+ghost use Rattle.mover.specs.Private.Ready.{Ready, LiesIn, PartsApart, movedWithin};
 ghost use Rattle.mover.specs.Within.{bytesOf};
 
 // Whether coordinate c of a dimension is kept, and not padding, where `outer` says so of the coordinates before it.
@@ -66,23 +73,39 @@ fn run_at(x: Axis, outer: bool, c: usize, most: usize) -> Run
     }
 }
 
-// The places at coordinate c of a dimension, from those at the one before: the source goes on between two that are kept.
-fn onward(s: Spot, x: Axis, c: usize) -> Spot
-    ensures { λ r. ⌜ r ≡ onwardOf s x c ⌝ }
+// Moves a run, kept elements or padding, and tells the spots behind it.
+fn move_run(src: &[u8], dst: &mut [u8], origin: Origin, plan: Plan, s: Spots, run: Run) -> Spots
+    requires { ⌜ Writable (now dst) (s .here .to) (plan .d3 .stride) (plan .size) (run .n) ⌝ }
+    requires { ⌜ (run .kept ≡ true → Readable origin (now src) (now dst) (s .here .at) (plan .d3 .jump) (s .here .to) (plan .d3 .stride) (plan .size) (run .n)) ⌝ }
+    ensures next { λ r. ⌜ r ≡ behind s (plan .d3) (run .n) ⌝ }
+    ensures written { λ _. ⌜ now (dst .exit) ≡ runOf (eitherRun (run .kept) (sourceBytes origin (now (src .entry)) (now (dst .entry))) (s .here .at) (plan .d3 .jump) (plan .size)) (s .here .to) (plan .d3 .stride) (run .n) (now (dst .entry)) ⌝ }
 {
-    let to = wrapping_add_usize(s.to, x.stride);
-    if x.pre < c {
-        if c - x.pre < x.count {
-            return Spot {
-                to,
-                at: wrapping_add_usize(s.at, x.jump),
-            };
-        }
+    let at = s.here.at;
+    let first = s.here.to;
+    let stride = plan.d3.stride;
+    let size = plan.size;
+    if run.kept {
+        let to = copy_run(
+            src,
+            dst,
+            origin,
+            at,
+            plan.d3.jump,
+            first,
+            stride,
+            size,
+            run.n,
+        );
+        let here = Spot { to, at };
+        return Spots { here, ..s };
     }
-    Spot { to, at: s.at }
+    let to = clear_run(dst, first, stride, size, run.n);
+    let here = Spot { to, at };
+    Spots { here, ..s }
 }
 
-// Writes the elements numbered from, from + 1, .. and tells how many: the budget, or what is left.
+// Writes the elements numbered from, from + 1, .. and tells how many: the budget, or what is left. Whether the outer coordinates are
+// kept is decided where they change.
 pub(crate) fn advance(
     src: &[u8],
     dst: &mut [u8],
@@ -96,70 +119,39 @@ pub(crate) fn advance(
     ensures counted { λ r. ⌜ r ≡ min budget (planTotal plan - from) ⌝ }
     ensures written { λ r. ⌜ now (dst .exit) ≡ movedFrom origin plan (now (src .entry)) (now (dst .entry)) from r ⌝ }
 {
-    let e0 = plan.d0.extent;
-    let e1 = plan.d1.extent;
-    let e2 = plan.d2.extent;
-    let e3 = plan.d3.extent;
-    let s = begin(plan, from);
-    let mut c0 = s.c0;
-    let mut c1 = s.c1;
-    let mut c2 = s.c2;
-    let mut c3 = s.c3;
-    let mut block = s.block;
-    let mut plane = s.plane;
-    let mut row = s.row;
-    let mut to = s.here.to;
-    let mut at = s.here.at;
+    let start = begin(plan, from);
+    let mut c0 = start.c0;
+    let mut c1 = start.c1;
+    let mut c2 = start.c2;
+    let mut c3 = start.c3;
+    let mut spots = start.spots;
     let mut left = budget;
-    'all: while c0 < e0 {
+    'all: while c0 < plan.d0.extent {
         let in0 = kept(true, plan.d0, c0);
-        while c1 < e1 {
+        while c1 < plan.d1.extent {
             let in1 = kept(in0, plan.d1, c1);
-            while c2 < e2 {
+            while c2 < plan.d2.extent {
                 let in2 = kept(in1, plan.d2, c2);
-                while c3 < e3 {
+                while c3 < plan.d3.extent {
                     if left == 0 {
                         break 'all;
                     }
-                    let r = run_at(plan.d3, in2, c3, left);
-                    c3 += r.n;
-                    left -= r.n;
-                    if r.kept {
-                        to = copy_run(
-                            src,
-                            dst,
-                            origin,
-                            at,
-                            plan.d3.jump,
-                            to,
-                            plan.d3.stride,
-                            plan.size,
-                            r.n,
-                        );
-                    } else {
-                        to = clear_run(dst, to, plan.d3.stride, plan.size, r.n);
-                    }
+                    let run = run_at(plan.d3, in2, c3, left);
+                    c3 += run.n;
+                    left -= run.n;
+                    spots = move_run(src, dst, origin, plan, spots, run);
                 }
                 c3 = 0;
                 c2 += 1;
-                row = onward(row, plan.d2, c2);
-                to = row.to;
-                at = row.at;
+                spots = next_row(spots, plan.d2, c2);
             }
             c2 = 0;
             c1 += 1;
-            plane = onward(plane, plan.d1, c1);
-            row = plane;
-            to = plane.to;
-            at = plane.at;
+            spots = next_plane(spots, plan.d1, c1);
         }
         c1 = 0;
         c0 += 1;
-        block = onward(block, plan.d0, c0);
-        plane = block;
-        row = block;
-        to = block.to;
-        at = block.at;
+        spots = next_block(spots, plan.d0, c0);
     }
     budget - left
 }

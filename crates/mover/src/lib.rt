@@ -2,8 +2,9 @@
 // and changes no other byte. Between two lent slices, or between two parts of one memory, from any element on.
 
 mod plan; // an accepted move as the engine wants it
+mod spots; // where an element stands, and where the next row, plane and block start
 mod start; // where a step begins
-mod elements; // runs of elements, copied or of padding
+mod elements; // a run of elements, copied or of padding
 mod engine; // the loops over four destination coordinates
 mod moves; // a whole move between two lent slices
 mod within; // a move between two parts of one memory, a stretch at a time

@@ -9,7 +9,7 @@ ghost use lib.Dec.{ltb};
 ghost use Rattle.plane.specs.Arrays.{at, sum, product};
 ghost use Rattle.plane.specs.Moves.{roomFault, accepted};
 ghost use Rattle.mover.specs.Element.{dimOf};
-ghost use Rattle.mover.specs.Private.{planOf, axisMade, lone, Fit};
+ghost use Rattle.mover.specs.Private.Plans.{planOf, axisMade, lone, Fit};
 
 // One destination dimension.
 pub(crate) struct Axis {

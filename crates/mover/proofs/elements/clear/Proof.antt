@@ -3,13 +3,13 @@ use mathlib.Core.Path.{_≡_}
 use native.Mathlib.Omega.{arith}
 use borrow.Author.Needs.{needs}
 use lib.ListN.{length-set}
-use Rattle.mover.proofs.Runs.{sized-four, cleared-two, cleared-four}
+use Rattle.mover.proofs.Bytes.{sized-four, cleared-two, cleared-four}
 use Rattle.mover.proofs.elements.clear.Statement.{statement}
 use Rattle.mover.proofs.elements.clear.Tie as tie
 
 -- what is neither 1 nor 2 is 4
 four : (c : tie.Else2) → c .before .before .args .size ≡ 4
-four c = sized-four (c .before .before .pre .0) (c .before .if1 .left) (c .if2 .left)
+four c = sized-four (c .before .before .args .size) (c .before .before .pre .0) (c .before .if1 .left) (c .if2 .left)
 
 pub clear-spec : {M : Type 1} → statement M
 clear-spec =

@@ -2,8 +2,8 @@
 use Prim.Native.Nat.{_-_}
 use native.Mathlib.Omega.{arith}
 use borrow.Author.Needs.{needs}
-use Rattle.mover.specs.Private.{padRun}
-use Rattle.mover.proofs.Stretches.{Done, done-start, done-length, done-next, done-end}
+use Rattle.mover.specs.Private.Runs.{padRun}
+use Rattle.mover.proofs.Runs.{Done, done-start, done-length, done-next, done-end}
 use Rattle.mover.proofs.elements.clear_run.Statement.{statement}
 use Rattle.mover.proofs.elements.clear_run.Tie as tie
 
@@ -22,8 +22,8 @@ clear-requires : tie.Need-clear-requires Inv-loop μ-loop
 clear-requires c κs =
     let l = c .before .before in
     let s = l .before .before in
-    let h = s .pre .1 (l .loop .k) (c .before .loop-test .taken) in
-    (s .pre .0, omega (arith, h, l .loop .inv .place, done-length (l .loop .inv)))
+    let h = s .pre .held (l .loop .k) (c .before .loop-test .taken) in
+    (s .pre .sized, omega (arith, h, l .loop .inv .place, done-length (l .loop .inv)))
 
 add-k : tie.Need-add-k Inv-loop μ-loop
 add-k c =

@@ -4,8 +4,8 @@ use mathlib.Core.Path.{_≡_}
 use native.Mathlib.Omega.{arith}
 use borrow.Author.Needs.{needs}
 use lib.ListN.{length-set}
-use Rattle.mover.specs.Private.{sourceBytes}
-use Rattle.mover.proofs.Runs.{sized-one, sized-two, sized-four, copied-one, copied-two, copied-four, source-long}
+use Rattle.mover.specs.Private.Elements.{sourceBytes}
+use Rattle.mover.proofs.Bytes.{sized-some, sized-two, sized-four, copied-one, copied-two, copied-four, source-long}
 use Rattle.mover.proofs.elements.copy.Statement.{statement}
 use Rattle.mover.proofs.elements.copy.Tie as tie
 
@@ -28,7 +28,7 @@ returns-2 c =
 
 -- what is neither 1 nor 2 is 4
 four : (c : tie.After-byte4) → c .before .before .before .before .before .before .before .before .before .before .before .before .args .size ≡ 4
-four c = sized-four (c .before .before .before .before .before .before .before .before .before .before .before .before .pre .0) (c .before .before .before .before .before .before .before .if1 .left) (c .before .before .before .before .if2 .left)
+four c = sized-four (c .before .before .before .before .before .before .before .before .before .before .before .before .args .size) (c .before .before .before .before .before .before .before .before .before .before .before .before .pre .0) (c .before .before .before .before .before .before .before .if1 .left) (c .before .before .before .before .if2 .left)
 
 returns-3 : tie.Need-returns-3
 returns-3 c =
@@ -41,21 +41,21 @@ pub copy-spec : {M : Type 1} → statement M
 copy-spec =
     tie.close
     (tie.spec
-    (λ c κs. let s = c .before .before .before in omega (arith, s .pre .1 .0, sized-one (s .pre .0)))
+    (λ c κs. let s = c .before .before .before in omega (arith, s .pre .1 .0, sized-some (s .args .size) (s .pre .0)))
     (λ c. search needs)
     (λ c. search needs)
     returns
-    (λ c. let s = c .before .before .before .before .before .before in omega (arith, room s, sized-two (s .pre .0) (c .before .if1 .left)))
-    (λ c κs. let s = c .before .before .before .before .before .before in omega (arith, s .pre .1 .0, sized-two (s .pre .0) (c .before .if1 .left)))
+    (λ c. let s = c .before .before .before .before .before .before in omega (arith, room s, sized-two (s .args .size) (s .pre .0) (c .before .if1 .left)))
+    (λ c κs. let s = c .before .before .before .before .before .before in omega (arith, s .pre .1 .0, sized-two (s .args .size) (s .pre .0) (c .before .if1 .left)))
     (λ c. search needs)
     (λ c. search needs)
     (λ c. let s = c .before .before .before .before .before .before .before .before in rw length-set (omega (arith, s .pre .1 .1, c .if2 .taken)))
     (λ c. search needs)
     returns-2
-    (λ c. let s = c .before .before .before .before .before .before .before .before .before in omega (arith, room s, sized-four (s .pre .0) (c .before .before .before .before .if1 .left) (c .before .if2 .left)))
-    (λ c κs. let s = c .before .before .before .before .before .before .before .before .before in omega (arith, s .pre .1 .0, sized-four (s .pre .0) (c .before .before .before .before .if1 .left) (c .before .if2 .left)))
-    (λ c. let s = c .before .before .before .before .before .before .before .before .before .before .before in omega (arith, room s, sized-four (s .pre .0) (c .before .before .before .before .before .before .if1 .left) (c .before .before .before .if2 .left)))
-    (λ c κs. let s = c .before .before .before .before .before .before .before .before .before .before .before in omega (arith, s .pre .1 .0, sized-four (s .pre .0) (c .before .before .before .before .before .before .if1 .left) (c .before .before .before .if2 .left)))
+    (λ c. let s = c .before .before .before .before .before .before .before .before .before in omega (arith, room s, sized-four (s .args .size) (s .pre .0) (c .before .before .before .before .if1 .left) (c .before .if2 .left)))
+    (λ c κs. let s = c .before .before .before .before .before .before .before .before .before in omega (arith, s .pre .1 .0, sized-four (s .args .size) (s .pre .0) (c .before .before .before .before .if1 .left) (c .before .if2 .left)))
+    (λ c. let s = c .before .before .before .before .before .before .before .before .before .before .before in omega (arith, room s, sized-four (s .args .size) (s .pre .0) (c .before .before .before .before .before .before .if1 .left) (c .before .before .before .if2 .left)))
+    (λ c κs. let s = c .before .before .before .before .before .before .before .before .before .before .before in omega (arith, s .pre .1 .0, sized-four (s .args .size) (s .pre .0) (c .before .before .before .before .before .before .if1 .left) (c .before .before .before .if2 .left)))
     (λ c. omega (arith, c .before .before .before .before .before .before .before .before .before .before .before .before .pre .1 .1, four c))
     (λ c. search needs)
     (λ c. rw length-set (omega (arith, c .before .before .before .before .before .before .before .before .before .before .before .before .pre .1 .1, four c)))

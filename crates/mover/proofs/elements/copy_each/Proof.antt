@@ -4,9 +4,11 @@ use mathlib.Core.Path.{_≡_, sym, ap, _∙_}
 use native.Mathlib.Omega.{arith}
 use borrow.Author.Needs.{needs}
 use lib.Seq.{sets}
-use Rattle.mover.specs.Private.{sourceBytes, along, runOf, keptRun}
+use Rattle.mover.specs.Private.Elements.{sourceBytes}
+use Rattle.mover.specs.Private.Steps.{along}
+use Rattle.mover.specs.Private.Runs.{runOf, keptRun}
 use Rattle.mover.proofs.Steps.{along-none, along-next}
-use Rattle.mover.proofs.Stretches.{still-held, run-keeps, Done, done-start, done-length, done-next, done-end}
+use Rattle.mover.proofs.Runs.{still-held, run-keeps, Done, done-start, done-length, done-next, done-end}
 use Rattle.mover.proofs.elements.copy_each.Statement.{statement}
 use Rattle.mover.proofs.elements.copy_each.Tie as tie
 
@@ -33,10 +35,10 @@ copy-requires c κs =
     let k = l .loop .k in
     let t = c .before .loop-test .taken in
     let e = done-length (l .loop .inv .0) in (
-      s .pre .0,
+      s .pre .0 .sized,
       (
-        rw (l .loop .inv .1) (still-held (a .origin) (a .src .now) (a .dst .now) (l .loop .dst) e (s .pre .1 .0 k t)),
-        rw (l .loop .inv .0 .place) (omega (arith, s .pre .1 .1 .0 k t, e)),
+        rw (l .loop .inv .1) (still-held (a .origin) (a .src .now) (a .dst .now) (l .loop .dst) e (s .pre .1 .held k t)),
+        rw (l .loop .inv .0 .place) (omega (arith, s .pre .0 .held k t, e)),
       ),
     )
 
@@ -59,7 +61,7 @@ loop-again c =
     let e : m .copy .last .1 .0 ≡ sets (l .dst) (l .t) (keptRun v (a .at) (a .jump) (a .size) (l .k)) =
     m .copy .ensures ∙
     rw (l .inv .1, l .inv .0 .bytes) (ap (sets (runOf (keptRun v (a .at) (a .jump) (a .size)) (a .to) (a .stride) (l .k) (a .dst .now)) (l .t))
-    (run-keeps (a .origin) (a .src .now) (a .dst .now) v (a .at) (a .jump) (a .to) (a .stride) (a .size) (a .n) (l .k) (s .pre .1 .1 .1) (t .loop-test .taken))) in (
+    (run-keeps (a .origin) (a .src .now) (a .dst .now) v (a .at) (a .jump) (a .to) (a .stride) (a .size) (a .n) (l .k) (s .pre .1 .parted) (t .loop-test .taken))) in (
       done-next (l .inv .0) (t .loop-test .taken) (c .wrapping-add-usize2 .ensures) e,
       c .before .wrapping-add-usize .ensures ∙ rw (l .inv .1) (along-next (a .at) (a .jump) (l .k)),
     )

@@ -1,14 +1,14 @@
 -- `mover::elements::copy_run` copies bytes where elements lie side by side, else elements. Assumes nothing.
 use Prim.Native.Nat.{ℕ, _^_, _<_}
-use mathlib.Core.Path.{_≡_, ap, ap₂, subst, _∙_}
-use mathlib.Core.Logic.{inl}
+use mathlib.Core.Path.{_≡_, ap, subst, _∙_}
 use mathlib.Core.List.{List}
-use mathlib.Core.Path.{refl}
 use native.Mathlib.Omega.{arith}
 use borrow.Author.Needs.{needs}
 use lib.ListN.{length}
-use Rattle.mover.specs.Private.{sourceBytes, along, runOf, keptRun, Held, Parted}
-use Rattle.mover.proofs.Runs.{sized-one, source-long}
+use Rattle.mover.specs.Private.Elements.{sourceBytes}
+use Rattle.mover.specs.Private.Steps.{along}
+use Rattle.mover.specs.Private.Runs.{runOf, keptRun, Held, Parted}
+use Rattle.mover.proofs.Bytes.{sized-some, sized-one, source-long}
 use Rattle.mover.proofs.Blocks.{bytes-held, bytes-fit, bytes-parted, bytes-next, bytes-run}
 use Rattle.mover.proofs.elements.copy_run.Statement.{statement}
 use Rattle.mover.proofs.elements.copy_run.Tie as tie
@@ -26,20 +26,20 @@ room s = omega (arith, s .good)
 -- jump and stride are the size
 module _ (s : tie.Start) (e : s .args .jump ≡ s .args .size) (f : s .args .stride ≡ s .args .size) where
   from : Held (length (source s)) (s .args .at) (s .args .size) (s .args .size) (s .args .n)
-  from = subst (λ (j : ℕ). Held (length (source s)) (s .args .at) j (s .args .size) (s .args .n)) e (s .pre .1 .0)
+  from = subst (λ (j : ℕ). Held (length (source s)) (s .args .at) j (s .args .size) (s .args .n)) e (s .pre .1 .held)
 
   into : Held (length (s .args .dst .now)) (s .args .to) (s .args .size) (s .args .size) (s .args .n)
-  into = subst (λ (j : ℕ). Held (length (s .args .dst .now)) (s .args .to) j (s .args .size) (s .args .n)) f (s .pre .1 .1 .0)
+  into = subst (λ (j : ℕ). Held (length (s .args .dst .now)) (s .args .to) j (s .args .size) (s .args .n)) f (s .pre .0 .held)
 
   apart : Parted (s .args .origin) (s .args .at) (s .args .size) (s .args .to) (s .args .size) (s .args .size) (s .args .n)
   apart =
       subst (λ (j : ℕ). Parted (s .args .origin) (s .args .at) (s .args .size) (s .args .to) j (s .args .size) (s .args .n)) f
-      (subst (λ (j : ℕ). Parted (s .args .origin) (s .args .at) j (s .args .to) (s .args .stride) (s .args .size) (s .args .n)) e (s .pre .1 .1 .1))
+      (subst (λ (j : ℕ). Parted (s .args .origin) (s .args .at) j (s .args .to) (s .args .stride) (s .args .size) (s .args .n)) e (s .pre .1 .parted))
 
 bytes-requires : tie.Need-bytes-requires
 bytes-requires c κs =
     let s = c .before .before .before .before .before in
-    (s .pre .0, bytes-fit (length (source s)) (s .args .at) (s .args .size) (s .fits .at .fits) (long s) (s .args .n) (from s (c .before .before .if1 .taken) (c .before .if2 .taken)) (sized-one (s .pre .0)))
+    (s .pre .0 .sized, bytes-fit (length (source s)) (s .args .at) (s .args .size) (s .fits .at .fits) (long s) (s .args .n) (from s (c .before .before .if1 .taken) (c .before .if2 .taken)) (sized-some (s .args .size) (s .pre .0 .sized)))
 
 copy-each-requires : tie.Need-copy-each-requires
 copy-each-requires c κs =
@@ -47,16 +47,18 @@ copy-each-requires c κs =
     let a = s .args in
     let e = c .before .before .before .if1 .taken in
     let f = c .before .before .if2 .taken in
-    let p = sized-one (s .pre .0) in
+    let p = sized-some (s .args .size) (s .pre .0 .sized) in
     rw (c .bytes .ensures) (
-      inl refl,
-      (
-        bytes-held (length (source s)) (a .at) (a .size) (s .fits .at .fits) (long s) (a .n) (from s e f) p,
-        (
-          bytes-held (length (a .dst .now)) (a .to) (a .size) (s .fits .to .fits) (room s) (a .n) (into s e f) p,
-          bytes-parted (a .origin) (length (source s)) (length (a .dst .now)) (a .at) (a .to) (a .size) (a .n) (s .fits .at .fits) (s .fits .to .fits) (long s) (room s) p (from s e f) (into s e f) (apart s e f),
-        ),
-      ),
+      record {
+        sized = sized-one;
+        held = bytes-held (length (a .dst .now)) (a .to) (a .size) (s .fits .to .fits) (room s) (a .n) (into s e f) p;
+      },
+      record {
+        held = bytes-held (length (source s)) (a .at) (a .size) (s .fits .at .fits) (long s) (a .n) (from s e f) p;
+        parted =
+            bytes-parted (a .origin) (length (source s)) (length (a .dst .now)) (a .at) (a .to) (a .size) (a .n) (s .fits .at .fits) (s .fits .to .fits) (long s) (room s) p
+            (from s e f) (into s e f) (apart s e f);
+      },
     )
 
 returns : tie.Need-returns

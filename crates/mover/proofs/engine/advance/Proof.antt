@@ -1,5 +1,5 @@
 -- `mover::engine::advance` meets its contract. Each loop keeps `At`: the coordinates are those of element number from + done, the
--- elements before it are movedBy, and the places are its own. A loop's own start is another than the function's, so its invariant says that
+-- elements before it are movedBy, and the spots are its own. A loop's own start is another than the function's, so its invariant says that
 -- `At`, at whatever destination the function began with, holds now if it held where the loop began. Assumes nothing.
 use Prim.Native.Nat.{ℕ, _+_, _-_, _^_, _<_}
 use mathlib.Core.Path.{_≡_, ap, _∙_}
@@ -10,42 +10,46 @@ use native.Mathlib.Nat.{pos-of-ne-zero}
 use native.Mathlib.Omega.{arith}
 use borrow.Author.Needs.{needs}
 use lib.ListN.{length}
-use Rattle.mover.specs.declared.start.Spot.{Spot}
-use Rattle.mover.specs.Private.{axisKept, Alike, Ready, InExtents}
-use Rattle.mover.proofs.Runs.{source-long}
-use Rattle.mover.proofs.Turns.{At, Keeps, Over, start, turn-kept, turn-pad, run-from, run-into, run-parted, next-row, next-plane, next-block, at-spent, at-end, at-length, at-ready}
+use Rattle.mover.specs.declared.spots.Spots.{Spots}
+use Rattle.mover.specs.Private.Elements.{axisKept}
+use Rattle.mover.specs.Private.Ready.{Ready, InExtents}
+use Rattle.mover.proofs.Bytes.{source-long}
+use Rattle.mover.proofs.Turns.{At, Keeps, Over, start, run-writes, run-reads, turn, next-row, next-plane, next-block, at-spent, at-end, at-length, at-ready}
 use Rattle.mover.proofs.engine.advance.Statement.{statement}
 use Rattle.mover.proofs.engine.advance.Tie as tie
 
 abbrev Inv-loop3 : tie.InvT-loop3
-Inv-loop3 src dst₀ origin plan from budget e0 e1 e2 e3 c0 c1 c2 c3₀ block plane row to₀ at left₀ in0 in1 in2 dst c3 to left =
-    Keeps origin plan src from budget dst₀ c0 c1 c2 c3₀ left₀ block plane row to₀ at dst c0 c1 c2 c3 left block plane row to at
+Inv-loop3 src dst₀ origin plan from budget c0 c1 c2 c3₀ spots₀ left₀ in0 in1 in2 dst c3 spots left =
+    Keeps origin plan src from budget dst₀ c0 c1 c2 c3₀ left₀ spots₀ dst c0 c1 c2 c3 left spots
 
 abbrev μ-loop3 : tie.MeasureT-loop3
-μ-loop3 src dst₀ origin plan from budget e0 e1 e2 e3 c0 c1 c2 c3₀ block plane row to₀ at left₀ in0 in1 in2 dst c3 to left = e3 - c3
+μ-loop3 src dst₀ origin plan from budget c0 c1 c2 c3₀ spots₀ left₀ in0 in1 in2 dst c3 spots left = plan .d3 .extent - c3
 
 abbrev Inv-loop2 : tie.InvT-loop2
-Inv-loop2 src dst₀ origin plan from budget e0 e1 e2 e3 c0 c1 c2₀ c3₀ block plane row₀ to₀ at₀ left₀ in0 in1 dst c2 c3 row to at left =
-    Keeps origin plan src from budget dst₀ c0 c1 c2₀ c3₀ left₀ block plane row₀ to₀ at₀ dst c0 c1 c2 c3 left block plane row to at
+Inv-loop2 src dst₀ origin plan from budget c0 c1 c2₀ c3₀ spots₀ left₀ in0 in1 dst c2 c3 spots left =
+    Keeps origin plan src from budget dst₀ c0 c1 c2₀ c3₀ left₀ spots₀ dst c0 c1 c2 c3 left spots
 
 abbrev μ-loop2 : tie.MeasureT-loop2
-μ-loop2 src dst₀ origin plan from budget e0 e1 e2 e3 c0 c1 c2₀ c3₀ block plane row₀ to₀ at₀ left₀ in0 in1 dst c2 c3 row to at left = e2 - c2
+μ-loop2 src dst₀ origin plan from budget c0 c1 c2₀ c3₀ spots₀ left₀ in0 in1 dst c2 c3 spots left = plan .d2 .extent - c2
 
 abbrev Inv-loop : tie.InvT-loop
-Inv-loop src dst₀ origin plan from budget e0 e1 e2 e3 c0 c1₀ c2₀ c3₀ block plane₀ row₀ to₀ at₀ left₀ in0 dst c1 c2 c3 plane row to at left =
-    Keeps origin plan src from budget dst₀ c0 c1₀ c2₀ c3₀ left₀ block plane₀ row₀ to₀ at₀ dst c0 c1 c2 c3 left block plane row to at
+Inv-loop src dst₀ origin plan from budget c0 c1₀ c2₀ c3₀ spots₀ left₀ in0 dst c1 c2 c3 spots left =
+    Keeps origin plan src from budget dst₀ c0 c1₀ c2₀ c3₀ left₀ spots₀ dst c0 c1 c2 c3 left spots
 
 abbrev μ-loop : tie.MeasureT-loop
-μ-loop src dst₀ origin plan from budget e0 e1 e2 e3 c0 c1₀ c2₀ c3₀ block plane₀ row₀ to₀ at₀ left₀ in0 dst c1 c2 c3 plane row to at left = e1 - c1
+μ-loop src dst₀ origin plan from budget c0 c1₀ c2₀ c3₀ spots₀ left₀ in0 dst c1 c2 c3 spots left = plan .d1 .extent - c1
 
 abbrev Inv-all : tie.InvT-all
-Inv-all src dst₀ origin plan from budget e0 e1 e2 e3 c0₀ c1₀ c2₀ c3₀ block₀ plane₀ row₀ to₀ at₀ left₀ dst c0 c1 c2 c3 block plane row to at left =
-    Keeps origin plan src from budget dst₀ c0₀ c1₀ c2₀ c3₀ left₀ block₀ plane₀ row₀ to₀ at₀ dst c0 c1 c2 c3 left block plane row to at
+Inv-all src dst₀ origin plan from budget c0₀ c1₀ c2₀ c3₀ spots₀ left₀ dst c0 c1 c2 c3 spots left =
+    Keeps origin plan src from budget dst₀ c0₀ c1₀ c2₀ c3₀ left₀ spots₀ dst c0 c1 c2 c3 left spots
 
 abbrev μ-all : tie.MeasureT-all
-μ-all src dst₀ origin plan from budget e0 e1 e2 e3 c0₀ c1₀ c2₀ c3₀ block₀ plane₀ row₀ to₀ at₀ left₀ dst c0 c1 c2 c3 block plane row to at left = e0 - c0
+μ-all src dst₀ origin plan from budget c0₀ c1₀ c2₀ c3₀ spots₀ left₀ dst c0 c1 c2 c3 spots left = plan .d0 .extent - c0
 
--- the places of the code, by loop: where a loop's test is reached, and inside it
+-- the places of the code: where a loop's test is reached, inside the innermost, and from each the one outside it
+abbrev Begun : Type 0
+Begun = tie.Start Inv-loop3 μ-loop3 Inv-loop2 μ-loop2 Inv-loop μ-loop Inv-all μ-all
+
 abbrev AtAll : Type 0
 AtAll = tie.At-all Inv-loop3 μ-loop3 Inv-loop2 μ-loop2 Inv-loop μ-loop Inv-all μ-all
 
@@ -59,63 +63,82 @@ abbrev AtLoop3 : Type 0
 AtLoop3 = tie.At-loop3 Inv-loop3 μ-loop3 Inv-loop2 μ-loop2 Inv-loop μ-loop Inv-all μ-all
 
 abbrev InLoop3 : Type 0
-InLoop3 = tie.In-loop3 Inv-loop3 μ-loop3 Inv-loop2 μ-loop2 Inv-loop μ-loop Inv-all μ-all
+InLoop3 = tie.Then4 Inv-loop3 μ-loop3 Inv-loop2 μ-loop2 Inv-loop μ-loop Inv-all μ-all
 
-abbrev AtRun : Type 0
-AtRun = tie.After-run-at Inv-loop3 μ-loop3 Inv-loop2 μ-loop2 Inv-loop μ-loop Inv-all μ-all
+abbrev begun : AtAll → Begun
+begun c = c .before .before .before .before .before
 
-abbrev Begun : Type 0
-Begun = tie.Start Inv-loop3 μ-loop3 Inv-loop2 μ-loop2 Inv-loop μ-loop Inv-all μ-all
+abbrev all-of : AtLoop → AtAll
+all-of c = c .before .before .before .before
 
-abbrev start-of : AtAll → Begun
-start-of c = c .before .before .before .before .before .before .before
+abbrev loop-of : AtLoop2 → AtLoop
+loop-of c = c .before .before .before .before
 
-abbrev all-of : InLoop3 → AtAll
-all-of c = c .before .before .before .before .before .before .before .before .before .before
+abbrev loop2-of : AtLoop3 → AtLoop2
+loop2-of c = c .before .before .before .before
+
+abbrev loop3-of : InLoop3 → AtLoop3
+loop3-of c = c .before .before
+
+-- the function's start, from each
+abbrev begun1 : AtLoop → Begun
+begun1 c = begun (all-of c)
+
+abbrev begun2 : AtLoop2 → Begun
+begun2 c = begun1 (loop-of c)
+
+abbrev begun3 : AtLoop3 → Begun
+begun3 c = begun2 (loop2-of c)
 
 -- where the loops stand, from the destination that the function began with
-abbrev Now : Begun → List ℕ → ℕ → ℕ → ℕ → ℕ → ℕ → Spot → Spot → Spot → ℕ → ℕ → Type 0
-Now s d c0 c1 c2 c3 left block plane row to at =
-    At (s .args .origin) (s .args .plan) (s .args .src .now) (s .args .dst .now) (s .args .from) (s .args .budget) d c0 c1 c2 c3 left block plane row to at
+abbrev Now : Begun → List ℕ → ℕ → ℕ → ℕ → ℕ → ℕ → Spots → Type 0
+Now s d c0 c1 c2 c3 left spots =
+    At (s .args .origin) (s .args .plan) (s .args .src .now) (s .args .dst .now) (s .args .from) (s .args .budget) d c0 c1 c2 c3 left spots
 
-at-all : (c : AtAll) → let a = c .all in Now (start-of c) (a .dst) (a .c0) (a .c1) (a .c2) (a .c3) (a .left) (a .block) (a .plane) (a .row) (a .to) (a .at)
+at-all : (c : AtAll) → let a = c .all in Now (begun c) (a .dst) (a .c0) (a .c1) (a .c2) (a .c3) (a .left) (a .spots)
 at-all c =
-    let s = start-of c in
+    let s = begun c in
     c .all .inv (s .args .dst .now)
-    (start (s .args .origin) (s .args .plan) (s .args .src .now) (s .args .dst .now) (s .args .from) (s .args .budget) (s .pre .0) (s .pre .1) (c .before .before .before .before .begin .ensures))
+    (start (s .args .origin) (s .args .plan) (s .args .src .now) (s .args .dst .now) (s .args .from) (s .args .budget) (s .pre .0) (s .pre .1) (c .before .before .begin .ensures))
 
-at-loop : (c : AtLoop) → let l = c .before .before .before in let a = c .loop in Now (start-of l) (a .dst) (l .all .c0) (a .c1) (a .c2) (a .c3) (a .left) (l .all .block) (a .plane) (a .row) (a .to) (a .at)
-at-loop c = let l = c .before .before .before in c .loop .inv (start-of l .args .dst .now) (at-all l)
+at-loop : (c : AtLoop) → let a = c .loop in Now (begun1 c) (a .dst) (all-of c .all .c0) (a .c1) (a .c2) (a .c3) (a .left) (a .spots)
+at-loop c = c .loop .inv (begun1 c .args .dst .now) (at-all (all-of c))
 
-at-loop2 : (c : AtLoop2) → let k = c .before .before .before in let l = k .before .before .before in let a = c .loop2 in Now (start-of l) (a .dst) (l .all .c0) (k .loop .c1) (a .c2) (a .c3) (a .left) (l .all .block) (k .loop .plane) (a .row) (a .to) (a .at)
-at-loop2 c = let k = c .before .before .before in c .loop2 .inv (start-of (k .before .before .before) .args .dst .now) (at-loop k)
+at-loop2 : (c : AtLoop2) → let k = loop-of c in let a = c .loop2 in Now (begun2 c) (a .dst) (all-of k .all .c0) (k .loop .c1) (a .c2) (a .c3) (a .left) (a .spots)
+at-loop2 c = c .loop2 .inv (begun2 c .args .dst .now) (at-loop (loop-of c))
 
-at-loop3 : (c : AtLoop3) → let j = c .before .before .before in let k = j .before .before .before in let l = k .before .before .before in let a = c .loop3 in Now (start-of l) (a .dst) (l .all .c0) (k .loop .c1) (j .loop2 .c2) (a .c3) (a .left) (l .all .block) (k .loop .plane) (j .loop2 .row) (a .to) (j .loop2 .at)
-at-loop3 c = let j = c .before .before .before in c .loop3 .inv (start-of (j .before .before .before .before .before .before) .args .dst .now) (at-loop2 j)
+at-loop3 : (c : AtLoop3) → let j = loop2-of c in let k = loop-of j in let a = c .loop3 in Now (begun3 c) (a .dst) (all-of k .all .c0) (k .loop .c1) (j .loop2 .c2) (a .c3) (a .left) (a .spots)
+at-loop3 c = c .loop3 .inv (begun3 c .args .dst .now) (at-loop2 (loop2-of c))
 
 -- in the innermost loop the coordinates are those of an element, and what a run asks holds
-within : (c : InLoop3) → let j = c .before .before .before .before in let k = j .before .before .before in let l = all-of c in InExtents (start-of l .args .plan) (l .all .c0) (k .loop .c1) (j .loop2 .c2) (c .before .loop3 .c3)
+within : (c : InLoop3) → let l = loop3-of c in let j = loop2-of l in let k = loop-of j in InExtents (begun3 l .args .plan) (all-of k .all .c0) (k .loop .c1) (j .loop2 .c2) (l .loop3 .c3)
 within c =
-    record { in0 = c .before .before .before .before .before .before .before .before .before .all-test .taken; in1 = c .before .before .before .before .before .before .loop-test .taken; in2 = c .before .before .before .loop2-test .taken; in3 = c .loop3-test .taken }
+    let l = loop3-of c in
+    let j = loop2-of l in
+    let k = loop-of j in
+    record { in0 = k .before .before .if1 .taken; in1 = j .before .before .if2 .taken; in2 = l .before .before .if3 .taken; in3 = c .if4 .taken }
 
-ready : (c : InLoop3) → let a = start-of (all-of c) .args in Ready (a .origin) (a .plan) (a .src .now) (c .before .loop3 .dst)
-ready c = at-ready (at-loop3 (c .before)) (start-of (all-of c) .pre .0)
+ready : (c : AtLoop3) → let a = begun3 c .args in Ready (a .origin) (a .plan) (a .src .now) (c .loop3 .dst)
+ready c = at-ready (at-loop3 c) (begun3 c .pre .0)
 
-long : (c : InLoop3) → length (start-of (all-of c) .args .src .now) + length (c .before .loop3 .dst) < 2 ^ 64
-long c = omega (arith, start-of (all-of c) .good, at-length (at-loop3 (c .before)))
+long : (c : AtLoop3) → length (begun3 c .args .src .now) + length (c .loop3 .dst) < 2 ^ 64
+long c = omega (arith, begun3 c .good, at-length (at-loop3 c))
 
 -- whether the outer coordinates are kept
-outer : (c : InLoop3) → let p = start-of (all-of c) .args .plan in c .before .before .kept3 .result ≡ (axisKept (p .d0) (all-of c .all .c0) && axisKept (p .d1) (c .before .before .before .before .before .before .before .loop .c1) && axisKept (p .d2) (c .before .before .before .before .loop2 .c2))
+outer : (c : AtLoop3) → let j = loop2-of c in let k = loop-of j in let p = begun3 c .args .plan in
+    c .before .kept3 .result ≡ (axisKept (p .d0) (all-of k .all .c0) && axisKept (p .d1) (k .loop .c1) && axisKept (p .d2) (j .loop2 .c2))
 outer c =
-    let p = start-of (all-of c) .args .plan in
-    c .before .before .kept3 .ensures
-    ∙ ap (λ (x : Bool). x && axisKept (p .d2) (c .before .before .before .before .loop2 .c2)) (c .before .before .before .before .before .kept2 .ensures ∙ ap (λ (x : Bool). x && axisKept (p .d1) (c .before .before .before .before .before .before .before .loop .c1)) (c .before .before .before .before .before .before .before .before .kept .ensures))
+    let j = loop2-of c in
+    let k = loop-of j in
+    let p = begun3 c .args .plan in
+    c .before .kept3 .ensures
+    ∙ ap (λ (x : Bool). x && axisKept (p .d2) (j .loop2 .c2)) (j .before .kept2 .ensures ∙ ap (λ (x : Bool). x && axisKept (p .d1) (k .loop .c1)) (k .before .kept .ensures))
 
 begin-requires : tie.Need-begin-requires Inv-loop3 μ-loop3 Inv-loop2 μ-loop2 Inv-loop μ-loop Inv-all μ-all
 begin-requires c κs =
     let s = c .before .before in
     let r = s .pre .0 in (
-      ((r .sound0, r .sound1), (r .sound2, r .sound3)),
+      r .axes,
       (
         (omega (arith, r .span, source-long (s .args .origin) (s .args .src .now) (s .args .dst .now), s .good), omega (arith, r .need, s .good)),
         s .pre .1,
@@ -124,91 +147,64 @@ begin-requires c κs =
 
 run-at-requires : tie.Need-run-at-requires Inv-loop3 μ-loop3 Inv-loop2 μ-loop2 Inv-loop μ-loop Inv-all μ-all
 run-at-requires c κs =
-    (ready (c .before) .sound3 .row, (c .before .loop3-test .taken, pos-of-ne-zero (c .if1 .left)))
+    (ready (loop3-of (c .before)) .axes .in3 .row, (c .before .if4 .taken, pos-of-ne-zero (c .if5 .left)))
 
 add-c3 : tie.Need-add-c3 Inv-loop3 μ-loop3 Inv-loop2 μ-loop2 Inv-loop μ-loop Inv-all μ-all
 add-c3 c =
-    let i = c .before .before .before in
-    omega (arith, c .before .run-at .ensures .row, start-of (all-of i) .good .1 .1 .1)
+    let u = c .before in
+    omega (arith, u .run-at .ensures .row, begun3 (loop3-of (u .before .before)) .good)
 
-sub-left : tie.Need-sub-left Inv-loop3 μ-loop3 Inv-loop2 μ-loop2 Inv-loop μ-loop Inv-all μ-all
-sub-left c = c .before .before .run-at .ensures .fund
-
-copy-run-requires : tie.Need-copy-run-requires Inv-loop3 μ-loop3 Inv-loop2 μ-loop2 Inv-loop μ-loop Inv-all μ-all
-copy-run-requires c κs =
-    let u = c .before .before .before .before in
+move-run-requires : tie.Need-move-run-requires Inv-loop3 μ-loop3 Inv-loop2 μ-loop2 Inv-loop μ-loop Inv-all μ-all
+move-run-requires c κs =
+    let u = c .before .before .before in
     let i = u .before .before in
-    let a = at-loop3 (i .before) in
-    let t = c .before .if2 .taken in (
-      ready i .sized,
-      (
-        run-from a (ready i) (long i) (within i) (outer i) (u .run-at .ensures) t,
-        (
-          run-into a (ready i) (long i) (within i) (outer i) (u .run-at .ensures),
-          run-parted a (ready i) (long i) (within i) (outer i) (u .run-at .ensures) t,
-        ),
-      ),
+    let l = loop3-of i in
+    let a = at-loop3 l in (
+      run-writes a (ready l) (long l) (within i) (outer l) (u .run-at .ensures),
+      run-reads a (ready l) (long l) (within i) (outer l) (u .run-at .ensures),
     )
 
 loop3-less : tie.Need-loop3-less Inv-loop3 μ-loop3 Inv-loop2 μ-loop2 Inv-loop μ-loop Inv-all μ-all
 loop3-less c =
-    let u = c .before .before .before .before .before .before .before in
-    omega (arith, u .run-at .ensures .some, u .before .before .loop3-test .taken)
+    let u = c .before .before .before .before .before .before in
+    omega (arith, u .run-at .ensures .some, u .before .before .if4 .taken)
 
 loop3-again : tie.Need-loop3-again Inv-loop3 μ-loop3 Inv-loop2 μ-loop2 Inv-loop μ-loop Inv-all μ-all
 loop3-again c =
     let m = c .before .before in
-    let u = m .before .before .before .before .before in
+    let u = m .before .before .before .before in
     let i = u .before .before in
-    λ d₀ a. turn-kept (i .before .loop3 .inv d₀ a) (ready i) (long i) (within i) (outer i) (u .run-at .ensures) (m .before .before .if2 .taken) (m .copy-run .ensures)
-
-clear-run-requires : tie.Need-clear-run-requires Inv-loop3 μ-loop3 Inv-loop2 μ-loop2 Inv-loop μ-loop Inv-all μ-all
-clear-run-requires c κs =
-    let u = c .before .before .before .before in
-    let i = u .before .before in
-    (ready i .sized, run-into (at-loop3 (i .before)) (ready i) (long i) (within i) (outer i) (u .run-at .ensures))
-
-loop3-less-2 : tie.Need-loop3-less-2 Inv-loop3 μ-loop3 Inv-loop2 μ-loop2 Inv-loop μ-loop Inv-all μ-all
-loop3-less-2 c =
-    let u = c .before .before .before .before .before .before .before in
-    omega (arith, u .run-at .ensures .some, u .before .before .loop3-test .taken)
-
-loop3-again-2 : tie.Need-loop3-again-2 Inv-loop3 μ-loop3 Inv-loop2 μ-loop2 Inv-loop μ-loop Inv-all μ-all
-loop3-again-2 c =
-    let m = c .before .before in
-    let u = m .before .before .before .before .before in
-    let i = u .before .before in
-    λ d₀ a. turn-pad (i .before .loop3 .inv d₀ a) (ready i) (long i) (within i) (outer i) (u .run-at .ensures) (m .before .before .if2 .left) (m .clear-run .ensures)
+    let l = loop3-of i in
+    λ d₀ a. turn (l .loop3 .inv d₀ a) (ready l) (long l) (within i) (outer l) (u .run-at .ensures) (m .move-run .ensures)
 
 loop2-again : tie.Need-loop2-again Inv-loop3 μ-loop3 Inv-loop2 μ-loop2 Inv-loop μ-loop Inv-all μ-all
 loop2-again c =
-    let l = c .before .before in
-    let j = l .before .before in
-    λ d₀ a. next-row (l .loop3 .inv d₀ (j .before .loop2 .inv d₀ a)) (j .before .before .before .loop-test .taken) (j .loop2-test .taken) (c .before .loop3-test .left) (c .onward .ensures)
+    let l = c .before .before .before in
+    let j = loop2-of l in
+    λ d₀ a. next-row (l .loop3 .inv d₀ (j .loop2 .inv d₀ a)) (j .before .before .if2 .taken) (l .before .before .if3 .taken) (c .before .if4 .left) (c .next-row .ensures)
 
 loop-again : tie.Need-loop-again Inv-loop3 μ-loop3 Inv-loop2 μ-loop2 Inv-loop μ-loop Inv-all μ-all
 loop-again c =
-    let l = c .before .before in
-    let j = l .before .before in
-    λ d₀ a. next-plane (l .loop2 .inv d₀ (j .before .loop .inv d₀ a)) (j .loop-test .taken) (c .before .loop2-test .left) (c .onward2 .ensures)
+    let j = c .before .before .before in
+    let k = loop-of j in
+    λ d₀ a. next-plane (j .loop2 .inv d₀ (k .loop .inv d₀ a)) (j .before .before .if2 .taken) (c .before .if3 .left) (c .next-plane .ensures)
 
 all-again : tie.Need-all-again Inv-loop3 μ-loop3 Inv-loop2 μ-loop2 Inv-loop μ-loop Inv-all μ-all
 all-again c =
-    let l = c .before .before in
-    let j = l .before .before in
-    λ d₀ a. next-block (l .loop .inv d₀ (j .before .all .inv d₀ a)) (c .before .loop-test .left) (c .onward3 .ensures)
+    let k = c .before .before .before in
+    λ d₀ a. next-block (k .loop .inv d₀ (all-of k .all .inv d₀ a)) (c .before .if2 .left) (c .next-block .ensures)
 
 -- where the ways out of the loops meet: at the end of the outermost, and by the label
-over : (c : tie.Left-all Inv-loop3 μ-loop3 Inv-loop2 μ-loop2 Inv-loop μ-loop Inv-all μ-all) → let a = start-of (c .before) .args in Over (a .origin) (a .plan) (a .src .now) (a .dst .now) (a .from) (a .budget) (c .all-test .dst) (c .all-test .left)
+over : (c : tie.Joined1 Inv-loop3 μ-loop3 Inv-loop2 μ-loop2 Inv-loop μ-loop Inv-all μ-all) → let a = begun (c .before .before) .args in Over (a .origin) (a .plan) (a .src .now) (a .dst .now) (a .from) (a .budget) (c .if1 .dst) (c .if1 .left)
 over c =
     ⊎-elim
-    (λ w. rw (w .1, w .7) (at-end (at-all (c .before)) (w .0 .left)))
+    (λ w. rw (w .1, w .5) (at-end (at-all (c .before .before)) (w .0 .left)))
     (λ w.
-    let l1 : AtLoop = record { before = record { before = record { before = c .before; all-test = w .0 }; kept = w .1 }; loop = w .2 } in
-    let l2 : AtLoop2 = record { before = record { before = record { before = l1; loop-test = w .3 }; kept2 = w .4 }; loop2 = w .5 } in
-    let l3 : AtLoop3 = record { before = record { before = record { before = l2; loop2-test = w .6 }; kept3 = w .7 }; loop3 = w .8 } in
-    rw (w .11, w .17) (at-spent (at-loop3 l3) (w .10 .taken)))
-    (c .all-test .came)
+    let l1 : AtLoop = record { before = record { before = record { before = c .before; if1 = w .0 }; kept = w .1 }; loop = w .2 } in
+    let l2 : AtLoop2 = record { before = record { before = record { before = record { before = l1; struct-known2 = w .3 }; if2 = w .4 }; kept2 = w .5 }; loop2 = w .6 } in
+    let l3 : AtLoop3 = record { before = record { before = record { before = record { before = l2; struct-known3 = w .7 }; if3 = w .8 }; kept3 = w .9 }; loop3 = w .10 } in
+    rw (w .14, w .18) (at-spent (at-loop3 l3) (w .13 .taken)))
+    (c .if1 .came)
 
 pub advance-spec : {M : Type 1} → statement M
 advance-spec =
@@ -232,24 +228,21 @@ advance-spec =
     (λ c d a. a)
     run-at-requires
     add-c3
-    sub-left
-    copy-run-requires
+    (λ c. c .before .before .run-at .ensures .cut)
+    move-run-requires
     loop3-less
     loop3-again
-    clear-run-requires
-    loop3-less-2
-    loop3-again-2
-    (λ c. omega (arith, c .before .before .before .loop2-test .taken, start-of (c .before .before .before .before .before .before .before .before .before .before) .good .1 .1 .1))
+    (λ c. let l = c .before .before in omega (arith, l .before .before .if3 .taken, begun3 l .good))
     (λ c κs. search needs)
-    (λ c. omega arith)
+    (λ c. omega (arith, c .before .before .before .before .before .if3 .taken))
     loop2-again
-    (λ c. omega (arith, c .before .before .before .loop-test .taken, start-of (c .before .before .before .before .before .before .before) .good .1 .1 .1))
+    (λ c. let j = c .before .before in omega (arith, j .before .before .if2 .taken, begun2 j .good))
     (λ c κs. search needs)
-    (λ c. omega arith)
+    (λ c. omega (arith, c .before .before .before .before .before .if2 .taken))
     loop-again
-    (λ c. omega (arith, c .before .before .before .all-test .taken, start-of (c .before .before .before .before) .good .1 .1 .1))
+    (λ c. let k = c .before .before in omega (arith, k .before .before .if1 .taken, begun1 k .good))
     (λ c κs. search needs)
-    (λ c. omega arith)
+    (λ c. omega (arith, c .before .before .before .before .before .if1 .taken))
     all-again
     (λ c. over c .fund)
     (λ c. over c .kept)

@@ -4,7 +4,8 @@ use mathlib.Core.List.{[]}
 use native.Mathlib.Omega.{arith}
 use borrow.Author.Needs.{needs}
 use lib.ListN.{length}
-use Rattle.mover.specs.Private.{placedAt, planTotal}
+use Rattle.mover.specs.Private.Elements.{planTotal}
+use Rattle.mover.specs.Private.Ready.{placedAt}
 use Rattle.mover.proofs.Parts.{placed-fits, placed-ready, placed-written}
 use Rattle.mover.proofs.engine.advance_within.Statement.{statement}
 use Rattle.mover.proofs.engine.advance_within.Tie as tie

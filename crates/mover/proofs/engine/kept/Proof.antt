@@ -1,6 +1,6 @@
 -- `mover::engine::kept` compares a coordinate with the padding and the count. Assumes nothing.
 use borrow.Author.Tests.{le-leb, lt-leb}
-use Rattle.mover.specs.Private.{axisKept}
+use Rattle.mover.specs.Private.Elements.{axisKept}
 use Rattle.mover.proofs.engine.kept.Statement.{statement}
 use Rattle.mover.proofs.engine.kept.Tie as tie
 

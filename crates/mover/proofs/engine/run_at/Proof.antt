@@ -1,7 +1,7 @@
 -- `mover::engine::run_at` finds where what is kept, or the padding, ends. Assumes nothing.
 use mathlib.Core.Logic.{⊎-elim, inl, inr}
 use borrow.Author.Needs.{needs}
-use Rattle.mover.proofs.Steps.{run-before, run-kept, run-behind}
+use Rattle.mover.proofs.Runs.{run-before, run-kept, run-behind}
 use Rattle.mover.proofs.engine.run_at.Statement.{statement}
 use Rattle.mover.proofs.engine.run_at.Tie as tie
 

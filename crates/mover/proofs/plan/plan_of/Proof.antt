@@ -1,7 +1,7 @@
 -- `mover::plan::plan_of` makes the plan of an accepted move. Assumes nothing.
 use native.Mathlib.Omega.{arith}
 use borrow.Author.Needs.{needs}
-use Rattle.mover.specs.Private.{Fit}
+use Rattle.mover.specs.Private.Plans.{Fit}
 use Rattle.mover.proofs.Making.{answer-fit, room-strides, axis-is, plan-is}
 use Rattle.mover.proofs.plan.plan_of.Statement.{statement}
 use Rattle.mover.proofs.plan.plan_of.Tie as tie

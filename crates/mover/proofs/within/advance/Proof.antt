@@ -5,7 +5,7 @@ use borrow.Author.Needs.{needs}
 use lib.ListN.{length}
 use Rattle.plane.specs.Moves.{roomFault, accepted}
 use Rattle.mover.specs.Within.{totalOf}
-use Rattle.mover.specs.Private.{planTotal}
+use Rattle.mover.specs.Private.Elements.{planTotal}
 use Rattle.mover.proofs.Laws.{source-fits, destination-fits, job-apart}
 use Rattle.mover.proofs.Making.{answer-fit}
 use Rattle.mover.proofs.Judged.{total-is, job-clear, job-accepted, advance-refused, advance-past, advance-ready, advance-from, advance-written}

@@ -1,9 +1,9 @@
--- `mover::engine::onward` adds a stride, and a jump between two coordinates that are kept. Assumes nothing.
+-- `mover::spots::onward` adds a stride, and a jump between two coordinates that are kept. Assumes nothing.
 use borrow.Author.Needs.{needs}
 use borrow.Author.Tests.{lt-ltb, le-ltb}
-use Rattle.mover.specs.Private.{onwardOf}
-use Rattle.mover.proofs.engine.onward.Statement.{statement}
-use Rattle.mover.proofs.engine.onward.Tie as tie
+use Rattle.mover.specs.Private.Steps.{onwardOf}
+use Rattle.mover.proofs.spots.onward.Statement.{statement}
+use Rattle.mover.proofs.spots.onward.Tie as tie
 
 returns : tie.Need-returns
 unfolding onwardOf

@@ -12,9 +12,10 @@ use lib.Seq.{length-sets, ext-getD, getD-take, getD-drop}
 use Rattle.mover.specs.declared.plan.Plan.{Plan}
 use Rattle.mover.specs.declared.elements.Origin.{Origin}
 use Rattle.mover.specs.declared.elements.Origin.the-variants.{Lent, Inside}
-use Rattle.mover.specs.Private.{sourceBytes, planKept, placeOf, homeOf, planBytes, putAt, co0, co1, co2, co3, putNumber, planTotal, movedBy, placeEnd, Ready, InExtents}
-use Rattle.mover.proofs.Runs.{getD-sets-out, length-take-most}
-use Rattle.mover.proofs.Places.{place-least, place-most, home-least, home-most, extent-some}
+use Rattle.mover.specs.Private.Elements.{sourceBytes, planKept, placeOf, homeOf, planBytes, putAt, co0, co1, co2, co3, putNumber, planTotal, movedBy}
+use Rattle.mover.specs.Private.Ready.{placeEnd, GoodAxes, Ready, InExtents}
+use Rattle.mover.proofs.Bytes.{getD-sets-out, length-take-most}
+use Rattle.mover.proofs.Places.{place-least, place-most, home-least, home-most, axis-some}
 
 -- ---- movedBy
 
@@ -97,6 +98,13 @@ module _ (p : Plan) (h1 : 0 < p .d1 .extent) (h2 : 0 < p .d2 .extent) (h3 : 0 < 
         in3 = s .in3;
       }
 
+module _ (p : Plan) (g : GoodAxes p) where
+  pub spread-good : (q : ℕ) → Spread p q
+  spread-good = spread p (axis-some (g .in1)) (axis-some (g .in2)) (axis-some (g .in3))
+
+  pub within-good : (q : ℕ) → q < planTotal p → InExtents p (co0 p q) (co1 p q) (co2 p q) (co3 p q)
+  within-good = spread-within p (axis-some (g .in1)) (axis-some (g .in2)) (axis-some (g .in3))
+
 -- ---- bytes that no element holds
 
 module _ (p : Plan) (s : List ℕ) where
@@ -118,14 +126,13 @@ module _ (p : Plan) (s : List ℕ) where
       getD-sets-out (planBytes p s c0 c1 c2 c3) d (placeOf p c0 c1 c2 c3) k
       (⊎-elim (λ u. inl (omega arith)) (λ v. inr (omega arith)) h)
 
-  module _ (h1 : 0 < p .d1 .extent) (h2 : 0 < p .d2 .extent) (h3 : 0 < p .d3 .extent) where
-    pub moved-out : (from n : ℕ) (d : List ℕ) (k : ℕ) → from + n ≤ planTotal p → (k < p .base) ⊎ (placeEnd p ≤ k)
-        → getD (movedBy p s from n d) k 0 ≡ getD d k 0
-    unfolding movedBy putNumber
-    moved-out from zero d k m h = refl
-    moved-out from (suc n) d k m h =
-        put-out (movedBy p s from n d) k (spread-within p h1 h2 h3 (from + n) (omega arith)) h
-        ∙ moved-out from n d k (omega arith) h
+  pub moved-out : GoodAxes p → (from n : ℕ) (d : List ℕ) (k : ℕ) → from + n ≤ planTotal p → (k < p .base) ⊎ (placeEnd p ≤ k)
+      → getD (movedBy p s from n d) k 0 ≡ getD d k 0
+  unfolding movedBy putNumber
+  moved-out g from zero d k m h = refl
+  moved-out g from (suc n) d k m h =
+      put-out (movedBy p s from n d) k (within-good p g (from + n) (omega arith)) h
+      ∙ moved-out g from n d k (omega arith) h
 
 -- lists of one length that agree over a run have it in common
 pub run-same : (l m : List ℕ) (at z : ℕ) → length l ≡ length m → ((k : ℕ) → at ≤ k → k < at + z → getD l k 0 ≡ getD m k 0)
@@ -153,5 +160,5 @@ source-same Inside p s d from n c0 c1 c2 c3 r m =
     let b = home-most p c0 c1 c2 c3 t in
     run-same (movedBy p d from n d) d (homeOf p c0 c1 c2 c3) (p .size) (length-moved p d from n d)
     (λ k u v.
-    moved-out p d (extent-some (r .sound1)) (extent-some (r .sound2)) (extent-some (r .sound3)) from n d k m
+    moved-out p d (r .axes) from n d k m
     (⊎-elim (λ x. inl (omega arith)) (λ y. inr (omega arith)) (r .apart))))

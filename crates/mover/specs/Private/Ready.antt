@@ -1,0 +1,83 @@
+-- What the checks establish of a plan and the bytes that it is made over, and a move within one memory.
+use mathlib.Core.Logic.{_⊎_}
+use mathlib.Core.List.{List}
+use Prim.Native.Nat.{ℕ, _+_, _-_, _≤_, _<_}
+use lib.ListN.{length, take, drop}
+use lib.Seq.{sets}
+use Rattle.mover.specs.declared.Part.{Part}
+use Rattle.mover.specs.declared.plan.Axis.{Axis}
+use Rattle.mover.specs.declared.plan.Plan.{Plan}
+use Rattle.mover.specs.declared.elements.Origin.{Origin}
+use Rattle.mover.specs.declared.elements.Origin.the-variants.{Inside}
+use Rattle.mover.specs.Within.{bytesOf}
+use Rattle.mover.specs.Private.Elements.{sourceBytes, stepped, movedBy}
+use Rattle.mover.specs.Private.Runs.{Sized, BytesApart}
+
+-- past the last byte of a source element that can be kept, and of a destination element
+unfoldable pub homeEnd : Plan → ℕ
+homeEnd p =
+    stepped (p .home)
+    (p .d0 .count - 1) (p .d0 .jump) (p .d1 .count - 1) (p .d1 .jump)
+    (p .d2 .count - 1) (p .d2 .jump) (p .d3 .count - 1) (p .d3 .jump)
+    + p .size
+
+unfoldable pub placeEnd : Plan → ℕ
+placeEnd p =
+    stepped (p .base)
+    (p .d0 .extent - 1) (p .d0 .stride) (p .d1 .extent - 1) (p .d1 .stride)
+    (p .d2 .extent - 1) (p .d2 .stride) (p .d3 .extent - 1) (p .d3 .stride)
+    + p .size
+
+-- something of a dimension is kept, and lies in its extent
+pub record GoodAxis (x : Axis) : Type 0 where
+  pub some : 0 < x .count
+  pub row : x .pre + x .count ≤ x .extent
+
+pub record GoodAxes (p : Plan) : Type 0 where
+  pub in0 : GoodAxis (p .d0)
+  pub in1 : GoodAxis (p .d1)
+  pub in2 : GoodAxis (p .d2)
+  pub in3 : GoodAxis (p .d3)
+
+pub record Ready (o : Origin) (p : Plan) (s d : List ℕ) : Type 0 where
+  pub sized : Sized (p .size)
+  pub axes : GoodAxes p
+  pub span : homeEnd p ≤ length (sourceBytes o s d)
+  pub need : placeEnd p ≤ length d
+  pub apart : BytesApart o (p .home) (homeEnd p) (p .base) (placeEnd p)
+
+pub record InExtents (p : Plan) (c0 c1 c2 c3 : ℕ) : Type 0 where
+  pub in0 : c0 < p .d0 .extent
+  pub in1 : c1 < p .d1 .extent
+  pub in2 : c2 < p .d2 .extent
+  pub in3 : c3 < p .d3 .extent
+
+-- ---- a move within one memory
+
+-- a part lies in a memory, and two parts share no byte
+abbrev pub LiesIn : Part → List ℕ → Type 0
+LiesIn p m = p .start + p .length ≤ length m
+
+abbrev pub PartsApart : Part → Part → Type 0
+PartsApart p q = BytesApart Inside (p .start) (p .start + p .length) (q .start) (q .start + q .length)
+
+-- the memory m with n elements moved from its part s to its part d
+abbrev pub movedWithin : Plan → Part → Part → List ℕ → ℕ → ℕ → List ℕ
+movedWithin p s d m from n = sets m (d .start) (movedBy p (bytesOf s m) from n (bytesOf d m))
+
+-- the l bytes of m from a on. (`sets m b e` is m with the bytes from b on replaced by e.)
+abbrev pub stretch : List ℕ → ℕ → ℕ → List ℕ
+stretch m a l = take l (drop a m)
+
+-- the plan of a move between parts of one memory that start at a and b
+unfoldable pub placedAt : ℕ → ℕ → Plan → Plan
+placedAt a b p =
+    record {
+      size = p .size;
+      home = a + p .home;
+      base = b + p .base;
+      d0 = p .d0;
+      d1 = p .d1;
+      d2 = p .d2;
+      d3 = p .d3;
+    }
