@@ -1,8 +1,9 @@
 -- Places by steps, as 64 bits count them, and spots: one step further, and where the sums fit. Assumes nothing.
 use mathlib.Core.Path.{_≡_, refl, sym, ap, _∙_}
 use mathlib.Core.Bool.{cond, true, _&&_}
-use Prim.Native.Nat.{ℕ, _+_, _-_, _*_, _%_, _^_, min, _≤_, _<_}
-use native.Mathlib.Nat.{zero-mul, zero-sub, zero-min, one-mul, add-zero, add-assoc, add-mul, mod-lt, mod-add-mod, mod-eq-of-lt, min-eq-left, min-le-right}
+use Prim.Native.Nat.{ℕ, zero, suc, _+_, _-_, _*_, _%_, _^_, min, _≤_, _<_}
+use native.Mathlib.Numerals.{add-one}
+use native.Mathlib.Nat.{zero-mul, suc-mul, sub-zero, zero-sub, zero-min, one-mul, add-zero, add-assoc, add-mul, mod-lt, mod-add-mod, mod-eq-of-lt, min-eq-left, min-le-right}
 use native.Mathlib.Decide.{decLt}
 use native.Mathlib.Omega.{arith}
 use borrow.Author.Tests.{lt-ltb, le-ltb}
@@ -32,6 +33,14 @@ module _ (a j : ℕ) where
   pub along-on : (k n : ℕ) → along (along a j k) j n ≡ along a j (k + n)
   unfolding along
   along-on k n = mod-add-mod (a + k * j) (2 ^ 64) (n * j) ∙ ap (λ (y : ℕ). y % 2 ^ 64) (rw (add-mul k n j) (add-assoc a (k * j) (n * j)))
+
+-- a step of 2 ^ 64 - j is a step of j down: one add serves both directions
+pub along-down : (a j k : ℕ) → a < 2 ^ 64 → j ≤ 2 ^ 64 → k * j ≤ a → along a (2 ^ 64 - j) k ≡ a - k * j
+along-down a j zero fa fj h = rw (zero-mul j, sub-zero a) (along-none a (2 ^ 64 - j) fa)
+along-down a j (suc k) fa fj h =
+    let m : suc k * j ≡ k * j + j = suc-mul k j in
+    let e = along-down a j k fa fj (omega arith) in
+    ap (along a (2 ^ 64 - j)) (sym (add-one k)) ∙ sym (along-next a (2 ^ 64 - j) k) ∙ rw (e, m) (omega arith)
 
 -- ---- the places at the start of a coordinate
 

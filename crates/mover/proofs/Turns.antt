@@ -17,7 +17,7 @@ use Rattle.mover.specs.declared.engine.Run.{Run}
 use Rattle.mover.specs.declared.elements.Origin.{Origin}
 use Rattle.mover.specs.Private.Elements.{sourceBytes, axisKept, planKept, placeOf, homeOf, planBytes, putAt, planTotal, movedBy, co3}
 use Rattle.mover.specs.Private.Steps.{along, reachOf, onwardOf, firstSpot, startOf, nextRow, nextPlane, nextBlock, behind}
-use Rattle.mover.specs.Private.Runs.{runOf, eitherRun, Alike, Held, Parted, Readable, Writable}
+use Rattle.mover.specs.Private.Runs.{Alike, runOf, eitherRun, runMoved, RunWritable, RunReadable}
 use Rattle.mover.specs.Private.Ready.{homeEnd, placeEnd, Ready, InExtents}
 use Rattle.mover.proofs.Bytes.{source-long}
 use Rattle.mover.proofs.Places.{place-least, place-most, home-least, home-most, all-kept-of, apart-part, still-ready}
@@ -143,13 +143,13 @@ module _ {o : Origin} {p : Plan} {s d₀ : List ℕ} {from budget : ℕ} {d : Li
         ∙ mod-eq-of-lt (omega (arith, r .span, source-long o s d))
 
     -- what it asks
-    pub run-writes : Writable d (u .here .to) (p .d3 .stride) (p .size) (run .n)
+    pub run-writes : RunWritable p d (u .here) run
     run-writes = record {
       sized = r .sized;
       held = λ k h. rw (run-to k h) (omega (arith, place-most p c0 c1 c2 (c3 + k) (run-within k h), r .need));
     }
 
-    pub run-reads : run .kept ≡ true → Readable o s d (u .here .at) (p .d3 .jump) (u .here .to) (p .d3 .stride) (p .size) (run .n)
+    pub run-reads : RunReadable o p s d (u .here) run
     run-reads t = record {
       held = λ k h. rw (run-at t k h) (omega (arith, home-most p c0 c1 c2 (c3 + k) (run-kept k h ∙ t), r .span));
       parted = λ i k h g.
@@ -168,7 +168,7 @@ module _ {o : Origin} {p : Plan} {s d₀ : List ℕ} {from budget : ℕ} {d : Li
         ∙ rw (run-kept k h) (pick-same (run .kept) (replicate (p .size) 0) (λ t. rw (run-at t k h)))
 
     pub turn : {d' : List ℕ} {u' : Spots}
-        → (u' ≡ behind u (p .d3) (run .n)) × (d' ≡ runOf (eitherRun (run .kept) (sourceBytes o s d) (u .here .at) (p .d3 .jump) (p .size)) (u .here .to) (p .d3 .stride) (run .n) d)
+        → (u' ≡ behind u (p .d3) (run .n)) × (d' ≡ runMoved o p s d (u .here) run)
         → At o p s d₀ from budget d' c0 c1 c2 (c3 + run .n) (left - run .n) u'
     turn {d'} t =
         let m : budget - (left - run .n) ≡ budget - left + run .n = omega (arith, a .fund, l .cut) in

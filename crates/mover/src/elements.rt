@@ -2,11 +2,10 @@
 use std::num::wrapping_add_usize;
 ghost use mathlib.Core.Path.{_≡_};
 ghost use Prim.Native.Nat.{_+_, _*_, _^_, _≤_, _<_};
-ghost use lib.ListN.{length, getD, take, drop, replicate};
-ghost use lib.Seq.{sets};
+ghost use lib.ListN.{length, getD};
 ghost use Rattle.mover.specs.Private.Elements.{sourceBytes};
 ghost use Rattle.mover.specs.Private.Steps.{along};
-ghost use Rattle.mover.specs.Private.Runs.{runOf, keptRun, padRun, Sized, Readable, Writable};
+ghost use Rattle.mover.specs.Private.Runs.{elementCopied, elementCleared, runCopied, runCleared, Sized, Readable, Writable};
 
 // Where the source's bytes stand: in the slice lent for reading, or in the destination's own.
 pub(crate) enum Origin {
@@ -18,7 +17,7 @@ pub(crate) enum Origin {
 fn clear(dst: &mut [u8], to: usize, size: usize)
     requires { ⌜ Sized size ⌝ }
     requires { ⌜ to + size ≤ length (now dst) ⌝ }
-    ensures { λ _. ⌜ now (dst .exit) ≡ sets (now (dst .entry)) to (replicate size 0) ⌝ }
+    ensures { λ _. ⌜ now (dst .exit) ≡ elementCleared (now (dst .entry)) to size ⌝ }
 {
     if size == 1 {
         dst[to] = 0;
@@ -51,7 +50,7 @@ fn copy(src: &[u8], dst: &mut [u8], origin: Origin, at: usize, to: usize, size: 
     requires { ⌜ Sized size ⌝ }
     requires { ⌜ at + size ≤ length (sourceBytes origin (now src) (now dst)) ⌝ }
     requires { ⌜ to + size ≤ length (now dst) ⌝ }
-    ensures { λ _. ⌜ now (dst .exit) ≡ sets (now (dst .entry)) to (take size (drop at (sourceBytes origin (now (src .entry)) (now (dst .entry))))) ⌝ }
+    ensures { λ _. ⌜ now (dst .exit) ≡ elementCopied origin (now (src .entry)) (now (dst .entry)) at to size ⌝ }
 {
     let a = byte(src, dst, origin, at);
     if size == 1 {
@@ -76,7 +75,7 @@ fn copy(src: &[u8], dst: &mut [u8], origin: Origin, at: usize, to: usize, size: 
 pub(crate) fn clear_run(dst: &mut [u8], to: usize, stride: usize, size: usize, n: usize) -> usize
     requires { ⌜ Writable (now dst) to stride size n ⌝ }
     ensures next { λ r. ⌜ r ≡ along to stride n ⌝ }
-    ensures written { λ _. ⌜ now (dst .exit) ≡ runOf (padRun size) to stride n (now (dst .entry)) ⌝ }
+    ensures written { λ _. ⌜ now (dst .exit) ≡ runCleared (now (dst .entry)) to stride size n ⌝ }
 {
     let mut t = to;
     let mut k = 0;
@@ -103,7 +102,7 @@ fn copy_each(
     requires { ⌜ Writable (now dst) to stride size n ⌝ }
     requires { ⌜ Readable origin (now src) (now dst) at jump to stride size n ⌝ }
     ensures next { λ r. ⌜ r ≡ along to stride n ⌝ }
-    ensures written { λ _. ⌜ now (dst .exit) ≡ runOf (keptRun (sourceBytes origin (now (src .entry)) (now (dst .entry))) at jump size) to stride n (now (dst .entry)) ⌝ }
+    ensures written { λ _. ⌜ now (dst .exit) ≡ runCopied origin (now (src .entry)) (now (dst .entry)) at jump to stride size n ⌝ }
 {
     let mut a = at;
     let mut t = to;
@@ -147,7 +146,7 @@ pub(crate) fn copy_run(
     requires { ⌜ Writable (now dst) to stride size n ⌝ }
     requires { ⌜ Readable origin (now src) (now dst) at jump to stride size n ⌝ }
     ensures next { λ r. ⌜ r ≡ along to stride n ⌝ }
-    ensures written { λ _. ⌜ now (dst .exit) ≡ runOf (keptRun (sourceBytes origin (now (src .entry)) (now (dst .entry))) at jump size) to stride n (now (dst .entry)) ⌝ }
+    ensures written { λ _. ⌜ now (dst .exit) ≡ runCopied origin (now (src .entry)) (now (dst .entry)) at jump to stride size n ⌝ }
 {
     if jump == size {
         if stride == size {

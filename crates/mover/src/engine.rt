@@ -14,11 +14,11 @@ use crate::spots::next_plane;
 use crate::spots::next_row;
 use crate::start::begin;
 ghost use mathlib.Core.Path.{_≡_};
-ghost use mathlib.Core.Bool.{true, _&&_};
+ghost use mathlib.Core.Bool.{_&&_};
 ghost use Prim.Native.Nat.{_+_, _-_, min, _≤_, _<_};
-ghost use Rattle.mover.specs.Private.Elements.{sourceBytes, axisKept, planTotal, movedFrom};
+ghost use Rattle.mover.specs.Private.Elements.{axisKept, planTotal, movedFrom};
 ghost use Rattle.mover.specs.Private.Steps.{behind};
-ghost use Rattle.mover.specs.Private.Runs.{Alike, runOf, eitherRun, Readable, Writable};
+ghost use Rattle.mover.specs.Private.Runs.{Alike, runMoved, RunWritable, RunReadable};
 ghost use Rattle.mover.specs.Private.Ready.{Ready, LiesIn, PartsApart, movedWithin};
 ghost use Rattle.mover.specs.Within.{bytesOf};
 
@@ -40,6 +40,7 @@ pub(crate) struct Run {
     pub(crate) n: usize,
 }
 
+// The smaller of two.
 fn least(a: usize, b: usize) -> usize
     ensures { λ r. ⌜ r ≡ min a b ⌝ }
 {
@@ -73,34 +74,25 @@ fn run_at(x: Axis, outer: bool, c: usize, most: usize) -> Run
     }
 }
 
-// Moves a run, kept elements or padding, and tells the spots behind it.
+// Moves a run, kept elements or padding, and tells the spots behind it: where to store the next element of the row.
 fn move_run(src: &[u8], dst: &mut [u8], origin: Origin, plan: Plan, s: Spots, run: Run) -> Spots
-    requires { ⌜ Writable (now dst) (s .here .to) (plan .d3 .stride) (plan .size) (run .n) ⌝ }
-    requires { ⌜ (run .kept ≡ true → Readable origin (now src) (now dst) (s .here .at) (plan .d3 .jump) (s .here .to) (plan .d3 .stride) (plan .size) (run .n)) ⌝ }
+    requires { ⌜ RunWritable plan (now dst) (s .here) run ⌝ }
+    requires { ⌜ RunReadable origin plan (now src) (now dst) (s .here) run ⌝ }
     ensures next { λ r. ⌜ r ≡ behind s (plan .d3) (run .n) ⌝ }
-    ensures written { λ _. ⌜ now (dst .exit) ≡ runOf (eitherRun (run .kept) (sourceBytes origin (now (src .entry)) (now (dst .entry))) (s .here .at) (plan .d3 .jump) (plan .size)) (s .here .to) (plan .d3 .stride) (run .n) (now (dst .entry)) ⌝ }
+    ensures written { λ _. ⌜ now (dst .exit) ≡ runMoved origin plan (now (src .entry)) (now (dst .entry)) (s .here) run ⌝ }
 {
     let at = s.here.at;
-    let first = s.here.to;
+    let to = s.here.to;
+    let jump = plan.d3.jump;
     let stride = plan.d3.stride;
     let size = plan.size;
     if run.kept {
-        let to = copy_run(
-            src,
-            dst,
-            origin,
-            at,
-            plan.d3.jump,
-            first,
-            stride,
-            size,
-            run.n,
-        );
-        let here = Spot { to, at };
+        let next = copy_run(src, dst, origin, at, jump, to, stride, size, run.n);
+        let here = Spot { to: next, at };
         return Spots { here, ..s };
     }
-    let to = clear_run(dst, first, stride, size, run.n);
-    let here = Spot { to, at };
+    let next = clear_run(dst, to, stride, size, run.n);
+    let here = Spot { to: next, at };
     Spots { here, ..s }
 }
 
@@ -127,16 +119,16 @@ pub(crate) fn advance(
     let mut spots = start.spots;
     let mut left = budget;
     'all: while c0 < plan.d0.extent {
-        let in0 = kept(true, plan.d0, c0);
+        let kept0 = kept(true, plan.d0, c0);
         while c1 < plan.d1.extent {
-            let in1 = kept(in0, plan.d1, c1);
+            let kept1 = kept(kept0, plan.d1, c1);
             while c2 < plan.d2.extent {
-                let in2 = kept(in1, plan.d2, c2);
+                let kept2 = kept(kept1, plan.d2, c2);
                 while c3 < plan.d3.extent {
                     if left == 0 {
                         break 'all;
                     }
-                    let run = run_at(plan.d3, in2, c3, left);
+                    let run = run_at(plan.d3, kept2, c3, left);
                     c3 += run.n;
                     left -= run.n;
                     spots = move_run(src, dst, origin, plan, spots, run);
