@@ -1,5 +1,5 @@
 -- A run of elements that lie side by side is a run of bytes. Assumes nothing.
-use mathlib.Core.Path.{_≡_, refl, sym, ap, _∙_}
+use mathlib.Core.Path.{_≡_, sym, ap, _∙_}
 use mathlib.Core.List.{List, [], _∷_, _++_}
 use Prim.Native.Nat.{ℕ, zero, suc, _+_, _*_, _/_, _%_, _^_, _≤_, _<_}
 use native.Mathlib.Nat.{add-zero, add-suc, suc-add, mul-one, zero-mul, suc-mul, mod-lt, mod-eq-of-lt, div-add-mod', div-lt-iff-lt-mul}

@@ -14,7 +14,7 @@ use Rattle.plane.specs.declared.Tensor.{Tensor}
 use Rattle.plane.specs.declared.Config.{Config}
 use Rattle.plane.specs.Arrays.{at, sum, product, every}
 use Rattle.plane.specs.Planes.{srcStrides, span}
-use Rattle.plane.specs.Moves.{count, dstExtents, dstStrides, need}
+use Rattle.plane.specs.Moves.{count, dstStrides, need}
 use Rattle.plane.specs.Good.{GoodSource, GoodConfig}
 use Rattle.plane.proofs.Rules.{count-positive, dst-extent}
 use Rattle.mover.specs.declared.elements.Origin.the-variants.{Lent}

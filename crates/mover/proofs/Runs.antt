@@ -7,8 +7,8 @@ use Prim.Native.Nat.{ℕ, zero, suc, _+_, _-_, _%_, _^_, min, _≤_, _<_}
 use native.Mathlib.Numerals.{add-one}
 use native.Mathlib.Omega.{arith}
 use borrow.Author.Tests.{le-ltb, lt-leb}
-use lib.Dec.{leb, ltb}
-use lib.ListN.{length, getD, take, drop}
+use lib.Dec.{leb}
+use lib.ListN.{length, getD, drop}
 use lib.Seq.{sets, length-sets}
 use Rattle.faults.proofs.Bools.{not-second}
 use Rattle.mover.specs.declared.plan.Axis.{Axis}

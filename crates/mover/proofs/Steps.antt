@@ -1,7 +1,7 @@
 -- Places by steps, as 64 bits count them, and spots: one step further, and where the sums fit. Assumes nothing.
-use mathlib.Core.Path.{_≡_, refl, sym, ap, _∙_}
+use mathlib.Core.Path.{_≡_, sym, ap, _∙_}
 use mathlib.Core.Bool.{cond, true, _&&_}
-use Prim.Native.Nat.{ℕ, zero, suc, _+_, _-_, _*_, _%_, _^_, min, _≤_, _<_}
+use Prim.Native.Nat.{ℕ, zero, suc, _+_, _-_, _*_, _%_, _^_, _≤_, _<_}
 use native.Mathlib.Numerals.{add-one}
 use native.Mathlib.Nat.{zero-mul, suc-mul, sub-zero, zero-sub, zero-min, one-mul, add-zero, add-assoc, add-mul, mod-lt, mod-add-mod, mod-eq-of-lt, min-eq-left, min-le-right}
 use native.Mathlib.Decide.{decLt}

@@ -1,14 +1,13 @@
 -- What a turn of the engine's loops keeps: a run is elements by their numbers, and the end of a row, a plane and a block is the start of
 -- the next. Assumes nothing.
-use mathlib.Core.Path.{_≡_, refl, sym, ap, ap₂, _∙_}
+use mathlib.Core.Path.{_≡_, refl, sym, ap, _∙_}
 use mathlib.Core.Logic.{_⊎_, ⊎-elim}
-use mathlib.Core.Bool.{Bool, true, false, _&&_}
+use mathlib.Core.Bool.{Bool, true, _&&_}
 use mathlib.Core.List.{List}
-use Prim.Native.Nat.{ℕ, zero, suc, _+_, _-_, _*_, _%_, _^_, _≤_, _<_, min}
+use Prim.Native.Nat.{ℕ, zero, suc, _+_, _-_, _*_, _^_, _≤_, _<_, min}
 use native.Mathlib.Nat.{add-zero, add-assoc, add-mul, one-mul, zero-sub, min-eq-left, min-eq-right, sub-self, le-trans, le-add-right, mul-le-mul-right, mod-eq-of-lt}
 use native.Mathlib.Omega.{arith}
-use lib.ListN.{length, take, drop, replicate}
-use lib.Seq.{sets}
+use lib.ListN.{length, replicate}
 use Rattle.mover.specs.declared.plan.Plan.{Plan}
 use Rattle.mover.specs.declared.spots.Spot.{Spot}
 use Rattle.mover.specs.declared.spots.Spots.{Spots}
@@ -18,7 +17,7 @@ use Rattle.mover.specs.declared.elements.Origin.{Origin}
 use Rattle.mover.specs.Private.Elements.{sourceBytes, axisKept, planKept, placeOf, homeOf, planBytes, putAt, planTotal, movedBy, co3}
 use Rattle.mover.specs.Private.Steps.{along, reachOf, onwardOf, firstSpot, startOf, nextRow, nextPlane, nextBlock, behind}
 use Rattle.mover.specs.Private.Runs.{Alike, runOf, eitherRun, runMoved, RunWritable, RunReadable}
-use Rattle.mover.specs.Private.Ready.{homeEnd, placeEnd, Ready, InExtents}
+use Rattle.mover.specs.Private.Ready.{Ready, InExtents}
 use Rattle.mover.proofs.Bytes.{source-long}
 use Rattle.mover.proofs.Places.{place-least, place-most, home-least, home-most, all-kept-of, apart-part, still-ready}
 use Rattle.mover.proofs.Steps.{along-none, along-on, jumps-kept, reach-fits, reach-none, reach-on, row-place, row-home}

@@ -71,15 +71,17 @@ fn axis_of(c: Config, a: Answer, strides: [u32; 4], i: usize) -> Axis
     ensures { λ r. ⌜ r ≡ axisMade c a strides i ⌝ }
 {
     let extent = a.extent[i] as usize;
-    let size = a.element_size as usize;
     let d = c.perm[i] as usize;
     let pre = c.pre[d] as usize;
     let post = c.post[d] as usize;
+    let step = c.step[d];
+    let apart = times(step, strides[d]);
+    let jump = apart * (a.element_size as usize);
     Axis {
         extent,
         pre,
         count: extent - pre - post,
-        jump: times(c.step[d], strides[d]) * size,
+        jump,
         stride: times(a.stride[i], a.element_size as u32),
     }
 }

@@ -1,5 +1,4 @@
 -- What the checks establish of a plan and the bytes that it is made over, and a move within one memory.
-use mathlib.Core.Logic.{_⊎_}
 use mathlib.Core.List.{List}
 use Prim.Native.Nat.{ℕ, _+_, _-_, _≤_, _<_}
 use lib.ListN.{length, take, drop}

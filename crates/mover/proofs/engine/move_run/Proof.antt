@@ -1,5 +1,4 @@
 -- `mover::engine::move_run` copies or clears, as the run says. Assumes nothing.
-use mathlib.Core.Path.{_≡_}
 use borrow.Author.Needs.{needs}
 use Rattle.mover.proofs.engine.move_run.Statement.{statement}
 use Rattle.mover.proofs.engine.move_run.Tie as tie

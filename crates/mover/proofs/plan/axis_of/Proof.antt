@@ -19,8 +19,8 @@ padding c = c .pre .0 .padding (c .args .i) (c .pre .1)
 small : (c : tie.Start) → at (c .args .t2 .extent) (c .args .i) ≤ 65535
 small c = c .pre .0 .extent (c .args .i) (c .pre .1)
 
-jump : tie.Need-mul-t33
-jump c =
+mul-jump : tie.Need-mul-jump
+mul-jump c =
     let s = c .before .before .before .before .before .before in
     record { fits = jump-fits (c .times .result) (s .args .t2 .«element_size») (omega (arith, c .times .ensures .1, s .pre .0 .step (s .args .i) (s .pre .1))) (s .pre .0 .element) }
 
@@ -36,19 +36,19 @@ axis-of-spec =
     (λ c. search needs)
     (λ c. search needs)
     (λ c. search needs)
-    (λ c. search needs)
     (λ c. dim (c .before .before))
     (λ c. search needs)
     (λ c. dim (c .before .before .before))
-    (λ c. let s = c .before .before .before .before in omega (arith, padding s, small s))
-    (λ c. let s = c .before .before .before .before in omega (arith, padding s))
-    (λ c. let s = c .before .before .before .before in omega (arith, padding s))
+    (λ c. search needs)
     (λ c. omega (arith, dim (c .before .before .before .before)))
     (λ c. dim (c .before .before .before .before))
     (λ c. omega (arith, dim (c .before .before .before .before .before)))
     (λ c. dim (c .before .before .before .before .before))
     (λ c κs. search needs)
-    jump
+    (λ c. search needs)
+    mul-jump
+    (λ c. let s = c .before .before .before .before .before .before in omega (arith, padding s, small s))
+    (λ c. let s = c .before .before .before .before .before .before in omega (arith, padding s))
     (λ c. search needs)
     (λ c. search needs)
     (λ c. search needs)

@@ -1,5 +1,4 @@
 -- `mover::start::reach` multiplies, where the sums fit. Assumes nothing.
-use mathlib.Core.Path.{_∙_}
 use native.Mathlib.Omega.{arith}
 use borrow.Author.Needs.{needs}
 use Rattle.mover.proofs.Steps.{reach-made}
