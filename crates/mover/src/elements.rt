@@ -13,27 +13,6 @@ pub(crate) enum Origin {
     Inside,
 }
 
-// Zeros for the bytes of an element, at `to`.
-fn clear(dst: &mut [u8], to: usize, size: usize)
-    requires { ⌜ Sized size ⌝ }
-    requires { ⌜ to + size ≤ length (now dst) ⌝ }
-    ensures { λ _. ⌜ now (dst .exit) ≡ elementCleared (now (dst .entry)) to size ⌝ }
-{
-    if size == 1 {
-        dst[to] = 0;
-        return;
-    }
-    if size == 2 {
-        dst[to] = 0;
-        dst[to + 1] = 0;
-        return;
-    }
-    dst[to] = 0;
-    dst[to + 1] = 0;
-    dst[to + 2] = 0;
-    dst[to + 3] = 0;
-}
-
 // A byte of the source.
 fn byte(src: &[u8], dst: &[u8], origin: Origin, i: usize) -> u8
     requires { ⌜ i < length (sourceBytes origin (now src) (now dst)) ⌝ }
@@ -45,7 +24,7 @@ fn byte(src: &[u8], dst: &[u8], origin: Origin, i: usize) -> u8
     }
 }
 
-// The bytes of the source's element at `at`, to `to`: all are read before one is stored.
+// The bytes of the source's element at `at`, to `to`, in straight code for each size: all are read before one is stored.
 fn copy(src: &[u8], dst: &mut [u8], origin: Origin, at: usize, to: usize, size: usize)
     requires { ⌜ Sized size ⌝ }
     requires { ⌜ at + size ≤ length (sourceBytes origin (now src) (now dst)) ⌝ }
@@ -71,23 +50,7 @@ fn copy(src: &[u8], dst: &mut [u8], origin: Origin, at: usize, to: usize, size: 
     dst[to + 3] = d;
 }
 
-// A run of padding; tells where the next element stands.
-pub(crate) fn clear_run(dst: &mut [u8], to: usize, stride: usize, size: usize, n: usize) -> usize
-    requires { ⌜ Writable (now dst) to stride size n ⌝ }
-    ensures next { λ r. ⌜ r ≡ along to stride n ⌝ }
-    ensures written { λ _. ⌜ now (dst .exit) ≡ runCleared (now (dst .entry)) to stride size n ⌝ }
-{
-    let mut t = to;
-    let mut k = 0;
-    while k < n {
-        clear(dst, t, size);
-        t = wrapping_add_usize(t, stride);
-        k += 1;
-    }
-    t
-}
-
-// A run of kept elements, one by one; tells where the next one stands.
+// A run of kept elements, one by one; tells where the next is stored. The size is tested within, and the compiler makes a loop for each.
 fn copy_each(
     src: &[u8],
     dst: &mut [u8],
@@ -116,7 +79,7 @@ fn copy_each(
     t
 }
 
-// How many bytes n elements have.
+// How many bytes n elements have, by adding.
 fn bytes(size: usize, n: usize) -> usize
     requires { ⌜ Sized size ⌝ }
     requires { ⌜ n * size < 2 ^ 64 ⌝ }
@@ -131,7 +94,7 @@ fn bytes(size: usize, n: usize) -> usize
     n + n + n + n
 }
 
-// A run of kept elements; tells where the next one stands. Where they lie side by side in both, the run is one of bytes.
+// A run of kept elements; tells where the next is stored. Where they lie side by side in both, it is a run of single bytes.
 pub(crate) fn copy_run(
     src: &[u8],
     dst: &mut [u8],
@@ -154,4 +117,41 @@ pub(crate) fn copy_run(
         }
     }
     copy_each(src, dst, origin, at, jump, to, stride, size, n)
+}
+
+// An element of padding at `to`: zeros.
+fn clear(dst: &mut [u8], to: usize, size: usize)
+    requires { ⌜ Sized size ⌝ }
+    requires { ⌜ to + size ≤ length (now dst) ⌝ }
+    ensures { λ _. ⌜ now (dst .exit) ≡ elementCleared (now (dst .entry)) to size ⌝ }
+{
+    if size == 1 {
+        dst[to] = 0;
+        return;
+    }
+    if size == 2 {
+        dst[to] = 0;
+        dst[to + 1] = 0;
+        return;
+    }
+    dst[to] = 0;
+    dst[to + 1] = 0;
+    dst[to + 2] = 0;
+    dst[to + 3] = 0;
+}
+
+// A run of padding; tells where the next element is stored.
+pub(crate) fn clear_run(dst: &mut [u8], to: usize, stride: usize, size: usize, n: usize) -> usize
+    requires { ⌜ Writable (now dst) to stride size n ⌝ }
+    ensures next { λ r. ⌜ r ≡ along to stride n ⌝ }
+    ensures written { λ _. ⌜ now (dst .exit) ≡ runCleared (now (dst .entry)) to stride size n ⌝ }
+{
+    let mut t = to;
+    let mut k = 0;
+    while k < n {
+        clear(dst, t, size);
+        t = wrapping_add_usize(t, stride);
+        k += 1;
+    }
+    t
 }
