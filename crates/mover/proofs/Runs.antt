@@ -12,6 +12,7 @@ use lib.ListN.{length, getD, drop}
 use lib.Seq.{sets, length-sets}
 use Rattle.faults.proofs.Bools.{not-second}
 use Rattle.mover.specs.declared.plan.Axis.{Axis}
+use Rattle.mover.specs.declared.elements.Course.{Course}
 use Rattle.mover.specs.declared.elements.Origin.{Origin}
 use Rattle.mover.specs.declared.elements.Origin.the-variants.{Lent, Inside}
 use Rattle.mover.specs.Private.Elements.{sourceBytes, axisKept}
@@ -81,15 +82,15 @@ module _ (e : ℕ → List ℕ) (to stride : ℕ) where
       getD-sets-out (e n) (runOf e to stride n d) (along to stride n) k (h n (omega arith)) ∙ run-out n d k (λ j l. h j (omega arith))
 
 -- while kept elements are stored, those still to be read are as they were
-pub run-keeps : (o : Origin) (s d v : List ℕ) (at jump to stride size n k : ℕ) → Parted o at jump to stride size n → k < n
-    → keptRun (sourceBytes o s (runOf (keptRun v at jump size) to stride k d)) at jump size k ≡ keptRun (sourceBytes o s d) at jump size k
-run-keeps Lent s d v at jump to stride size n k p h = refl
-run-keeps Inside s d v at jump to stride size n k p h =
-    run-same (runOf (keptRun v at jump size) to stride k d) d (along at jump k) size (length-run (keptRun v at jump size) to stride k d)
+pub run-keeps : (o : Origin) (s d v : List ℕ) (c : Course) (k : ℕ) → Parted o c → k < c .n
+    → keptRun (sourceBytes o s (runOf (keptRun v c) (c .to) (c .stride) k d)) c k ≡ keptRun (sourceBytes o s d) c k
+run-keeps Lent s d v c k p h = refl
+run-keeps Inside s d v c k p h =
+    run-same (runOf (keptRun v c) (c .to) (c .stride) k d) d (along (c .at) (c .jump) k) (c .size) (length-run (keptRun v c) (c .to) (c .stride) k d)
     (λ i a b.
-    run-out (keptRun v at jump size) to stride k d i
+    run-out (keptRun v c) (c .to) (c .stride) k d i
     (λ j l.
-    let m = length-take-most size (drop (along at jump j) v) in
+    let m = length-take-most (c .size) (drop (along (c .at) (c .jump) j) v) in
     ⊎-elim (λ x. inl (omega arith)) (λ y. inr (omega arith)) (p k j h (omega arith))))
 
 -- a source of the same length

@@ -16,7 +16,7 @@ use Rattle.mover.specs.declared.engine.Run.{Run}
 use Rattle.mover.specs.declared.elements.Origin.{Origin}
 use Rattle.mover.specs.Private.Elements.{sourceBytes, axisKept, planKept, placeOf, homeOf, planBytes, putAt, planTotal, movedBy, co3}
 use Rattle.mover.specs.Private.Steps.{along, reachOf, onwardOf, firstSpot, startOf, nextRow, nextPlane, nextBlock, behind}
-use Rattle.mover.specs.Private.Runs.{Alike, runOf, eitherRun, runMoved, RunWritable, RunReadable}
+use Rattle.mover.specs.Private.Runs.{Alike, courseOf, runOf, eitherRun, runMoved, Readable, Writable}
 use Rattle.mover.specs.Private.Ready.{Ready, InExtents}
 use Rattle.mover.proofs.Bytes.{source-long}
 use Rattle.mover.proofs.Places.{place-least, place-most, home-least, home-most, all-kept-of, apart-part, still-ready}
@@ -142,13 +142,13 @@ module _ {o : Origin} {p : Plan} {s d₀ : List ℕ} {from budget : ℕ} {d : Li
         ∙ mod-eq-of-lt (omega (arith, r .span, source-long o s d))
 
     -- what it asks
-    pub run-writes : RunWritable p d (u .here) run
+    pub run-writes : Writable d (courseOf p (u .here) (run .n))
     run-writes = record {
       sized = r .sized;
       held = λ k h. rw (run-to k h) (omega (arith, place-most p c0 c1 c2 (c3 + k) (run-within k h), r .need));
     }
 
-    pub run-reads : RunReadable o p s d (u .here) run
+    pub run-reads : run .kept ≡ true → Readable o s d (courseOf p (u .here) (run .n))
     run-reads t = record {
       held = λ k h. rw (run-at t k h) (omega (arith, home-most p c0 c1 c2 (c3 + k) (run-kept k h ∙ t), r .span));
       parted = λ i k h g.
@@ -158,7 +158,7 @@ module _ {o : Origin} {p : Plan} {s d₀ : List ℕ} {from budget : ℕ} {d : Li
     }
 
     -- and what it leaves: its bytes are the elements', and nothing else has changed
-    run-bytes : (k : ℕ) → k < run .n → planBytes p (sourceBytes o s d₀) c0 c1 c2 (c3 + k) ≡ eitherRun (run .kept) (sourceBytes o s d) (u .here .at) (p .d3 .jump) (p .size) k
+    run-bytes : (k : ℕ) → k < run .n → planBytes p (sourceBytes o s d₀) c0 c1 c2 (c3 + k) ≡ eitherRun (run .kept) (sourceBytes o s d) (courseOf p (u .here) (run .n)) k
     unfolding planBytes
     run-bytes k h =
         let v = sourceBytes o s d in
@@ -167,7 +167,7 @@ module _ {o : Origin} {p : Plan} {s d₀ : List ℕ} {from budget : ℕ} {d : Li
         ∙ rw (run-kept k h) (pick-same (run .kept) (replicate (p .size) 0) (λ t. rw (run-at t k h)))
 
     pub turn : {d' : List ℕ} {u' : Spots}
-        → (u' ≡ behind u (p .d3) (run .n)) × (d' ≡ runMoved o p s d (u .here) run)
+        → (u' ≡ behind u (p .d3) (run .n)) × (d' ≡ runMoved o s d (run .kept) (courseOf p (u .here) (run .n)))
         → At o p s d₀ from budget d' c0 c1 c2 (c3 + run .n) (left - run .n) u'
     turn {d'} t =
         let m : budget - (left - run .n) ≡ budget - left + run .n = omega (arith, a .fund, l .cut) in

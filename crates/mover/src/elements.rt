@@ -1,4 +1,4 @@
-// Runs of elements: the leaves of the engine. Each moves the n elements of a run, whose places lie a stride apart.
+// The leaves of the engine: a run of elements copied, or of padding.
 use std::num::wrapping_add_usize;
 ghost use mathlib.Core.Path.{_≡_};
 ghost use Prim.Native.Nat.{_+_, _*_, _^_, _≤_, _<_};
@@ -11,6 +11,16 @@ ghost use Rattle.mover.specs.Private.Runs.{elementCopied, elementCleared
 pub(crate) enum Origin {
     Lent,
     Inside,
+}
+
+// A run as the leaves take it: n elements of `size` bytes, the first from `at` to `to`, each a jump and a stride further, in bytes.
+pub(crate) struct Course {
+    pub(crate) at: usize,
+    pub(crate) jump: usize,
+    pub(crate) to: usize,
+    pub(crate) stride: usize,
+    pub(crate) size: usize,
+    pub(crate) n: usize,
 }
 
 // A byte of the source.
@@ -51,32 +61,22 @@ fn copy(src: &[u8], dst: &mut [u8], origin: Origin, at: usize, to: usize, size: 
 }
 
 // A run of kept elements, one by one; tells where the next is stored. The size is tested within, and the compiler makes a loop for each.
-fn copy_each(
-    src: &[u8],
-    dst: &mut [u8],
-    origin: Origin,
-    at: usize,
-    jump: usize,
-    to: usize,
-    stride: usize,
-    size: usize,
-    n: usize,
-) -> usize
-    requires { ⌜ Writable (now dst) to stride size n ⌝ }
-    requires { ⌜ Readable origin (now src) (now dst) at jump to stride size n ⌝ }
-    ensures next { λ r. ⌜ r ≡ along to stride n ⌝ }
-    ensures written { λ _. ⌜ now (dst .exit) ≡ runCopied origin (now (src .entry)) (now (dst .entry)) at jump to stride size n ⌝ }
+fn copy_each(src: &[u8], dst: &mut [u8], origin: Origin, c: Course) -> usize
+    requires { ⌜ Writable (now dst) c ⌝ }
+    requires { ⌜ Readable origin (now src) (now dst) c ⌝ }
+    ensures next { λ r. ⌜ r ≡ along (c .to) (c .stride) (c .n) ⌝ }
+    ensures written { λ _. ⌜ now (dst .exit) ≡ runCopied origin (now (src .entry)) (now (dst .entry)) c ⌝ }
 {
-    let mut a = at;
-    let mut t = to;
+    let mut at = c.at;
+    let mut to = c.to;
     let mut k = 0;
-    while k < n {
-        copy(src, dst, origin, a, t, size);
-        a = wrapping_add_usize(a, jump);
-        t = wrapping_add_usize(t, stride);
+    while k < c.n {
+        copy(src, dst, origin, at, to, c.size);
+        at = wrapping_add_usize(at, c.jump);
+        to = wrapping_add_usize(to, c.stride);
         k += 1;
     }
-    t
+    to
 }
 
 // How many bytes n elements have, by adding.
@@ -95,28 +95,26 @@ fn bytes(size: usize, n: usize) -> usize
 }
 
 // A run of kept elements; tells where the next is stored. Where they lie side by side in both, it is a run of single bytes.
-pub(crate) fn copy_run(
-    src: &[u8],
-    dst: &mut [u8],
-    origin: Origin,
-    at: usize,
-    jump: usize,
-    to: usize,
-    stride: usize,
-    size: usize,
-    n: usize,
-) -> usize
-    requires { ⌜ Writable (now dst) to stride size n ⌝ }
-    requires { ⌜ Readable origin (now src) (now dst) at jump to stride size n ⌝ }
-    ensures next { λ r. ⌜ r ≡ along to stride n ⌝ }
-    ensures written { λ _. ⌜ now (dst .exit) ≡ runCopied origin (now (src .entry)) (now (dst .entry)) at jump to stride size n ⌝ }
+pub(crate) fn copy_run(src: &[u8], dst: &mut [u8], origin: Origin, c: Course) -> usize
+    requires { ⌜ Writable (now dst) c ⌝ }
+    requires { ⌜ Readable origin (now src) (now dst) c ⌝ }
+    ensures next { λ r. ⌜ r ≡ along (c .to) (c .stride) (c .n) ⌝ }
+    ensures written { λ _. ⌜ now (dst .exit) ≡ runCopied origin (now (src .entry)) (now (dst .entry)) c ⌝ }
 {
-    if jump == size {
-        if stride == size {
-            return copy_each(src, dst, origin, at, 1, to, 1, 1, bytes(size, n));
+    if c.jump == c.size {
+        if c.stride == c.size {
+            let n = bytes(c.size, c.n);
+            let block = Course {
+                jump: 1,
+                stride: 1,
+                size: 1,
+                n,
+                ..c
+            };
+            return copy_each(src, dst, origin, block);
         }
     }
-    copy_each(src, dst, origin, at, jump, to, stride, size, n)
+    copy_each(src, dst, origin, c)
 }
 
 // An element of padding at `to`: zeros.
@@ -140,18 +138,18 @@ fn clear(dst: &mut [u8], to: usize, size: usize)
     dst[to + 3] = 0;
 }
 
-// A run of padding; tells where the next element is stored.
-pub(crate) fn clear_run(dst: &mut [u8], to: usize, stride: usize, size: usize, n: usize) -> usize
-    requires { ⌜ Writable (now dst) to stride size n ⌝ }
-    ensures next { λ r. ⌜ r ≡ along to stride n ⌝ }
-    ensures written { λ _. ⌜ now (dst .exit) ≡ runCleared (now (dst .entry)) to stride size n ⌝ }
+// A run of padding; tells where the next element is stored. The source's place is not looked at.
+pub(crate) fn clear_run(dst: &mut [u8], c: Course) -> usize
+    requires { ⌜ Writable (now dst) c ⌝ }
+    ensures next { λ r. ⌜ r ≡ along (c .to) (c .stride) (c .n) ⌝ }
+    ensures written { λ _. ⌜ now (dst .exit) ≡ runCleared (now (dst .entry)) c ⌝ }
 {
-    let mut t = to;
+    let mut to = c.to;
     let mut k = 0;
-    while k < n {
-        clear(dst, t, size);
-        t = wrapping_add_usize(t, stride);
+    while k < c.n {
+        clear(dst, to, c.size);
+        to = wrapping_add_usize(to, c.stride);
         k += 1;
     }
-    t
+    to
 }

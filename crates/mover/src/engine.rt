@@ -2,6 +2,7 @@
 // budget is spent. The innermost goes on by runs. From one element to the next places go on by adding alone: nothing here, nor in
 // what the loops call, multiplies or divides. What the loops are handed was worked out and accepted by the rules.
 use crate::Part;
+use crate::elements::Course;
 use crate::elements::Origin;
 use crate::elements::clear_run;
 use crate::elements::copy_run;
@@ -14,11 +15,11 @@ use crate::spots::next_plane;
 use crate::spots::next_row;
 use crate::start::begin;
 ghost use mathlib.Core.Path.{_≡_};
-ghost use mathlib.Core.Bool.{_&&_};
+ghost use mathlib.Core.Bool.{true, _&&_};
 ghost use Prim.Native.Nat.{_+_, _-_, min, _≤_, _<_};
 ghost use Rattle.mover.specs.Private.Elements.{axisKept, planTotal, movedFrom};
 ghost use Rattle.mover.specs.Private.Steps.{behind};
-ghost use Rattle.mover.specs.Private.Runs.{Alike, runMoved, RunWritable, RunReadable};
+ghost use Rattle.mover.specs.Private.Runs.{Alike, courseOf, runMoved, Readable, Writable};
 ghost use Rattle.mover.specs.Private.Ready.{Ready, LiesIn, PartsApart, movedWithin};
 ghost use Rattle.mover.specs.Within.{bytesOf};
 
@@ -76,23 +77,27 @@ fn run_at(x: Axis, outer: bool, c: usize, most: usize) -> Run
 
 // Moves a run, kept elements or padding, and tells the spots behind it: where to store the next element of the row.
 fn move_run(src: &[u8], dst: &mut [u8], origin: Origin, plan: Plan, s: Spots, run: Run) -> Spots
-    requires { ⌜ RunWritable plan (now dst) (s .here) run ⌝ }
-    requires { ⌜ RunReadable origin plan (now src) (now dst) (s .here) run ⌝ }
+    requires { ⌜ Writable (now dst) (courseOf plan (s .here) (run .n)) ⌝ }
+    requires { ⌜ (run .kept ≡ true → Readable origin (now src) (now dst) (courseOf plan (s .here) (run .n))) ⌝ }
     ensures next { λ r. ⌜ r ≡ behind s (plan .d3) (run .n) ⌝ }
-    ensures written { λ _. ⌜ now (dst .exit) ≡ runMoved origin plan (now (src .entry)) (now (dst .entry)) (s .here) run ⌝ }
+    ensures written { λ _. ⌜ now (dst .exit) ≡ runMoved origin (now (src .entry)) (now (dst .entry)) (run .kept) (courseOf plan (s .here) (run .n)) ⌝ }
 {
     let at = s.here.at;
-    let to = s.here.to;
-    let jump = plan.d3.jump;
-    let stride = plan.d3.stride;
-    let size = plan.size;
+    let course = Course {
+        at,
+        jump: plan.d3.jump,
+        to: s.here.to,
+        stride: plan.d3.stride,
+        size: plan.size,
+        n: run.n,
+    };
     if run.kept {
-        let next = copy_run(src, dst, origin, at, jump, to, stride, size, run.n);
-        let here = Spot { to: next, at };
+        let to = copy_run(src, dst, origin, course);
+        let here = Spot { to, at };
         return Spots { here, ..s };
     }
-    let next = clear_run(dst, to, stride, size, run.n);
-    let here = Spot { to: next, at };
+    let to = clear_run(dst, course);
+    let here = Spot { to, at };
     Spots { here, ..s }
 }
 

@@ -13,66 +13,61 @@ use Rattle.mover.proofs.elements.copy_each.Statement.{statement}
 use Rattle.mover.proofs.elements.copy_each.Tie as tie
 
 abbrev Inv-loop : tie.InvT-loop
-Inv-loop src dst₀ origin at jump to stride size n a₀ t₀ k₀ dst a t k =
-    Done (keptRun (sourceBytes origin src dst₀) at jump size) to stride n dst₀ dst t k × (a ≡ along at jump k)
+Inv-loop src dst₀ origin c at₀ to₀ k₀ dst at to k =
+    Done (keptRun (sourceBytes origin src dst₀) c) (c .to) (c .stride) (c .n) dst₀ dst to k × (at ≡ along (c .at) (c .jump) k)
 
 abbrev μ-loop : tie.MeasureT-loop
-μ-loop src dst₀ origin at jump to stride size n a₀ t₀ k₀ dst a t k = n - k
+μ-loop src dst₀ origin c at₀ to₀ k₀ dst at to k = c .n - k
 
 loop-holds : tie.Need-loop-holds Inv-loop μ-loop
 loop-holds c =
     let s = c .before .before in
-    let a = s .args in (
-      done-start (keptRun (sourceBytes (a .origin) (a .src .now) (a .dst .now)) (a .at) (a .jump) (a .size)) (a .to) (a .stride) (a .n) (a .dst .now) (s .fits .to .fits),
-      sym (along-none (a .at) (a .jump) (s .fits .at .fits)),
+    let a = s .args .c in (
+      done-start (keptRun (sourceBytes (s .args .origin) (s .args .src .now) (s .args .dst .now)) a) (a .to) (a .stride) (a .n) (s .args .dst .now) (omega (arith, s .good)),
+      sym (along-none (a .at) (a .jump) (omega (arith, s .good))),
     )
 
 copy-requires : tie.Need-copy-requires Inv-loop μ-loop
 copy-requires c κs =
-    let l = c .before .before in
+    let l = c .before .before .before in
     let s = l .before .before .before in
-    let a = s .args in
-    let k = l .loop .k in
-    let t = c .before .loop-test .taken in
+    let t = c .before .if1 .taken in
     let e = done-length (l .loop .inv .0) in (
       s .pre .0 .sized,
       (
-        rw (l .loop .inv .1) (still-held (a .origin) (a .src .now) (a .dst .now) (l .loop .dst) e (s .pre .1 .held k t)),
-        rw (l .loop .inv .0 .place) (omega (arith, s .pre .0 .held k t, e)),
+        rw (l .loop .inv .1) (still-held (s .args .origin) (s .args .src .now) (s .args .dst .now) (l .loop .dst) e (s .pre .1 .held (l .loop .k) t)),
+        rw (l .loop .inv .0 .place) (omega (arith, s .pre .0 .held (l .loop .k) t, e)),
       ),
     )
 
 add-k : tie.Need-add-k Inv-loop μ-loop
 add-k c =
     let t = c .before .before .before .before .before .before in
-    omega (arith, t .loop-test .taken, t .before .before .before .before .fits .n)
+    omega (arith, t .if1 .taken, t .before .before .before .before .before .good)
 
 loop-less : tie.Need-loop-less Inv-loop μ-loop
-loop-less c = omega (arith, c .before .before .before .before .before .before .loop-test .taken)
+loop-less c = omega (arith, c .before .before .before .before .before .before .if1 .taken)
 
 loop-again : tie.Need-loop-again Inv-loop μ-loop
 loop-again c =
     let m = c .before .before .before .before in
     let t = m .before .before in
-    let l = t .before .loop in
-    let s = t .before .before .before .before in
-    let a = s .args in
-    let v = sourceBytes (a .origin) (a .src .now) (a .dst .now) in
-    let e : m .copy .last .1 .0 ≡ sets (l .dst) (l .t) (keptRun v (a .at) (a .jump) (a .size) (l .k)) =
+    let l = t .before .before .loop in
+    let s = t .before .before .before .before .before in
+    let a = s .args .c in
+    let d = s .args .dst .now in
+    let v = sourceBytes (s .args .origin) (s .args .src .now) d in
+    let e : m .copy .last .1 .0 ≡ sets (l .dst) (l .to) (keptRun v a (l .k)) =
     m .copy .ensures ∙
-    rw (l .inv .1, l .inv .0 .bytes) (ap (sets (runOf (keptRun v (a .at) (a .jump) (a .size)) (a .to) (a .stride) (l .k) (a .dst .now)) (l .t))
-    (run-keeps (a .origin) (a .src .now) (a .dst .now) v (a .at) (a .jump) (a .to) (a .stride) (a .size) (a .n) (l .k) (s .pre .1 .parted) (t .loop-test .taken))) in (
-      done-next (l .inv .0) (t .loop-test .taken) (c .wrapping-add-usize2 .ensures) e,
+    rw (l .inv .1, l .inv .0 .bytes) (ap (sets (runOf (keptRun v a) (a .to) (a .stride) (l .k) d) (l .to))
+    (run-keeps (s .args .origin) (s .args .src .now) d v a (l .k) (s .pre .1 .parted) (t .if1 .taken))) in (
+      done-next (l .inv .0) (t .if1 .taken) (c .wrapping-add-usize2 .ensures) e,
       c .before .wrapping-add-usize .ensures ∙ rw (l .inv .1) (along-next (a .at) (a .jump) (l .k)),
     )
-
-same-length : tie.Need-same-length Inv-loop μ-loop
-same-length c = done-length (c .before .loop .inv .0)
-
-returns : tie.Need-returns Inv-loop μ-loop
-returns c = done-end (c .before .loop .inv .0) (c .loop-test .left)
 
 pub copy-each-spec : {M : Type 1} → statement M
 copy-each-spec =
     tie.close
-    (tie.spec Inv-loop μ-loop loop-holds copy-requires (λ c κs. search needs) (λ c κs. search needs) add-k loop-less loop-again same-length returns)
+    (tie.spec Inv-loop μ-loop loop-holds copy-requires (λ c κs. search needs) (λ c κs. search needs) add-k loop-less loop-again
+    (λ c. done-length (c .before .before .loop .inv .0))
+    (λ c. done-end (c .before .before .loop .inv .0) (c .if1 .left)))
