@@ -46,7 +46,7 @@ pub fn good(random: &mut Random, scale: Scale) -> Drawn {
         let drawn = draw(random, scale);
         let (source, destination) = match scale {
             Scale::Small => (300, 600),
-            Scale::Rows => (600, 800),
+            Scale::Rows => (800, 1_600),
             Scale::Large => (60_000, 65_536),
             Scale::Wide => (u64::MAX, u64::MAX),
         };

@@ -32,11 +32,11 @@ fn with_one_thing(random: &mut Random, drawn: &Drawn) -> Drawn {
     for d in 0..rank {
         (config.size[d], config.step[d], config.perm[d]) = (count[d] as u32, 1, d as u8);
     }
-    match random.below(5) {
+    match random.below(6) {
         0 => (config.offset[last], config.size[last], config.step[last]) = (0, 0, random.between(2, 3) as u32),
-        1 => config.perm[..rank].reverse(),
-        2 => config.dst_stride[last] = random.between(2, 3) as u32,
-        3 => (config.pre[last], config.post[last]) = (random.between(1, 2) as u8, random.between(1, 2) as u8),
+        1..=2 => config.perm[..rank].reverse(),
+        3 => config.dst_stride[last] = random.between(2, 3) as u32,
+        4 => (config.pre[last], config.post[last]) = (random.between(1, 2) as u8, random.between(1, 2) as u8),
         _ => {}
     }
     Drawn::of(tensor, config)
