@@ -1,6 +1,6 @@
 //! What a long comparison has to meet: each call with everything that it can give and with arguments of a wrong length,
-//! each state of a slot in each call that takes a table, each case of a destination offset and of a list, each reason
-//! for which a line is no call, and each number of `rmvshow` and `rmvlist`.
+//! each state of a slot in each call that takes a table, each case of a destination offset, of a list and of elements
+//! that are moved, each reason for which a line is no call, and each number of `rmvshow` and `rmvlist`.
 
 use crate::calls::{Call, Calls, Gives};
 use crate::lines::{unhex, NO_CALL, NO_DIGITS, NO_NEWLINE, TOO_LONG, WRONG_LENGTH};
@@ -8,6 +8,7 @@ use crate::list_cases;
 use crate::offset_cases;
 use crate::show;
 use crate::show_list;
+use crate::stretch_cases;
 use crate::transfers::{DONE, FREE, PREPARED, RUNNING};
 
 /// The reasons behind `ff`; ff04 is counted with the call that the line names.
@@ -75,7 +76,7 @@ impl Coverage {
                 }
                 if !cases_told_apart(call).is_empty() {
                     let bytes = unhex(line).expect("it is a call");
-                    for case in [offset_cases::met(&bytes, expected), list_cases::met(&bytes, expected)].concat() {
+                    for case in cases_met(&bytes, expected) {
                         self.meet(&name(call), &case);
                     }
                 }
@@ -151,7 +152,14 @@ fn cases(calls: &Calls, call: &Call) -> Vec<String> {
 
 /// What the numbers alone do not tell apart.
 fn cases_told_apart(call: &Call) -> Vec<String> {
-    [offset_cases::cases(call.number), list_cases::cases(call.number)].concat()
+    let number = call.number;
+    [offset_cases::cases(number), list_cases::cases(number), stretch_cases::cases(number)].concat()
+}
+
+/// Those of them that a call with these bytes is.
+fn cases_met(bytes: &[u8], expected: &[u8]) -> Vec<String> {
+    let met = [offset_cases::met, list_cases::met, stretch_cases::met];
+    met.iter().flat_map(|met| met(bytes, expected)).collect()
 }
 
 /// The list of a call.

@@ -157,7 +157,7 @@ pub fn met(bytes: &[u8], expected: &[u8]) -> Vec<String> {
 }
 
 /// What is counted, if it holds.
-fn holding(all: &[(bool, &str)]) -> Vec<String> {
+pub fn holding(all: &[(bool, &str)]) -> Vec<String> {
     all.iter().filter(|(holds, _)| *holds).map(|(_, case)| case.to_string()).collect()
 }
 

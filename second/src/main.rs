@@ -20,6 +20,7 @@ mod record;
 mod report;
 mod show;
 mod show_list;
+mod stretch_cases;
 mod tensor;
 #[cfg(test)]
 mod tests;

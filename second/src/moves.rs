@@ -206,7 +206,7 @@ pub fn coordinates(plan: &Plan) -> Vec<[u64; 4]> {
 /// "At destination coordinate c, source dimension s = perm[i] has k = c[i] - pre[s]. If every k is from 0 to
 /// count-1, the element is the source's at offset + k x step in each dimension; else all its bytes are 0."
 /// The element's number in the source, or nothing for padding.
-fn source_place(plan: &Plan, config: &Config, c: &[u64; 4]) -> Option<u64> {
+pub fn source_place(plan: &Plan, config: &Config, c: &[u64; 4]) -> Option<u64> {
     let mut place = 0;
     for i in 0..plan.rank {
         let s = source_dimension(config, i);

@@ -15,6 +15,7 @@ mod planes;
 mod records;
 mod shows;
 mod spoil;
+mod stretches;
 mod values;
 
 use crate::lines::hex;
@@ -74,6 +75,8 @@ const KINDS: &[Kind] = &[
     (4, moving::move_sub_tensor),
     (24, moving::at_offset_bound),
     (6, joins::join),
+    (24, stretches::advance),
+    (4, stretches::transfer),
     (22, records::read),
     (16, records::write),
     (14, lists::read),

@@ -1,4 +1,4 @@
-//! Draws records and configurations that a move accepts, at three scales.
+//! Draws records and configurations that a move accepts, at four scales.
 
 use super::values::{any_u32s, any_u8s};
 use crate::moves::{extents, kept_counts, room, Config};
@@ -10,6 +10,8 @@ use crate::tensor::{wide, Tensor, EXTENT_LIMIT, LIMIT};
 pub enum Scale {
     /// A few elements.
     Small,
+    /// Several elements to a row, and more padding.
+    Rows,
     /// Some thousand elements, in a destination of at most 65,536 bytes.
     Large,
     /// Numbers up to every limit, too large to be moved.
@@ -44,6 +46,7 @@ pub fn good(random: &mut Random, scale: Scale) -> Drawn {
         let drawn = draw(random, scale);
         let (source, destination) = match scale {
             Scale::Small => (300, 600),
+            Scale::Rows => (800, 1_600),
             Scale::Large => (60_000, 65_536),
             Scale::Wide => (u64::MAX, u64::MAX),
         };
@@ -86,6 +89,8 @@ fn draw_shape(random: &mut Random, rank: usize, scale: Scale) -> u32 {
     let shape = match (scale, rank) {
         (Scale::Small, 1) => random.between(1, 20),
         (Scale::Small, _) => random.pick(&[1, 1, 2, 2, 3, 4, 5]),
+        (Scale::Rows, 1) => random.between(6, 40),
+        (Scale::Rows, _) => random.pick(&[2, 2, 3, 3, 4, 5, 7]),
         (Scale::Large, 1) => random.between(2_000, 40_000),
         (Scale::Large, 2) => random.between(20, 180),
         (Scale::Large, 3) => random.between(6, 30),
@@ -105,7 +110,7 @@ pub fn draw_strides(random: &mut Random, rank: usize, shape: &[u64; 4], scale: S
     let mut inner_product: u64 = 1;
     for d in (0..rank).rev() {
         let widest = match scale {
-            Scale::Small => 3,
+            Scale::Small | Scale::Rows => 3,
             Scale::Large => 8,
             Scale::Wide => random.pick(&[1, 255, 65_536, LIMIT.saturating_sub(inner_product)]),
         };
@@ -175,11 +180,12 @@ fn draw_cut(random: &mut Random, shape: u32, d: usize, config: &mut Config) {
 
 fn draw_padding(random: &mut Random, scale: Scale, d: usize, config: &mut Config) {
     let widest = match scale {
-        Scale::Small => 2,
+        Scale::Small | Scale::Rows => 2,
         Scale::Large => random.pick(&[2, 20]),
         Scale::Wide => 255,
     };
-    let mut padding = || if random.chance(25) { random.between(0, widest) as u8 } else { 0 };
+    let often = if scale == Scale::Rows { 60 } else { 25 };
+    let mut padding = || if random.chance(often) { random.between(0, widest) as u8 } else { 0 };
     config.pre[d] = padding();
     config.post[d] = padding();
 }
@@ -207,7 +213,7 @@ fn draw_destination_offset(random: &mut Random, scale: Scale) -> u32 {
         return 0;
     }
     let most = match scale {
-        Scale::Small => 3,
+        Scale::Small | Scale::Rows => 3,
         Scale::Large => random.pick(&[3, 40]),
         Scale::Wide => random.pick(&[3, 300, EXTENT_LIMIT]),
     };

@@ -8,6 +8,7 @@ mod lists;
 mod offsets;
 mod readings;
 mod records;
+mod stretches;
 mod transfers;
 
 use crate::moves::{move_plane, Answer, Config};

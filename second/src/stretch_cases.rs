@@ -1,0 +1,199 @@
+//! The cases of elements that are moved: where in its rows a stretch begins and ends, and how the elements of a row lie
+//! in source and destination. The number 0 alone does not tell them apart, and a long comparison has to meet each.
+
+use crate::job::Job;
+use crate::list_cases::holding;
+use crate::moves::{coordinates, plan, source_place, Config, Plan};
+use crate::tensor::Tensor;
+use crate::transfers::Table;
+use crate::wire::{whole, Counted, Memory};
+
+const MOVE_PLANE: u8 = 0x20;
+const ADVANCE: u8 = 0x22;
+const STEP: u8 = 0x43;
+
+const BEGINS: &str = "begins in mid-row";
+const ENDS: &str = "ends in mid-row";
+const WITHIN: &str = "mid-row to mid-row of one row";
+const PADDING_TO_KEPT: &str = "padding of a row to kept";
+const KEPT_TO_PADDING: &str = "kept to padding of a row";
+const PADDED_ROW: &str = "begins in a row of padding";
+const ROW_END: &str = "past the end of a row";
+const PLANE_END: &str = "past the end of a plane";
+const BLOCK_END: &str = "past the end of a block";
+const MORE: &str = "budget above what is left";
+/// Of a stretch, in the calls that have a beginning and a budget.
+const OF_STRETCH: [&str; 10] =
+    [BEGINS, ENDS, WITHIN, PADDING_TO_KEPT, KEPT_TO_PADDING, PADDED_ROW, ROW_END, PLANE_END, BLOCK_END, MORE];
+
+const SIDE_BY_SIDE: &str = "side by side";
+const WIDER: &str = "wider in the destination";
+const THINNED: &str = "thinned";
+const TURNED: &str = "turned";
+const BEFORE: &str = "padded before";
+const BEHIND: &str = "padded behind";
+const BOTH: &str = "padded on both sides";
+/// Of rows, in a move by itself and in one within a memory, with elements of each size. Wider, thinned and turned are
+/// each met by itself.
+const OF_ROW: [&str; 7] = [SIDE_BY_SIDE, WIDER, THINNED, TURNED, BEFORE, BEHIND, BOTH];
+const SIZES: [usize; 3] = [1, 2, 4];
+
+/// All cases of the call of this number.
+pub fn cases(number: u8) -> Vec<String> {
+    let mut cases = Vec::new();
+    if is_stretch(number) {
+        cases.extend(OF_STRETCH.map(String::from));
+    }
+    if tells_rows(number) {
+        for size in SIZES {
+            cases.extend(OF_ROW.map(|case| of_size(size, case)));
+        }
+    }
+    cases
+}
+
+fn is_stretch(number: u8) -> bool {
+    [ADVANCE, STEP].contains(&number)
+}
+
+fn tells_rows(number: u8) -> bool {
+    [MOVE_PLANE, ADVANCE].contains(&number)
+}
+
+fn of_size(size: usize, case: &str) -> String {
+    format!("{size}-byte row {case}")
+}
+
+/// An element that was moved.
+struct Element {
+    coordinate: [u64; 4],
+    is_kept: bool,
+}
+
+/// An accepted move of at least one element.
+struct Moved {
+    config: Config,
+    plan: Plan,
+    elements: Vec<Element>,
+    /// Whether the budget is above what was left.
+    spare: bool,
+}
+
+/// The cases that a call with these bytes is, by what it has to be answered.
+pub fn met(bytes: &[u8], expected: &[u8]) -> Vec<String> {
+    let (Some(&number), [_, 0, ..]) = (bytes.first(), expected) else {
+        return Vec::new();
+    };
+    let Some(moved) = moved(bytes) else {
+        return Vec::new();
+    };
+    let mut met = Vec::new();
+    if is_stretch(number) {
+        met.extend(stretch_met(&moved));
+    }
+    if tells_rows(number) {
+        met.extend(rows_met(&moved).iter().map(|case| of_size(moved.plan.element_size, case)));
+    }
+    met
+}
+
+/// What an accepted call moves: a whole plane, or from an element number on as many as its budget has.
+fn moved(bytes: &[u8]) -> Option<Moved> {
+    let (&number, arguments) = bytes.split_first()?;
+    match number {
+        MOVE_PLANE => {
+            let (tensor, config, _, _): (Tensor, Config, Counted, Memory) = whole(arguments)?;
+            elements_moved(&tensor, &config, 0, u64::MAX)
+        }
+        ADVANCE => {
+            let (job, from, budget, _): (Job, u64, u64, Memory) = whole(arguments)?;
+            elements_moved(&job.tensor, &job.config, from, budget)
+        }
+        STEP => {
+            let (table, handle, budget, _): (Table, u32, u64, Memory) = whole(arguments)?;
+            let slot = table.slot.get(handle as usize)?;
+            elements_moved(&slot.job.tensor, &slot.job.config, slot.moved, budget)
+        }
+        _ => None,
+    }
+}
+
+fn elements_moved(tensor: &Tensor, config: &Config, from: u64, budget: u64) -> Option<Moved> {
+    let plan = plan(tensor, config, None).ok()?;
+    let mut elements = Vec::new();
+    let all = coordinates(&plan);
+    let left = all.len().saturating_sub(from as usize) as u64;
+    for coordinate in all.into_iter().skip(from as usize).take(budget as usize) {
+        elements.push(Element { coordinate, is_kept: source_place(&plan, config, &coordinate).is_some() });
+    }
+    let moved = Moved { config: *config, plan, elements, spare: budget > left };
+    (!moved.elements.is_empty()).then_some(moved)
+}
+
+impl Moved {
+    /// The dimension of a row, which is the last of the destination.
+    fn last(&self) -> usize {
+        self.plan.rank - 1
+    }
+
+    /// Whether an element stands in a row that is padding in another dimension.
+    fn in_row_of_padding(&self, element: &Element) -> bool {
+        let mut first_kept = element.coordinate;
+        first_kept[self.last()] = self.config.pre[self.config.perm[self.last()] as usize] as u64;
+        source_place(&self.plan, &self.config, &first_kept).is_none()
+    }
+}
+
+fn stretch_met(moved: &Moved) -> Vec<String> {
+    let (Some(first), Some(end)) = (moved.elements.first(), moved.elements.last()) else {
+        return Vec::new();
+    };
+    let extent = &moved.plan.extent[..moved.plan.rank];
+    let last = moved.last();
+    let begins = first.coordinate[last] > 0;
+    let ends = end.coordinate[last] + 1 < extent[last];
+    // Whether a coordinate so many dimensions before the last changes. Each one farther in has more than one value, so
+    // that something is taken back.
+    let passes = |before: usize| {
+        last.checked_sub(before).is_some_and(|i| {
+            first.coordinate[..=i] != end.coordinate[..=i] && extent[i + 1..].iter().all(|&extent| extent > 1)
+        })
+    };
+    let beside_kept = |element: &Element| !element.is_kept && !moved.in_row_of_padding(element);
+    holding(&[
+        (begins, BEGINS),
+        (ends, ENDS),
+        (begins && ends && first.coordinate[..last] == end.coordinate[..last], WITHIN),
+        (beside_kept(first) && end.is_kept, PADDING_TO_KEPT),
+        (first.is_kept && beside_kept(end), KEPT_TO_PADDING),
+        (moved.in_row_of_padding(first), PADDED_ROW),
+        (passes(1), ROW_END),
+        (passes(2), PLANE_END),
+        (passes(3), BLOCK_END),
+        (moved.spare, MORE),
+    ])
+}
+
+/// The cases of all rows that were moved, each once.
+fn rows_met(moved: &Moved) -> Vec<String> {
+    let last = moved.last();
+    let s = moved.config.perm[last] as usize;
+    let (source, step, destination) = (moved.plan.source_stride[s], moved.config.step[s], moved.plan.stride[last]);
+    let rows = || moved.elements.chunk_by(|a, b| a.coordinate[..last] == b.coordinate[..last]);
+    // Two kept neighbours: from the one to the other is what a row adds.
+    let run = rows().any(|row| row.windows(2).any(|two| two[0].is_kept && two[1].is_kept));
+    // A row with something kept, by whether the first and the last that was moved of it are padding.
+    let padded = |before: bool, behind: bool| {
+        let ends = |row: &[Element]| (row[0].is_kept, row[row.len() - 1].is_kept);
+        rows().any(|row| row.iter().any(|element| element.is_kept) && ends(row) == (!before, !behind))
+    };
+    holding(&[
+        (run && (source, step, destination) == (1, 1, 1), SIDE_BY_SIDE),
+        (run && (source, step) == (1, 1) && destination > 1, WIDER),
+        (run && (source, destination) == (1, 1) && step > 1, THINNED),
+        (run && (step, destination) == (1, 1) && source > 1 && s != last, TURNED),
+        (padded(true, false), BEFORE),
+        (padded(false, true), BEHIND),
+        (padded(true, true), BOTH),
+    ])
+}
