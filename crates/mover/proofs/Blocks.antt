@@ -10,11 +10,11 @@ use lib.Seq.{sets, take-suc, getD-drop, length-take-le}
 use Rattle.mover.specs.declared.elements.Course.{Course}
 use Rattle.mover.specs.declared.elements.Origin.{Origin}
 use Rattle.mover.specs.Private.Elements.{sourceBytes}
-use Rattle.mover.specs.Private.Steps.{along}
-use Rattle.mover.specs.Private.Runs.{runOf, keptRun, runCopied, Held, Readable, Writable}
+use Rattle.mover.specs.Private.Adding.{along}
+use Rattle.mover.specs.Private.Runs.{runStored, keptBytes, runCopied, Held, Readable, Writable}
 use Rattle.mover.proofs.Places.{apart-part}
 use Rattle.mover.proofs.Bytes.{copied-one, sized-some, sized-one, source-long}
-use Rattle.mover.proofs.Steps.{along-none, along-next, along-on}
+use Rattle.mover.proofs.Adding.{along-none, along-next, along-on}
 
 sets-snoc : (l : List ℕ) (i : ℕ) (vs : List ℕ) (a : ℕ) → sets l i (vs ++ (a ∷ [])) ≡ set (sets l i vs) (i + length vs) a
 sets-snoc l i [] a = rw add-zero
@@ -84,12 +84,12 @@ sided at to z n = record { at = at; jump = z; to = to; stride = z; size = z; n =
 module _ (s d : List ℕ) (at to : ℕ) (fs : length s < 2 ^ 64) where
   -- the first m bytes stored
   abbrev stored : ℕ → List ℕ
-  stored m = runOf (keptRun s (sided at to 1 m)) to 1 m d
+  stored m = runStored (keptBytes s (sided at to 1 m)) to 1 m d
 
   -- z bytes more are one element
   grow : (m z : ℕ) → along to 1 m + z < 2 ^ 64 → along at 1 m + z ≤ length s
       → stored (m + z) ≡ sets (stored m) (along to 1 m) (take z (drop (along at 1 m) s))
-  unfolding runOf
+  unfolding runStored
   grow m zero h g = rw add-zero
   grow m (suc z) h g =
       let et : along to 1 (m + z) ≡ along to 1 m + z = sym (along-on to 1 m z) ∙ along-ones (along to 1 m) z (omega arith) in
@@ -99,8 +99,8 @@ module _ (s d : List ℕ) (at to : ℕ) (fs : length s < 2 ^ 64) where
       ∙ copy-more (stored m) s (along at 1 m) (along to 1 m) z (omega arith)
       ∙ rw add-one)
 
-  bytes-run : (l z n : ℕ) → l < 2 ^ 64 → Held (length s) at z z n → Held l to z z n → stored (n * z) ≡ runOf (keptRun s (sided at to z n)) to z n d
-  unfolding runOf
+  bytes-run : (l z n : ℕ) → l < 2 ^ 64 → Held (length s) at z z n → Held l to z z n → stored (n * z) ≡ runStored (keptBytes s (sided at to z n)) to z n d
+  unfolding runStored
   bytes-run l z zero fl h g = rw zero-mul
   bytes-run l z (suc n) fl h g =
       let wa = rw (along-unit at z n) at (h n (omega arith)) in

@@ -12,7 +12,7 @@ pub mod Laws
 -- Laws over plain values, which the functions' proofs cite.
 pub mod Bytes
 pub mod Places
-pub mod Steps
+pub mod Adding
 pub mod ByNumber
 pub mod Runs
 pub mod Blocks

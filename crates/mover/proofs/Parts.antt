@@ -10,7 +10,7 @@ use mathlib.Core.Logic.{_⊎_, ⊎-elim, inl, inr}
 use Rattle.mover.specs.declared.elements.Origin.the-variants.{Lent, Inside}
 use lib.Seq.{sets-eq, set-set, set-comm, drop-at, take-append-seam, sets, length-sets, set-append-left, ext-getD, getD-take, getD-drop, length-take-le, drop-drop}
 use Rattle.mover.specs.declared.plan.Plan.{Plan}
-use Rattle.mover.specs.Private.Elements.{planKept, stepped, placeOf, homeOf, planBytes, putAt, co0, co1, co2, co3, putNumber, planTotal, movedBy}
+use Rattle.mover.specs.Private.Elements.{planKept, summed, placeOf, homeOf, planBytes, putAt, co0, co1, co2, co3, putNumber, planTotal, movedBy}
 use Rattle.mover.specs.Private.Runs.{BytesApart}
 use Rattle.mover.specs.Private.Ready.{homeEnd, placeEnd, stretch, placedAt, GoodAxes, InExtents, Ready}
 use Rattle.mover.proofs.Bytes.{length-take-most, getD-sets-out}
@@ -46,11 +46,11 @@ run-within m a l h z w k =
 
 module _ (p : Plan) (a b : ℕ) where
   placed-place : (c0 c1 c2 c3 : ℕ) → placeOf (placedAt a b p) c0 c1 c2 c3 ≡ b + placeOf p c0 c1 c2 c3
-  unfolding placeOf stepped placedAt
+  unfolding placeOf summed placedAt
   placed-place c0 c1 c2 c3 = omega arith
 
   placed-home : (c0 c1 c2 c3 : ℕ) → homeOf (placedAt a b p) c0 c1 c2 c3 ≡ a + homeOf p c0 c1 c2 c3
-  unfolding homeOf stepped placedAt
+  unfolding homeOf summed placedAt
   placed-home c0 c1 c2 c3 = omega arith
 
   placed-bytes : (m : List ℕ) (l c0 c1 c2 c3 : ℕ) → a + l ≤ length m → homeEnd p ≤ l
@@ -92,11 +92,11 @@ module _ (p : Plan) (a b : ℕ) where
         ∙ sym (sets-eq (movedBy p (stretch m a l) from n (stretch m b k)) m b (rw (length-moved, len) (omega arith)) ∙ rw (length-moved, len, append-assoc))
 
   placed-homeEnd : homeEnd (placedAt a b p) ≡ a + homeEnd p
-  unfolding homeEnd stepped placedAt
+  unfolding homeEnd summed placedAt
   placed-homeEnd = omega arith
 
   placed-placeEnd : placeEnd (placedAt a b p) ≡ b + placeEnd p
-  unfolding placeEnd stepped placedAt
+  unfolding placeEnd summed placedAt
   placed-placeEnd = omega arith
 
   -- what a move between the parts asks, and that they are apart, is what the move within the memory asks
@@ -118,7 +118,7 @@ module _ (p : Plan) (a b : ℕ) where
 
   pub placed-fits : (m : List ℕ) (l k : ℕ) → a + l ≤ length m → b + k ≤ length m → Ready Lent p (stretch m a l) (stretch m b k)
       → (a + p .home ≤ length m) × (b + p .base ≤ length m)
-  unfolding homeEnd placeEnd stepped
+  unfolding homeEnd placeEnd summed
   placed-fits m l k wa wb r =
       let x = r .span in
       let y = r .need in

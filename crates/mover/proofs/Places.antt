@@ -14,24 +14,24 @@ use Rattle.mover.specs.declared.plan.Axis.{Axis}
 use Rattle.mover.specs.declared.plan.Plan.{Plan}
 use Rattle.mover.specs.declared.elements.Origin.{Origin}
 use Rattle.mover.specs.declared.elements.Origin.the-variants.{Lent, Inside}
-use Rattle.mover.specs.Private.Elements.{axisKept, planKept, stepped, placeOf, homeOf, sourceBytes}
+use Rattle.mover.specs.Private.Elements.{axisKept, planKept, summed, placeOf, homeOf, sourceBytes}
 use Rattle.mover.specs.Private.Runs.{BytesApart}
 use Rattle.mover.specs.Private.Ready.{homeEnd, placeEnd, GoodAxis, Ready, InExtents}
 
 -- a spot grows with each of its counts
-pub stepped-most : (b : ℕ) {k0 m0 k1 m1 k2 m2 k3 m3 : ℕ} (t0 t1 t2 t3 : ℕ) → k0 ≤ m0 → k1 ≤ m1 → k2 ≤ m2 → k3 ≤ m3
-    → stepped b k0 t0 k1 t1 k2 t2 k3 t3 ≤ stepped b m0 t0 m1 t1 m2 t2 m3 t3
-unfolding stepped
-stepped-most b {k0} {m0} {k1} {m1} {k2} {m2} {k3} {m3} t0 t1 t2 t3 h0 h1 h2 h3 =
+pub summed-most : (b : ℕ) {k0 m0 k1 m1 k2 m2 k3 m3 : ℕ} (t0 t1 t2 t3 : ℕ) → k0 ≤ m0 → k1 ≤ m1 → k2 ≤ m2 → k3 ≤ m3
+    → summed b k0 t0 k1 t1 k2 t2 k3 t3 ≤ summed b m0 t0 m1 t1 m2 t2 m3 t3
+unfolding summed
+summed-most b {k0} {m0} {k1} {m1} {k2} {m2} {k3} {m3} t0 t1 t2 t3 h0 h1 h2 h3 =
     let p0 = mul-le-mul-right t0 h0 in
     let p1 = mul-le-mul-right t1 h1 in
     let p2 = mul-le-mul-right t2 h2 in
     let p3 = mul-le-mul-right t3 h3 in
     omega arith
 
-pub stepped-least : (b k0 t0 k1 t1 k2 t2 k3 t3 : ℕ) → b ≤ stepped b k0 t0 k1 t1 k2 t2 k3 t3
-unfolding stepped
-stepped-least b k0 t0 k1 t1 k2 t2 k3 t3 = omega arith
+pub summed-least : (b k0 t0 k1 t1 k2 t2 k3 t3 : ℕ) → b ≤ summed b k0 t0 k1 t1 k2 t2 k3 t3
+unfolding summed
+summed-least b k0 t0 k1 t1 k2 t2 k3 t3 = omega arith
 
 -- a dimension of which something is kept has an extent
 pub axis-some : {x : Axis} → GoodAxis x → 0 < x .extent
@@ -74,7 +74,7 @@ module _ (p : Plan) (c0 c1 c2 c3 : ℕ) where
 
   pub place-least : p .base ≤ placeOf p c0 c1 c2 c3
   unfolding placeOf
-  place-least = stepped-least (p .base) c0 (p .d0 .stride) c1 (p .d1 .stride) c2 (p .d2 .stride) c3 (p .d3 .stride)
+  place-least = summed-least (p .base) c0 (p .d0 .stride) c1 (p .d1 .stride) c2 (p .d2 .stride) c3 (p .d3 .stride)
 
   pub place-most : InExtents p c0 c1 c2 c3 → placeOf p c0 c1 c2 c3 + p .size ≤ placeEnd p
   unfolding placeOf placeEnd
@@ -83,12 +83,12 @@ module _ (p : Plan) (c0 c1 c2 c3 : ℕ) where
       let h1 : c1 ≤ p .d1 .extent - 1 = omega (arith, w .in1) in
       let h2 : c2 ≤ p .d2 .extent - 1 = omega (arith, w .in2) in
       let h3 : c3 ≤ p .d3 .extent - 1 = omega (arith, w .in3) in
-      omega (arith, stepped-most (p .base) (p .d0 .stride) (p .d1 .stride) (p .d2 .stride) (p .d3 .stride) h0 h1 h2 h3)
+      omega (arith, summed-most (p .base) (p .d0 .stride) (p .d1 .stride) (p .d2 .stride) (p .d3 .stride) h0 h1 h2 h3)
 
   pub home-least : p .home ≤ homeOf p c0 c1 c2 c3
   unfolding homeOf
   home-least =
-      stepped-least (p .home)
+      summed-least (p .home)
       (c0 - p .d0 .pre) (p .d0 .jump) (c1 - p .d1 .pre) (p .d1 .jump) (c2 - p .d2 .pre) (p .d2 .jump) (c3 - p .d3 .pre) (p .d3 .jump)
 
   pub home-most : planKept p c0 c1 c2 c3 ≡ true → homeOf p c0 c1 c2 c3 + p .size ≤ homeEnd p
@@ -97,7 +97,7 @@ module _ (p : Plan) (c0 c1 c2 c3 : ℕ) where
       let k = all-kept-of h in
       omega (
         arith,
-        stepped-most (p .home) (p .d0 .jump) (p .d1 .jump) (p .d2 .jump) (p .d3 .jump)
+        summed-most (p .home) (p .d0 .jump) (p .d1 .jump) (p .d2 .jump) (p .d3 .jump)
             (k .k0 .most) (k .k1 .most) (k .k2 .most) (k .k3 .most),
       )
 

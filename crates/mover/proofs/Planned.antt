@@ -23,7 +23,7 @@ use Rattle.mover.specs.declared.plan.Plan.{Plan}
 use Rattle.mover.specs.Element.{dimOf, kOf, isKept, areKept, sourcePlace, place, element}
 use Rattle.mover.specs.Moved.{extentAt, total, perStep, coordOf, stored, moved}
 use Rattle.mover.specs.Private.Plans.{axisOf, lone, planOf}
-use Rattle.mover.specs.Private.Elements.{axisKept, planKept, stepped, placeOf, homeOf, planBytes, putAt, planTotal, co0, co1, co2, co3, putNumber, movedBy}
+use Rattle.mover.specs.Private.Elements.{axisKept, planKept, summed, placeOf, homeOf, planBytes, putAt, planTotal, co0, co1, co2, co3, putNumber, movedBy}
 use Rattle.mover.specs.Private.Ready.{homeEnd, placeEnd, GoodAxis, Ready}
 use Rattle.mover.proofs.Numbers.{digit}
 use Rattle.mover.proofs.Sums.{sum-bytes}
@@ -79,7 +79,7 @@ by-three q a b c =
 
 module _ (z h b : ℕ) (x : ℕ → Axis) where
   widens : (n : ℕ) → 1 ≤ n → n ≤ 4 → Widened z h b x n
-  unfolding planTotal product placeOf homeOf stepped sum planKept axisKept every homeEnd placeEnd
+  unfolding planTotal product placeOf homeOf summed sum planKept axisKept every homeEnd placeEnd
   widens =
       by-rank (λ n. Widened z h b x n)
       (record {

@@ -1,4 +1,4 @@
--- Laws of a run: where it ends, what its elements leave, `runOf`, and a loop that stores them. Assumes nothing.
+-- Laws of a run: where it ends, what its elements leave, `runStored`, and a loop that stores them. Assumes nothing.
 use mathlib.Core.Path.{_≡_, refl, sym, ap, _∙_}
 use mathlib.Core.Logic.{_⊎_, ⊎-elim, inl, inr}
 use mathlib.Core.Bool.{Bool, true, false, _&&_}
@@ -16,11 +16,11 @@ use Rattle.mover.specs.declared.elements.Course.{Course}
 use Rattle.mover.specs.declared.elements.Origin.{Origin}
 use Rattle.mover.specs.declared.elements.Origin.the-variants.{Lent, Inside}
 use Rattle.mover.specs.Private.Elements.{sourceBytes, axisKept}
-use Rattle.mover.specs.Private.Steps.{along}
-use Rattle.mover.specs.Private.Runs.{Alike, runOf, keptRun, Parted}
+use Rattle.mover.specs.Private.Adding.{along}
+use Rattle.mover.specs.Private.Runs.{Alike, runStored, keptBytes, Parted}
 use Rattle.mover.proofs.Keeping.{range-test}
 use Rattle.mover.proofs.Bytes.{getD-sets-out, length-take-most}
-use Rattle.mover.proofs.Steps.{along-none, along-next}
+use Rattle.mover.proofs.Adding.{along-none, along-next}
 use Rattle.mover.proofs.ByNumber.{run-same}
 
 -- ---- the run from a coordinate on
@@ -30,7 +30,7 @@ no-more true = refl
 no-more false = refl
 
 module _ (x : Axis) (c most : ℕ) {n : ℕ} (f : x .pre + x .count ≤ x .extent) (l : c < x .extent) (m : 0 < most) where
-  -- padding before, what is kept, padding behind, and where another coordinate is padding
+  -- padding before, what is kept, padding afterRun, and where another coordinate is padding
   pub run-before : c < x .pre → n ≡ min (x .pre - c) most → Alike x true c most (record { kept = false; n = n })
   unfolding axisKept
   run-before h e = record {
@@ -68,27 +68,27 @@ module _ (x : Axis) (c most : ℕ) {n : ℕ} (f : x .pre + x .count ≤ x .exten
 -- ---- what it stores
 
 module _ (e : ℕ → List ℕ) (to stride : ℕ) where
-  pub length-run : (n : ℕ) (d : List ℕ) → length (runOf e to stride n d) ≡ length d
-  unfolding runOf
+  pub length-run : (n : ℕ) (d : List ℕ) → length (runStored e to stride n d) ≡ length d
+  unfolding runStored
   length-run zero d = refl
   length-run (suc n) d = simp length-sets (length-run n d)
 
   -- a byte that belongs to none of the elements is as it was
   run-out : (n : ℕ) (d : List ℕ) (k : ℕ) → ((j : ℕ) → j < n → (k < along to stride j) ⊎ (along to stride j + length (e j) ≤ k))
-      → getD (runOf e to stride n d) k 0 ≡ getD d k 0
-  unfolding runOf
+      → getD (runStored e to stride n d) k 0 ≡ getD d k 0
+  unfolding runStored
   run-out zero d k h = refl
   run-out (suc n) d k h =
-      getD-sets-out (e n) (runOf e to stride n d) (along to stride n) k (h n (omega arith)) ∙ run-out n d k (λ j l. h j (omega arith))
+      getD-sets-out (e n) (runStored e to stride n d) (along to stride n) k (h n (omega arith)) ∙ run-out n d k (λ j l. h j (omega arith))
 
 -- while kept elements are stored, those still to be read are as they were
 pub run-keeps : (o : Origin) (s d v : List ℕ) (c : Course) (k : ℕ) → Parted o c → k < c .n
-    → keptRun (sourceBytes o s (runOf (keptRun v c) (c .to) (c .stride) k d)) c k ≡ keptRun (sourceBytes o s d) c k
+    → keptBytes (sourceBytes o s (runStored (keptBytes v c) (c .to) (c .stride) k d)) c k ≡ keptBytes (sourceBytes o s d) c k
 run-keeps Lent s d v c k p h = refl
 run-keeps Inside s d v c k p h =
-    run-same (runOf (keptRun v c) (c .to) (c .stride) k d) d (along (c .at) (c .jump) k) (c .size) (length-run (keptRun v c) (c .to) (c .stride) k d)
+    run-same (runStored (keptBytes v c) (c .to) (c .stride) k d) d (along (c .at) (c .jump) k) (c .size) (length-run (keptBytes v c) (c .to) (c .stride) k d)
     (λ i a b.
-    run-out (keptRun v c) (c .to) (c .stride) k d i
+    run-out (keptBytes v c) (c .to) (c .stride) k d i
     (λ j l.
     let m = length-take-most (c .size) (drop (along (c .at) (c .jump) j) v) in
     ⊎-elim (λ x. inl (omega arith)) (λ y. inr (omega arith)) (p k j h (omega arith))))
@@ -103,10 +103,10 @@ still-held Inside s d e h l = rw h l
 pub record Done (e : ℕ → List ℕ) (to stride n : ℕ) (d₀ d : List ℕ) (t k : ℕ) : Type 0 where
   pub within : k ≤ n
   pub place : t ≡ along to stride k
-  pub bytes : d ≡ runOf e to stride k d₀
+  pub bytes : d ≡ runStored e to stride k d₀
 
 pub done-start : (e : ℕ → List ℕ) (to stride n : ℕ) (d : List ℕ) → to < 2 ^ 64 → Done e to stride n d d to 0
-unfolding runOf
+unfolding runStored
 done-start e to stride n d h = record { within = omega arith; place = sym (along-none to stride h); bytes = refl }
 
 module _ {e : ℕ → List ℕ} {to stride n : ℕ} {d₀ d : List ℕ} {t k : ℕ} (a : Done e to stride n d₀ d t k) where
@@ -114,7 +114,7 @@ module _ {e : ℕ → List ℕ} {to stride n : ℕ} {d₀ d : List ℕ} {t k : �
   done-length = ap length (a .bytes) ∙ length-run e to stride k d₀
 
   pub done-next : {t' : ℕ} {d' : List ℕ} → k < n → t' ≡ (t + stride) % 2 ^ 64 → d' ≡ sets d t (e k) → Done e to stride n d₀ d' t' (k + 1)
-  unfolding runOf
+  unfolding runStored
   done-next h p b =
       record {
         within = omega arith;
@@ -122,8 +122,8 @@ module _ {e : ℕ → List ℕ} {to stride n : ℕ} {d₀ d : List ℕ} {t k : �
         bytes = b ∙ rw (a .bytes, a .place, add-one);
       }
 
-  pub done-end : n ≤ k → (t ≡ along to stride n) × (d ≡ runOf e to stride n d₀)
+  pub done-end : n ≤ k → (t ≡ along to stride n) × (d ≡ runStored e to stride n d₀)
   done-end h =
       let w = a .within in
       let q : k ≡ n = omega arith in
-      (a .place ∙ ap (along to stride) q, a .bytes ∙ ap (λ (j : ℕ). runOf e to stride j d₀) q)
+      (a .place ∙ ap (along to stride) q, a .bytes ∙ ap (λ (j : ℕ). runStored e to stride j d₀) q)

@@ -1,4 +1,4 @@
--- What a turn of the engine's loops keeps: a run is elements by their numbers, and the end of a row, a plane and a block is the start of
+-- What a turn of the engine's loops keeps: a run is elements by their numbers, and the end of a row, a layer and a slab is the start of
 -- the next. Assumes nothing.
 use mathlib.Core.Path.{_≡_, refl, sym, ap, _∙_}
 use mathlib.Core.Logic.{_⊎_, ⊎-elim}
@@ -11,16 +11,16 @@ use lib.ListN.{length, replicate}
 use Rattle.mover.specs.declared.plan.Plan.{Plan}
 use Rattle.mover.specs.declared.spots.Spot.{Spot}
 use Rattle.mover.specs.declared.spots.Spots.{Spots}
-use Rattle.mover.specs.declared.start.Start.{Start}
+use Rattle.mover.specs.declared.start.Beginning.{Beginning}
 use Rattle.mover.specs.declared.engine.Run.{Run}
 use Rattle.mover.specs.declared.elements.Origin.{Origin}
 use Rattle.mover.specs.Private.Elements.{sourceBytes, axisKept, planKept, placeOf, homeOf, planBytes, putAt, planTotal, movedBy, co3}
-use Rattle.mover.specs.Private.Steps.{along, reachOf, onwardOf, firstSpot, startOf, nextRow, nextPlane, nextBlock, behind}
-use Rattle.mover.specs.Private.Runs.{Alike, courseOf, runOf, eitherRun, runMoved, Readable, Writable}
+use Rattle.mover.specs.Private.Adding.{along, spotAt, onwardOf, firstSpot, beginningOf, nextRow, nextLayer, nextSlab, afterRun}
+use Rattle.mover.specs.Private.Runs.{Alike, courseOf, runStored, eitherBytes, runMoved, Readable, Writable}
 use Rattle.mover.specs.Private.Ready.{Ready, InExtents}
 use Rattle.mover.proofs.Bytes.{source-long}
 use Rattle.mover.proofs.Places.{place-least, place-most, home-least, home-most, all-kept-of, apart-part, still-ready}
-use Rattle.mover.proofs.Steps.{along-none, along-on, jumps-kept, reach-fits, reach-none, reach-on, row-place, row-home}
+use Rattle.mover.proofs.Adding.{along-none, along-on, jumps-kept, spot-fits, spot-none, spot-on, row-place, row-home}
 use Rattle.mover.proofs.ByNumber.{length-moved, moved-add, pick-same, numberOf, put-number, number-lt, spread-good, source-same}
 
 -- ---- a run
@@ -30,8 +30,8 @@ pub run-moved : (p : Plan) (s d : List ℕ) (e : ℕ → List ℕ) (to c0 c1 c2 
     → ((k : ℕ) → k < n → InExtents p c0 c1 c2 (c3 + k))
     → ((k : ℕ) → k < n → along to (p .d3 .stride) k ≡ placeOf p c0 c1 c2 (c3 + k))
     → ((k : ℕ) → k < n → planBytes p s c0 c1 c2 (c3 + k) ≡ e k)
-    → movedBy p s q n d ≡ runOf e to (p .d3 .stride) n d
-unfolding movedBy runOf putAt
+    → movedBy p s q n d ≡ runStored e to (p .d3 .stride) n d
+unfolding movedBy runStored putAt
 run-moved p s d e to c0 c1 c2 c3 zero h w f g = refl
 run-moved p s d e to c0 c1 c2 c3 (suc n) {q} h w f g =
     let z : numberOf p c0 c1 c2 (c3 + n) ≡ q + n = omega arith in
@@ -41,7 +41,7 @@ run-moved p s d e to c0 c1 c2 c3 (suc n) {q} h w f g =
 -- ---- the engine's loops
 
 -- the coordinates are those of element number from + done, where done is the part of the budget that is not left; what
--- is before it has been moved; and the spots are those of its block, plane and row and its own. Of the source's place nothing is
+-- is before it has been moved; and the spots are those of its slab, layer and row and its own. Of the source's place nothing is
 -- said where no element is left, or none that is kept in the row
 pub record At (o : Origin) (p : Plan) (s d₀ : List ℕ) (from budget : ℕ) (d : List ℕ) (c0 c1 c2 c3 left : ℕ) (u : Spots) : Type 0 where
   pub in1 : c1 ≤ p .d1 .extent
@@ -53,9 +53,9 @@ pub record At (o : Origin) (p : Plan) (s d₀ : List ℕ) (from budget : ℕ) (d
   pub number : numberOf p c0 c1 c2 c3 ≡ from + (budget - left)
   pub most : from + (budget - left) ≤ planTotal p
   pub bytes : d ≡ movedBy p (sourceBytes o s d₀) from (budget - left) d₀
-  pub block : u .block ≡ reachOf (firstSpot p) (p .d0) c0
-  pub plane : u .plane ≡ reachOf (u .block) (p .d1) c1
-  pub row : u .row ≡ reachOf (u .plane) (p .d2) c2
+  pub slab : u .slab ≡ spotAt (firstSpot p) (p .d0) c0
+  pub layer : u .layer ≡ spotAt (u .slab) (p .d1) c1
+  pub row : u .row ≡ spotAt (u .layer) (p .d2) c2
   pub place : u .here .to ≡ along (u .row .to) (p .d3 .stride) c3
   pub home : 0 < left → c3 < p .d3 .pre + p .d3 .count → u .here .at ≡ along (u .row .at) (p .d3 .jump) (c3 - p .d3 .pre)
 
@@ -78,9 +78,9 @@ carry a c e = rw (← add-assoc) (add-zero ((a + c + 1) * e) ∙ add-mul (a + c)
 carry0 : (c e : ℕ) → (c + 1) * e + 0 ≡ c * e + e
 carry0 c e = add-zero ((c + 1) * e) ∙ add-mul c 1 e ∙ rw one-mul
 
-pub start : (o : Origin) (p : Plan) (s d : List ℕ) (from budget : ℕ) {b : Start} → Ready o p s d → from < planTotal p → b ≡ startOf p from
+pub start : (o : Origin) (p : Plan) (s d : List ℕ) (from budget : ℕ) {b : Beginning} → Ready o p s d → from < planTotal p → b ≡ beginningOf p from
     → At o p s d from budget d (b .c0) (b .c1) (b .c2) (b .c3) budget (b .spots)
-unfolding movedBy startOf reachOf
+unfolding movedBy beginningOf spotAt
 start o p s d from budget r h e =
     let w = spread-good p (r .axes) from in
     rw e
@@ -94,8 +94,8 @@ start o p s d from budget r h e =
       number = w .back ∙ sym (rw (sub-self) (add-zero from));
       most = omega arith;
       bytes = sym (rw sub-self);
-      block = refl;
-      plane = refl;
+      slab = refl;
+      layer = refl;
       row = refl;
       place = refl;
       home = λ _ l. ap (along _ (p .d3 .jump)) (jumps-kept (p .d3) (co3 p from) (omega arith));
@@ -126,7 +126,7 @@ module _ {o : Origin} {p : Plan} {s d₀ : List ℕ} {from budget : ℕ} {d : Li
         let m = place-most p c0 c1 c2 (c3 + k) (run-within k h) in
         ap (λ (y : ℕ). along y (p .d3 .stride) k) (a .place)
         ∙ along-on (u .row .to) (p .d3 .stride) c3 k
-        ∙ row-place p c0 c1 c2 (a .block) (a .plane) (a .row) (c3 + k)
+        ∙ row-place p c0 c1 c2 (a .slab) (a .layer) (a .row) (c3 + k)
         ∙ mod-eq-of-lt (omega (arith, r .need))
 
     run-at : run .kept ≡ true → (k : ℕ) → k < run .n → along (u .here .at) (p .d3 .jump) k ≡ homeOf p c0 c1 c2 (c3 + k)
@@ -138,7 +138,7 @@ module _ {o : Origin} {p : Plan} {s d₀ : List ℕ} {from budget : ℕ} {d : Li
         ap (λ (y : ℕ). along y (p .d3 .jump) k) (a .home (omega (arith, l .some, l .cut)) (omega (arith, z .past, z .most, r .axes .in3 .some)))
         ∙ along-on (u .row .at) (p .d3 .jump) (c3 - p .d3 .pre) k
         ∙ ap (along (u .row .at) (p .d3 .jump)) e
-        ∙ row-home p c0 c1 c2 (a .block) (a .plane) (a .row) (c3 + k) (all k h)
+        ∙ row-home p c0 c1 c2 (a .slab) (a .layer) (a .row) (c3 + k) (all k h)
         ∙ mod-eq-of-lt (omega (arith, r .span, source-long o s d))
 
     -- what it asks
@@ -158,7 +158,7 @@ module _ {o : Origin} {p : Plan} {s d₀ : List ℕ} {from budget : ℕ} {d : Li
     }
 
     -- and what it leaves: its bytes are the elements', and nothing else has changed
-    run-bytes : (k : ℕ) → k < run .n → planBytes p (sourceBytes o s d₀) c0 c1 c2 (c3 + k) ≡ eitherRun (run .kept) (sourceBytes o s d) (courseOf p (u .here) (run .n)) k
+    run-bytes : (k : ℕ) → k < run .n → planBytes p (sourceBytes o s d₀) c0 c1 c2 (c3 + k) ≡ eitherBytes (run .kept) (sourceBytes o s d) (courseOf p (u .here) (run .n)) k
     unfolding planBytes
     run-bytes k h =
         let v = sourceBytes o s d in
@@ -167,7 +167,7 @@ module _ {o : Origin} {p : Plan} {s d₀ : List ℕ} {from budget : ℕ} {d : Li
         ∙ rw (run-kept k h) (pick-same (run .kept) (replicate (p .size) 0) (λ t. rw (run-at t k h)))
 
     pub turn : {d' : List ℕ} {u' : Spots}
-        → (u' ≡ behind u (p .d3) (run .n)) × (d' ≡ runMoved o s d (run .kept) (courseOf p (u .here) (run .n)))
+        → (u' ≡ afterRun u (p .d3) (run .n)) × (d' ≡ runMoved o s d (run .kept) (courseOf p (u .here) (run .n)))
         → At o p s d₀ from budget d' c0 c1 c2 (c3 + run .n) (left - run .n) u'
     turn {d'} t =
         let m : budget - (left - run .n) ≡ budget - left + run .n = omega (arith, a .fund, l .cut) in
@@ -188,8 +188,8 @@ module _ {o : Origin} {p : Plan} {s d₀ : List ℕ} {from budget : ℕ} {d : Li
               ∙ ap (movedBy p (sourceBytes o s d₀) (from + (budget - left)) (run .n)) (a .bytes)
               ∙ sym (moved-add p (sourceBytes o s d₀) from (budget - left) (run .n) d₀)
               ∙ ap (λ (j : ℕ). movedBy p (sourceBytes o s d₀) from j d₀) (sym m);
-          block = a .block;
-          plane = a .plane;
+          slab = a .slab;
+          layer = a .layer;
           row = a .row;
           place = ap (λ (y : ℕ). along y (p .d3 .stride) (run .n)) (a .place) ∙ along-on (u .row .to) (p .d3 .stride) c3 (run .n);
           home = λ h v.
@@ -199,14 +199,14 @@ module _ {o : Origin} {p : Plan} {s d₀ : List ℕ} {from budget : ℕ} {d : Li
               (l .whole (omega arith));
         })
 
-  -- a row, a plane and a block are done
+  -- a row, a layer and a slab are done
   pub next-row : {v : Spots} → c1 < p .d1 .extent → c2 < p .d2 .extent → p .d3 .extent ≤ c3 → v ≡ nextRow u (p .d2) (c2 + 1)
       → At o p s d₀ from budget d c0 c1 (c2 + 1) 0 left v
   next-row h1 h l g =
       let e : c3 ≡ p .d3 .extent = omega (arith, a .in3) in
       let n = onwardOf (u .row) (p .d2) (c2 + 1) in
-      let k : n ≡ reachOf (u .plane) (p .d2) (c2 + 1) = ap (λ (y : Spot). onwardOf y (p .d2) (c2 + 1)) (a .row) ∙ reach-on (u .plane) (p .d2) c2 in
-      let f = reach-fits (u .plane) (p .d2) (c2 + 1) k in
+      let k : n ≡ spotAt (u .layer) (p .d2) (c2 + 1) = ap (λ (y : Spot). onwardOf y (p .d2) (c2 + 1)) (a .row) ∙ spot-on (u .layer) (p .d2) c2 in
+      let f = spot-fits (u .layer) (p .d2) (c2 + 1) k in
       rw g
       (record {
         in1 = a .in1;
@@ -218,21 +218,21 @@ module _ {o : Origin} {p : Plan} {s d₀ : List ℕ} {from budget : ℕ} {d : Li
         fund = a .fund;
         most = a .most;
         bytes = a .bytes;
-        block = a .block;
-        plane = a .plane;
+        slab = a .slab;
+        layer = a .layer;
         row = k;
         place = sym (along-none (n .to) (p .d3 .stride) (f .0));
         home = λ h l. sym (rw zero-sub (along-none (n .at) (p .d3 .jump) (f .1)));
       })
 
-  pub next-plane : {v : Spots} → c1 < p .d1 .extent → p .d2 .extent ≤ c2 → v ≡ nextPlane u (p .d1) (c1 + 1)
+  pub next-layer : {v : Spots} → c1 < p .d1 .extent → p .d2 .extent ≤ c2 → v ≡ nextLayer u (p .d1) (c1 + 1)
       → At o p s d₀ from budget d c0 (c1 + 1) 0 c3 left v
-  next-plane h l g =
+  next-layer h l g =
       let e : c2 ≡ p .d2 .extent = omega (arith, a .in2) in
       let z : c3 ≡ 0 = a .new2 l in
-      let n = onwardOf (u .plane) (p .d1) (c1 + 1) in
-      let k : n ≡ reachOf (u .block) (p .d1) (c1 + 1) = ap (λ (y : Spot). onwardOf y (p .d1) (c1 + 1)) (a .plane) ∙ reach-on (u .block) (p .d1) c1 in
-      let f = reach-fits (u .block) (p .d1) (c1 + 1) k in
+      let n = onwardOf (u .layer) (p .d1) (c1 + 1) in
+      let k : n ≡ spotAt (u .slab) (p .d1) (c1 + 1) = ap (λ (y : Spot). onwardOf y (p .d1) (c1 + 1)) (a .layer) ∙ spot-on (u .slab) (p .d1) c1 in
+      let f = spot-fits (u .slab) (p .d1) (c1 + 1) k in
       rw g
       (record {
         in1 = omega arith;
@@ -244,22 +244,22 @@ module _ {o : Origin} {p : Plan} {s d₀ : List ℕ} {from budget : ℕ} {d : Li
         fund = a .fund;
         most = a .most;
         bytes = a .bytes;
-        block = a .block;
-        plane = k;
-        row = sym (reach-none n (p .d2) (f .0) (f .1));
+        slab = a .slab;
+        layer = k;
+        row = sym (spot-none n (p .d2) (f .0) (f .1));
         place = sym (rw z (along-none (n .to) (p .d3 .stride) (f .0)));
         home = λ h l. sym (rw (z, zero-sub) (along-none (n .at) (p .d3 .jump) (f .1)));
       })
 
-  pub next-block : {v : Spots} → p .d1 .extent ≤ c1 → v ≡ nextBlock u (p .d0) (c0 + 1)
+  pub next-slab : {v : Spots} → p .d1 .extent ≤ c1 → v ≡ nextSlab u (p .d0) (c0 + 1)
       → At o p s d₀ from budget d (c0 + 1) 0 c2 c3 left v
-  next-block l g =
+  next-slab l g =
       let e : c1 ≡ p .d1 .extent = omega (arith, a .in1) in
       let y = a .new1 l .0 in
       let z = a .new1 l .1 in
-      let n = onwardOf (u .block) (p .d0) (c0 + 1) in
-      let k : n ≡ reachOf (firstSpot p) (p .d0) (c0 + 1) = ap (λ (y : Spot). onwardOf y (p .d0) (c0 + 1)) (a .block) ∙ reach-on (firstSpot p) (p .d0) c0 in
-      let f = reach-fits (firstSpot p) (p .d0) (c0 + 1) k in
+      let n = onwardOf (u .slab) (p .d0) (c0 + 1) in
+      let k : n ≡ spotAt (firstSpot p) (p .d0) (c0 + 1) = ap (λ (y : Spot). onwardOf y (p .d0) (c0 + 1)) (a .slab) ∙ spot-on (firstSpot p) (p .d0) c0 in
+      let f = spot-fits (firstSpot p) (p .d0) (c0 + 1) k in
       rw g
       (record {
         in1 = omega arith;
@@ -271,9 +271,9 @@ module _ {o : Origin} {p : Plan} {s d₀ : List ℕ} {from budget : ℕ} {d : Li
         fund = a .fund;
         most = a .most;
         bytes = a .bytes;
-        block = k;
-        plane = sym (reach-none n (p .d1) (f .0) (f .1));
-        row = sym (rw y (reach-none n (p .d2) (f .0) (f .1)));
+        slab = k;
+        layer = sym (spot-none n (p .d1) (f .0) (f .1));
+        row = sym (rw y (spot-none n (p .d2) (f .0) (f .1)));
         place = sym (rw z (along-none (n .to) (p .d3 .stride) (f .0)));
         home = λ h l. sym (rw (z, zero-sub) (along-none (n .at) (p .d3 .jump) (f .1)));
       })

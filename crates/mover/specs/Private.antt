@@ -1,6 +1,6 @@
 -- What only private functions cite: a move as the engine wants it. No reader of a public contract needs these files.
 pub mod Plans
 pub mod Elements
-pub mod Steps
+pub mod Adding
 pub mod Runs
 pub mod Ready

@@ -4,7 +4,7 @@ ghost use mathlib.Core.Path.{_≡_};
 ghost use Prim.Native.Nat.{_+_, _*_, _^_, _≤_, _<_};
 ghost use lib.ListN.{length, getD};
 ghost use Rattle.mover.specs.Private.Elements.{sourceBytes};
-ghost use Rattle.mover.specs.Private.Steps.{along};
+ghost use Rattle.mover.specs.Private.Adding.{along};
 ghost use Rattle.mover.specs.Private.Runs.{elementCopied, elementCleared, runCopied, runCleared, Sized, Readable, Writable};
 
 // Where the source's bytes stand: in the slice lent for reading, or in the destination's own.

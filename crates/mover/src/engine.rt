@@ -10,15 +10,15 @@ use crate::plan::Axis;
 use crate::plan::Plan;
 use crate::spots::Spot;
 use crate::spots::Spots;
-use crate::spots::next_block;
-use crate::spots::next_plane;
+use crate::spots::next_layer;
 use crate::spots::next_row;
+use crate::spots::next_slab;
 use crate::start::begin;
 ghost use mathlib.Core.Path.{_≡_};
 ghost use mathlib.Core.Bool.{true, _&&_};
 ghost use Prim.Native.Nat.{_+_, _-_, min, _≤_, _<_};
 ghost use Rattle.mover.specs.Private.Elements.{axisKept, planTotal, movedFrom};
-ghost use Rattle.mover.specs.Private.Steps.{behind};
+ghost use Rattle.mover.specs.Private.Adding.{afterRun};
 ghost use Rattle.mover.specs.Private.Runs.{Alike, courseOf, runMoved, Readable, Writable};
 ghost use Rattle.mover.specs.Private.Ready.{Ready, LiesIn, PartsApart, movedWithin};
 ghost use Rattle.mover.specs.Within.{bytesOf};
@@ -75,11 +75,11 @@ fn run_at(x: Axis, outer: bool, c: usize, most: usize) -> Run
     }
 }
 
-// Moves a run, kept elements or padding, and tells the spots behind it: where to store the next element of the row.
+// Moves a run, kept elements or padding, and tells the spots afterRun it: where to store the next element of the row.
 fn move_run(src: &[u8], dst: &mut [u8], origin: Origin, plan: Plan, s: Spots, run: Run) -> Spots
     requires { ⌜ Writable (now dst) (courseOf plan (s .here) (run .n)) ⌝ }
     requires { ⌜ (run .kept ≡ true → Readable origin (now src) (now dst) (courseOf plan (s .here) (run .n))) ⌝ }
-    ensures next { λ r. ⌜ r ≡ behind s (plan .d3) (run .n) ⌝ }
+    ensures next { λ r. ⌜ r ≡ afterRun s (plan .d3) (run .n) ⌝ }
     ensures written { λ _. ⌜ now (dst .exit) ≡ runMoved origin (now (src .entry)) (now (dst .entry)) (run .kept) (courseOf plan (s .here) (run .n)) ⌝ }
 {
     let at = s.here.at;
@@ -144,11 +144,11 @@ pub(crate) fn advance(
             }
             c2 = 0;
             c1 += 1;
-            spots = next_plane(spots, plan.d1, c1);
+            spots = next_layer(spots, plan.d1, c1);
         }
         c1 = 0;
         c0 += 1;
-        spots = next_block(spots, plan.d0, c0);
+        spots = next_slab(spots, plan.d0, c0);
     }
     budget - left
 }

@@ -75,8 +75,8 @@ fn axis_of(c: Config, a: Answer, strides: [u32; 4], i: usize) -> Axis
     let pre = c.pre[d] as usize;
     let post = c.post[d] as usize;
     let step = c.step[d];
-    let apart = times(step, strides[d]);
-    let jump = apart * (a.element_size as usize);
+    let between = times(step, strides[d]);
+    let jump = between * (a.element_size as usize);
     Axis {
         extent,
         pre,

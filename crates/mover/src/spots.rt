@@ -1,8 +1,8 @@
-// Where an element stands in the destination and in the source, and where the next row, plane and block start: by adding.
+// Where an element stands in the destination and in the source, and where the next row, layer and slab start: by adding.
 use crate::plan::Axis;
 use std::num::wrapping_add_usize;
 ghost use mathlib.Core.Path.{_≡_};
-ghost use Rattle.mover.specs.Private.Steps.{onwardOf, nextRow, nextPlane, nextBlock};
+ghost use Rattle.mover.specs.Private.Adding.{onwardOf, nextRow, nextLayer, nextSlab};
 
 // Two places: `to` is the byte of an element in the destination, `at` that of the source's, or of the nearest that is kept.
 pub(crate) struct Spot {
@@ -10,10 +10,10 @@ pub(crate) struct Spot {
     pub(crate) at: usize,
 }
 
-// The spots of an element: the first of its block, of its plane and of its row, and its own.
+// The spots of an element: the first of its slab, of its layer and of its row, and its own.
 pub(crate) struct Spots {
-    pub(crate) block: Spot,
-    pub(crate) plane: Spot,
+    pub(crate) slab: Spot,
+    pub(crate) layer: Spot,
     pub(crate) row: Spot,
     pub(crate) here: Spot,
 }
@@ -47,28 +47,28 @@ pub(crate) fn next_row(s: Spots, x: Axis, c: usize) -> Spots
     }
 }
 
-// The same of the next plane; its first row starts where it does.
-pub(crate) fn next_plane(s: Spots, x: Axis, c: usize) -> Spots
-    ensures { λ r. ⌜ r ≡ nextPlane s x c ⌝ }
+// The same of the next layer; its first row starts where it does.
+pub(crate) fn next_layer(s: Spots, x: Axis, c: usize) -> Spots
+    ensures { λ r. ⌜ r ≡ nextLayer s x c ⌝ }
 {
-    let plane = onward(s.plane, x, c);
+    let layer = onward(s.layer, x, c);
     Spots {
-        plane,
-        row: plane,
-        here: plane,
+        layer,
+        row: layer,
+        here: layer,
         ..s
     }
 }
 
-// The same of the next block; its first plane and row start where it does.
-pub(crate) fn next_block(s: Spots, x: Axis, c: usize) -> Spots
-    ensures { λ r. ⌜ r ≡ nextBlock s x c ⌝ }
+// The same of the next slab; its first layer and row start where it does.
+pub(crate) fn next_slab(s: Spots, x: Axis, c: usize) -> Spots
+    ensures { λ r. ⌜ r ≡ nextSlab s x c ⌝ }
 {
-    let block = onward(s.block, x, c);
+    let slab = onward(s.slab, x, c);
     Spots {
-        block,
-        plane: block,
-        row: block,
-        here: block,
+        slab,
+        layer: slab,
+        row: slab,
+        here: slab,
     }
 }

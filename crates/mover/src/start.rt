@@ -7,11 +7,11 @@ use crate::spots::Spots;
 ghost use mathlib.Core.Path.{_≡_};
 ghost use Prim.Native.Nat.{_+_, _*_, _^_, _<_};
 ghost use Rattle.mover.specs.Private.Elements.{planTotal};
-ghost use Rattle.mover.specs.Private.Steps.{jumpsOf, reachOf, startOf};
+ghost use Rattle.mover.specs.Private.Adding.{jumpsOf, spotAt, beginningOf};
 ghost use Rattle.mover.specs.Private.Ready.{homeEnd, placeEnd, GoodAxes};
 
 // The coordinates of an element, and its spots.
-pub(crate) struct Start {
+pub(crate) struct Beginning {
     pub(crate) c0: usize,
     pub(crate) c1: usize,
     pub(crate) c2: usize,
@@ -34,11 +34,11 @@ fn jumps(x: Axis, c: usize) -> usize
 }
 
 // The spot at coordinate c of a dimension, from that at its start.
-fn reach(s: Spot, x: Axis, c: usize) -> Spot
+fn spot_at(s: Spot, x: Axis, c: usize) -> Spot
     requires { ⌜ 0 < x .count ⌝ }
     requires { ⌜ s .to + c * x .stride < 2 ^ 64 ⌝ }
     requires { ⌜ s .at + jumpsOf x c * x .jump < 2 ^ 64 ⌝ }
-    ensures { λ r. ⌜ r ≡ reachOf s x c ⌝ }
+    ensures { λ r. ⌜ r ≡ spotAt s x c ⌝ }
 {
     Spot {
         to: s.to + c * x.stride,
@@ -46,35 +46,37 @@ fn reach(s: Spot, x: Axis, c: usize) -> Spot
     }
 }
 
-// Where a step begins that begins with element number `from`.
-pub(crate) fn begin(plan: Plan, from: usize) -> Start
+// The coordinates and the spots of element number `from`, with which a step begins.
+pub(crate) fn begin(plan: Plan, from: usize) -> Beginning
     requires { ⌜ GoodAxes plan ⌝ }
     requires { ⌜ (homeEnd plan < 2 ^ 64) × (placeEnd plan < 2 ^ 64) ⌝ }
     requires { ⌜ from < planTotal plan ⌝ }
-    ensures { λ r. ⌜ r ≡ startOf plan from ⌝ }
+    ensures { λ r. ⌜ r ≡ beginningOf plan from ⌝ }
 {
     let e1 = plan.d1.extent;
     let e2 = plan.d2.extent;
     let e3 = plan.d3.extent;
-    let c0 = from / e3 / e2 / e1;
-    let c1 = from / e3 / e2 % e1;
-    let c2 = from / e3 % e2;
+    let rows = from / e3;
+    let layers = rows / e2;
+    let c0 = layers / e1;
+    let c1 = layers % e1;
+    let c2 = rows % e2;
     let c3 = from % e3;
     let first = Spot {
         to: plan.base,
         at: plan.home,
     };
-    let block = reach(first, plan.d0, c0);
-    let plane = reach(block, plan.d1, c1);
-    let row = reach(plane, plan.d2, c2);
-    let here = reach(row, plan.d3, c3);
+    let slab = spot_at(first, plan.d0, c0);
+    let layer = spot_at(slab, plan.d1, c1);
+    let row = spot_at(layer, plan.d2, c2);
+    let here = spot_at(row, plan.d3, c3);
     let spots = Spots {
-        block,
-        plane,
+        slab,
+        layer,
         row,
         here,
     };
-    Start {
+    Beginning {
         c0,
         c1,
         c2,

@@ -23,18 +23,18 @@ unfoldable pub planKept : Plan → ℕ → ℕ → ℕ → ℕ → Bool
 planKept p c0 c1 c2 c3 = axisKept (p .d0) c0 && axisKept (p .d1) c1 && axisKept (p .d2) c2 && axisKept (p .d3) c3
 
 -- the byte that k steps of t bytes in each dimension lead to
-unfoldable pub stepped : ℕ → ℕ → ℕ → ℕ → ℕ → ℕ → ℕ → ℕ → ℕ → ℕ
-stepped b k0 t0 k1 t1 k2 t2 k3 t3 = b + (k0 * t0 + k1 * t1 + k2 * t2 + k3 * t3)
+unfoldable pub summed : ℕ → ℕ → ℕ → ℕ → ℕ → ℕ → ℕ → ℕ → ℕ → ℕ
+summed b k0 t0 k1 t1 k2 t2 k3 t3 = b + (k0 * t0 + k1 * t1 + k2 * t2 + k3 * t3)
 
 -- the byte of the destination element at the coordinates: c strides in each dimension, from the base
 unfoldable pub placeOf : Plan → ℕ → ℕ → ℕ → ℕ → ℕ
 placeOf p c0 c1 c2 c3 =
-    stepped (p .base) c0 (p .d0 .stride) c1 (p .d1 .stride) c2 (p .d2 .stride) c3 (p .d3 .stride)
+    summed (p .base) c0 (p .d0 .stride) c1 (p .d1 .stride) c2 (p .d2 .stride) c3 (p .d3 .stride)
 
 -- the byte of the source element for them: k jumps in each dimension, from the home
 unfoldable pub homeOf : Plan → ℕ → ℕ → ℕ → ℕ → ℕ
 homeOf p c0 c1 c2 c3 =
-    stepped (p .home)
+    summed (p .home)
     (c0 - p .d0 .pre) (p .d0 .jump) (c1 - p .d1 .pre) (p .d1 .jump)
     (c2 - p .d2 .pre) (p .d2 .jump) (c3 - p .d3 .pre) (p .d3 .jump)
 

@@ -9,20 +9,20 @@ use Rattle.mover.specs.declared.plan.Plan.{Plan}
 use Rattle.mover.specs.declared.elements.Origin.{Origin}
 use Rattle.mover.specs.declared.elements.Origin.the-variants.{Inside}
 use Rattle.mover.specs.Within.{bytesOf}
-use Rattle.mover.specs.Private.Elements.{sourceBytes, stepped, movedBy}
+use Rattle.mover.specs.Private.Elements.{sourceBytes, summed, movedBy}
 use Rattle.mover.specs.Private.Runs.{Sized, BytesApart}
 
 -- past the last byte of a source element that can be kept, and of a destination element
 unfoldable pub homeEnd : Plan → ℕ
 homeEnd p =
-    stepped (p .home)
+    summed (p .home)
     (p .d0 .count - 1) (p .d0 .jump) (p .d1 .count - 1) (p .d1 .jump)
     (p .d2 .count - 1) (p .d2 .jump) (p .d3 .count - 1) (p .d3 .jump)
     + p .size
 
 unfoldable pub placeEnd : Plan → ℕ
 placeEnd p =
-    stepped (p .base)
+    summed (p .base)
     (p .d0 .extent - 1) (p .d0 .stride) (p .d1 .extent - 1) (p .d1 .stride)
     (p .d2 .extent - 1) (p .d2 .stride) (p .d3 .extent - 1) (p .d3 .stride)
     + p .size

@@ -15,7 +15,7 @@ use Rattle.mover.specs.declared.elements.Origin.{Origin}
 use Rattle.mover.specs.declared.elements.Origin.the-variants.{Lent, Inside}
 use Rattle.mover.specs.declared.engine.Run.{Run}
 use Rattle.mover.specs.Private.Elements.{sourceBytes, axisKept}
-use Rattle.mover.specs.Private.Steps.{along}
+use Rattle.mover.specs.Private.Adding.{along}
 
 -- ---- where a run ends
 
@@ -42,29 +42,29 @@ abbrev pub elementCleared : List ℕ → ℕ → ℕ → List ℕ
 elementCleared d to size = sets d to (replicate size 0)
 
 -- n elements, whose bytes e tells, the first at `to` and each a stride further
-unfoldable pub runOf : (ℕ → List ℕ) → ℕ → ℕ → ℕ → List ℕ → List ℕ
-runOf e to stride zero d = d
-runOf e to stride (suc n) d = sets (runOf e to stride n d) (along to stride n) (e n)
+unfoldable pub runStored : (ℕ → List ℕ) → ℕ → ℕ → ℕ → List ℕ → List ℕ
+runStored e to stride zero d = d
+runStored e to stride (suc n) d = sets (runStored e to stride n d) (along to stride n) (e n)
 
 -- the elements of a course: the source's, padding, and either
-abbrev pub keptRun : List ℕ → Course → ℕ → List ℕ
-keptRun s c k = take (c .size) (drop (along (c .at) (c .jump) k) s)
+abbrev pub keptBytes : List ℕ → Course → ℕ → List ℕ
+keptBytes s c k = take (c .size) (drop (along (c .at) (c .jump) k) s)
 
-abbrev pub padRun : Course → ℕ → List ℕ
-padRun c k = replicate (c .size) 0
+abbrev pub padBytes : Course → ℕ → List ℕ
+padBytes c k = replicate (c .size) 0
 
-abbrev pub eitherRun : Bool → List ℕ → Course → ℕ → List ℕ
-eitherRun kept s c k = cond kept (keptRun s c k) (padRun c k)
+abbrev pub eitherBytes : Bool → List ℕ → Course → ℕ → List ℕ
+eitherBytes kept s c k = cond kept (keptBytes s c k) (padBytes c k)
 
 -- all of them stored
 abbrev pub runCopied : Origin → List ℕ → List ℕ → Course → List ℕ
-runCopied o s d c = runOf (keptRun (sourceBytes o s d) c) (c .to) (c .stride) (c .n) d
+runCopied o s d c = runStored (keptBytes (sourceBytes o s d) c) (c .to) (c .stride) (c .n) d
 
 abbrev pub runCleared : List ℕ → Course → List ℕ
-runCleared d c = runOf (padRun c) (c .to) (c .stride) (c .n) d
+runCleared d c = runStored (padBytes c) (c .to) (c .stride) (c .n) d
 
 abbrev pub runMoved : Origin → List ℕ → List ℕ → Bool → Course → List ℕ
-runMoved o s d kept c = runOf (eitherRun kept (sourceBytes o s d) c) (c .to) (c .stride) (c .n) d
+runMoved o s d kept c = runStored (eitherBytes kept (sourceBytes o s d) c) (c .to) (c .stride) (c .n) d
 
 -- ---- what the leaves ask
 

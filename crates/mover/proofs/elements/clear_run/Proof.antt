@@ -2,13 +2,13 @@
 use Prim.Native.Nat.{_-_}
 use native.Mathlib.Omega.{arith}
 use borrow.Author.Needs.{needs}
-use Rattle.mover.specs.Private.Runs.{padRun}
+use Rattle.mover.specs.Private.Runs.{padBytes}
 use Rattle.mover.proofs.Runs.{Done, done-start, done-length, done-next, done-end}
 use Rattle.mover.proofs.elements.clear_run.Statement.{statement}
 use Rattle.mover.proofs.elements.clear_run.Tie as tie
 
 abbrev Inv-loop : tie.InvT-loop
-Inv-loop dst₀ c to₀ k₀ dst to k = Done (padRun c) (c .to) (c .stride) (c .n) dst₀ dst to k
+Inv-loop dst₀ c to₀ k₀ dst to k = Done (padBytes c) (c .to) (c .stride) (c .n) dst₀ dst to k
 
 abbrev μ-loop : tie.MeasureT-loop
 μ-loop dst₀ c to₀ k₀ dst to k = c .n - k
@@ -17,7 +17,7 @@ loop-holds : tie.Need-loop-holds Inv-loop μ-loop
 loop-holds c =
     let s = c .before in
     let a = s .args .c in
-    done-start (padRun a) (a .to) (a .stride) (a .n) (s .args .dst .now) (omega (arith, s .good))
+    done-start (padBytes a) (a .to) (a .stride) (a .n) (s .args .dst .now) (omega (arith, s .good))
 
 clear-requires : tie.Need-clear-requires Inv-loop μ-loop
 clear-requires c κs =

@@ -5,16 +5,16 @@ use native.Mathlib.Omega.{arith}
 use borrow.Author.Needs.{needs}
 use lib.Seq.{sets}
 use Rattle.mover.specs.Private.Elements.{sourceBytes}
-use Rattle.mover.specs.Private.Steps.{along}
-use Rattle.mover.specs.Private.Runs.{runOf, keptRun}
-use Rattle.mover.proofs.Steps.{along-none, along-next}
+use Rattle.mover.specs.Private.Adding.{along}
+use Rattle.mover.specs.Private.Runs.{runStored, keptBytes}
+use Rattle.mover.proofs.Adding.{along-none, along-next}
 use Rattle.mover.proofs.Runs.{still-held, run-keeps, Done, done-start, done-length, done-next, done-end}
 use Rattle.mover.proofs.elements.copy_each.Statement.{statement}
 use Rattle.mover.proofs.elements.copy_each.Tie as tie
 
 abbrev Inv-loop : tie.InvT-loop
 Inv-loop src dst₀ origin c at₀ to₀ k₀ dst at to k =
-    Done (keptRun (sourceBytes origin src dst₀) c) (c .to) (c .stride) (c .n) dst₀ dst to k × (at ≡ along (c .at) (c .jump) k)
+    Done (keptBytes (sourceBytes origin src dst₀) c) (c .to) (c .stride) (c .n) dst₀ dst to k × (at ≡ along (c .at) (c .jump) k)
 
 abbrev μ-loop : tie.MeasureT-loop
 μ-loop src dst₀ origin c at₀ to₀ k₀ dst at to k = c .n - k
@@ -23,7 +23,7 @@ loop-holds : tie.Need-loop-holds Inv-loop μ-loop
 loop-holds c =
     let s = c .before .before in
     let a = s .args .c in (
-      done-start (keptRun (sourceBytes (s .args .origin) (s .args .src .now) (s .args .dst .now)) a) (a .to) (a .stride) (a .n) (s .args .dst .now) (omega (arith, s .good)),
+      done-start (keptBytes (sourceBytes (s .args .origin) (s .args .src .now) (s .args .dst .now)) a) (a .to) (a .stride) (a .n) (s .args .dst .now) (omega (arith, s .good)),
       sym (along-none (a .at) (a .jump) (omega (arith, s .good))),
     )
 
@@ -57,9 +57,9 @@ loop-again c =
     let a = s .args .c in
     let d = s .args .dst .now in
     let v = sourceBytes (s .args .origin) (s .args .src .now) d in
-    let e : m .copy .last .1 .0 ≡ sets (l .dst) (l .to) (keptRun v a (l .k)) =
+    let e : m .copy .last .1 .0 ≡ sets (l .dst) (l .to) (keptBytes v a (l .k)) =
     m .copy .ensures ∙
-    rw (l .inv .1, l .inv .0 .bytes) (ap (sets (runOf (keptRun v a) (a .to) (a .stride) (l .k) d) (l .to))
+    rw (l .inv .1, l .inv .0 .bytes) (ap (sets (runStored (keptBytes v a) (a .to) (a .stride) (l .k) d) (l .to))
     (run-keeps (s .args .origin) (s .args .src .now) d v a (l .k) (s .pre .1 .parted) (t .if1 .taken))) in (
       done-next (l .inv .0) (t .if1 .taken) (c .wrapping-add-usize2 .ensures) e,
       c .before .wrapping-add-usize .ensures ∙ rw (l .inv .1) (along-next (a .at) (a .jump) (l .k)),

@@ -2,7 +2,7 @@
 use mathlib.Core.Path.{ap, _∙_}
 use native.Mathlib.Omega.{arith}
 use borrow.Author.Needs.{needs}
-use Rattle.mover.specs.Private.Steps.{along}
+use Rattle.mover.specs.Private.Adding.{along}
 use Rattle.mover.proofs.Blocks.{Block, block}
 use Rattle.mover.proofs.elements.copy_run.Statement.{statement}
 use Rattle.mover.proofs.elements.copy_run.Tie as tie

@@ -14,7 +14,7 @@ use Rattle.mover.specs.declared.spots.Spots.{Spots}
 use Rattle.mover.specs.Private.Elements.{axisKept}
 use Rattle.mover.specs.Private.Ready.{Ready, InExtents}
 use Rattle.mover.proofs.Bytes.{source-long}
-use Rattle.mover.proofs.Turns.{At, Keeps, Over, start, run-writes, run-reads, turn, next-row, next-plane, next-block, at-spent, at-end, at-length, at-ready}
+use Rattle.mover.proofs.Turns.{At, Keeps, Over, start, run-writes, run-reads, turn, next-row, next-layer, next-slab, at-spent, at-end, at-length, at-ready}
 use Rattle.mover.proofs.engine.advance.Statement.{statement}
 use Rattle.mover.proofs.engine.advance.Tie as tie
 
@@ -187,12 +187,12 @@ loop-again : tie.Need-loop-again Inv-loop3 μ-loop3 Inv-loop2 μ-loop2 Inv-loop 
 loop-again c =
     let j = c .before .before .before in
     let k = loop-of j in
-    λ d₀ a. next-plane (j .loop2 .inv d₀ (k .loop .inv d₀ a)) (j .before .before .if2 .taken) (c .before .if3 .left) (c .next-plane .ensures)
+    λ d₀ a. next-layer (j .loop2 .inv d₀ (k .loop .inv d₀ a)) (j .before .before .if2 .taken) (c .before .if3 .left) (c .next-layer .ensures)
 
 all-again : tie.Need-all-again Inv-loop3 μ-loop3 Inv-loop2 μ-loop2 Inv-loop μ-loop Inv-all μ-all
 all-again c =
     let k = c .before .before .before in
-    λ d₀ a. next-block (k .loop .inv d₀ (all-of k .all .inv d₀ a)) (c .before .if2 .left) (c .next-block .ensures)
+    λ d₀ a. next-slab (k .loop .inv d₀ (all-of k .all .inv d₀ a)) (c .before .if2 .left) (c .next-slab .ensures)
 
 -- where the ways out of the loops meet: at the end of the outermost, and by the label
 over : (c : tie.Joined1 Inv-loop3 μ-loop3 Inv-loop2 μ-loop2 Inv-loop μ-loop Inv-all μ-all) → let a = begun (c .before .before) .args in Over (a .origin) (a .plan) (a .src .now) (a .dst .now) (a .from) (a .budget) (c .if1 .dst) (c .if1 .left)

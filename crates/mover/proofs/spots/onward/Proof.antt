@@ -1,7 +1,7 @@
 -- `mover::spots::onward` adds a stride, and a jump between two coordinates that are kept. Assumes nothing.
 use borrow.Author.Needs.{needs}
 use borrow.Author.Tests.{lt-ltb, le-ltb}
-use Rattle.mover.specs.Private.Steps.{onwardOf}
+use Rattle.mover.specs.Private.Adding.{onwardOf}
 use Rattle.mover.proofs.spots.onward.Statement.{statement}
 use Rattle.mover.proofs.spots.onward.Tie as tie
 

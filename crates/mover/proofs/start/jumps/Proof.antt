@@ -1,7 +1,7 @@
 -- `mover::start::jumps` takes the coordinate, or the nearest that is kept. Assumes nothing.
 use native.Mathlib.Omega.{arith}
 use borrow.Author.Needs.{needs}
-use Rattle.mover.specs.Private.Steps.{jumpsOf}
+use Rattle.mover.specs.Private.Adding.{jumpsOf}
 use Rattle.mover.proofs.start.jumps.Statement.{statement}
 use Rattle.mover.proofs.start.jumps.Tie as tie
 

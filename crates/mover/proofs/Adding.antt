@@ -11,10 +11,10 @@ use lib.Dec.{ltb}
 use Rattle.mover.specs.declared.plan.Axis.{Axis}
 use Rattle.mover.specs.declared.plan.Plan.{Plan}
 use Rattle.mover.specs.declared.spots.Spot.{Spot}
-use Rattle.mover.specs.Private.Elements.{planKept, stepped, placeOf, homeOf}
-use Rattle.mover.specs.Private.Steps.{along, jumpsOf, reachOf, onwardOf, firstSpot}
+use Rattle.mover.specs.Private.Elements.{planKept, summed, placeOf, homeOf}
+use Rattle.mover.specs.Private.Adding.{along, jumpsOf, spotAt, onwardOf, firstSpot}
 use Rattle.mover.specs.Private.Ready.{homeEnd, placeEnd, InExtents}
-use Rattle.mover.proofs.Places.{all-kept-of, stepped-most, place-most}
+use Rattle.mover.proofs.Places.{all-kept-of, summed-most, place-most}
 
 module _ (a j : ℕ) where
   pub along-fits : (k : ℕ) → along a j k < 2 ^ 64
@@ -64,21 +64,21 @@ module _ (x : Axis) (c : ℕ) where
   jumps-kept h = min-eq-left h
 
 module _ (s : Spot) (x : Axis) where
-  pub reach-fits : (c : ℕ) {r : Spot} → r ≡ reachOf s x c → (r .to < 2 ^ 64) × (r .at < 2 ^ 64)
-  unfolding reachOf
-  reach-fits c e = rw e (along-fits (s .to) (x .stride) c, along-fits (s .at) (x .jump) (jumpsOf x c))
+  pub spot-fits : (c : ℕ) {r : Spot} → r ≡ spotAt s x c → (r .to < 2 ^ 64) × (r .at < 2 ^ 64)
+  unfolding spotAt
+  spot-fits c e = rw e (along-fits (s .to) (x .stride) c, along-fits (s .at) (x .jump) (jumpsOf x c))
 
-  pub reach-none : s .to < 2 ^ 64 → s .at < 2 ^ 64 → reachOf s x 0 ≡ s
-  unfolding reachOf jumpsOf
-  reach-none h l =
+  pub spot-none : s .to < 2 ^ 64 → s .at < 2 ^ 64 → spotAt s x 0 ≡ s
+  unfolding spotAt jumpsOf
+  spot-none h l =
       let t = along-none (s .to) (x .stride) h in
       let e : along (s .at) (x .jump) (jumpsOf x 0) ≡ s .at = rw (zero-sub, zero-min) (along-none (s .at) (x .jump) l) in
       λ i. record { to = t i; at = e i }
 
   -- from one coordinate to the next
-  pub reach-on : (c : ℕ) → onwardOf (reachOf s x c) x (c + 1) ≡ reachOf s x (c + 1)
-  unfolding reachOf onwardOf
-  reach-on c =
+  pub spot-on : (c : ℕ) → onwardOf (spotAt s x c) x (c + 1) ≡ spotAt s x (c + 1)
+  unfolding spotAt onwardOf
+  spot-on c =
       let t = along-next (s .to) (x .stride) c in
       let k = jumpsOf x c in
       let a = along (s .at) (x .jump) k in
@@ -92,15 +92,15 @@ module _ (s : Spot) (x : Axis) where
       ] in
       λ i. record { to = t i; at = e i }
 
--- ---- an element's places, by the starts of its block, plane and row
+-- ---- an element's places, by the starts of its slab, layer and row
 
-module _ (p : Plan) (c0 c1 c2 : ℕ) {block plane row : Spot} (e0 : block ≡ reachOf (firstSpot p) (p .d0) c0) (e1 : plane ≡ reachOf block (p .d1) c1) (e2 : row ≡ reachOf plane (p .d2) c2) where
+module _ (p : Plan) (c0 c1 c2 : ℕ) {slab layer row : Spot} (e0 : slab ≡ spotAt (firstSpot p) (p .d0) c0) (e1 : layer ≡ spotAt slab (p .d1) c1) (e2 : row ≡ spotAt layer (p .d2) c2) where
   pub row-place : (c3 : ℕ) → along (row .to) (p .d3 .stride) c3 ≡ placeOf p c0 c1 c2 c3 % 2 ^ 64
-  unfolding reachOf along placeOf stepped
+  unfolding spotAt along placeOf summed
   row-place c3 = rw (e2, e1, e0) (simp mod-add-mod (ap (λ (y : ℕ). y % 2 ^ 64) (omega arith)))
 
   pub row-home : (c3 : ℕ) → planKept p c0 c1 c2 c3 ≡ true → along (row .at) (p .d3 .jump) (c3 - p .d3 .pre) ≡ homeOf p c0 c1 c2 c3 % 2 ^ 64
-  unfolding reachOf along homeOf stepped
+  unfolding spotAt along homeOf summed
   row-home c3 h =
       let k = all-kept-of p c0 c1 c2 c3 h in
       rw (e2, e1, e0, jumps-kept (p .d0) c0 (k .k0 .most), jumps-kept (p .d1) c1 (k .k1 .most), jumps-kept (p .d2) c2 (k .k2 .most))
@@ -109,26 +109,26 @@ module _ (p : Plan) (c0 c1 c2 : ℕ) {block plane row : Spot} (e0 : block ≡ re
 -- ---- where a step begins: no part of the sums is larger than the whole, which fits
 
 module _ (s : Spot) (x : Axis) (c : ℕ) (t : s .to + c * x .stride < 2 ^ 64) (a : s .at + jumpsOf x c * x .jump < 2 ^ 64) where
-  pub reach-made : record { to = s .to + c * x .stride; at = s .at + jumpsOf x c * x .jump } ≡ reachOf s x c
-  unfolding reachOf along
-  reach-made =
+  pub spot-made : record { to = s .to + c * x .stride; at = s .at + jumpsOf x c * x .jump } ≡ spotAt s x c
+  unfolding spotAt along
+  spot-made =
       let u = sym (mod-eq-of-lt t) in
       let v = sym (mod-eq-of-lt a) in
       λ i. record { to = u i; at = v i }
 
-  pub reach-is : {r : Spot} → r ≡ reachOf s x c → (r .to ≡ s .to + c * x .stride) × (r .at ≡ s .at + jumpsOf x c * x .jump)
-  reach-is e = let m = e ∙ sym reach-made in (ap (λ (y : Spot). y .to) m, ap (λ (y : Spot). y .at) m)
+  pub spot-is : {r : Spot} → r ≡ spotAt s x c → (r .to ≡ s .to + c * x .stride) × (r .at ≡ s .at + jumpsOf x c * x .jump)
+  spot-is e = let m = e ∙ sym spot-made in (ap (λ (y : Spot). y .to) m, ap (λ (y : Spot). y .at) m)
 
 module _ (p : Plan) {c0 c1 c2 c3 : ℕ} (w : InExtents p c0 c1 c2 c3) where
   pub begin-to : placeEnd p < 2 ^ 64 → p .base + c0 * p .d0 .stride + c1 * p .d1 .stride + c2 * p .d2 .stride + c3 * p .d3 .stride < 2 ^ 64
-  unfolding placeOf stepped
+  unfolding placeOf summed
   begin-to h = let m = place-most p c0 c1 c2 c3 w in omega arith
 
   pub begin-at : homeEnd p < 2 ^ 64
       → p .home + jumpsOf (p .d0) c0 * p .d0 .jump + jumpsOf (p .d1) c1 * p .d1 .jump + jumpsOf (p .d2) c2 * p .d2 .jump + jumpsOf (p .d3) c3 * p .d3 .jump < 2 ^ 64
-  unfolding homeEnd stepped jumpsOf
+  unfolding homeEnd summed jumpsOf
   begin-at h =
-      let m = stepped-most (p .home) (p .d0 .jump) (p .d1 .jump) (p .d2 .jump) (p .d3 .jump)
+      let m = summed-most (p .home) (p .d0 .jump) (p .d1 .jump) (p .d2 .jump) (p .d3 .jump)
       (min-le-right (c0 - p .d0 .pre) (p .d0 .count - 1)) (min-le-right (c1 - p .d1 .pre) (p .d1 .count - 1))
       (min-le-right (c2 - p .d2 .pre) (p .d2 .count - 1)) (min-le-right (c3 - p .d3 .pre) (p .d3 .count - 1)) in
       omega arith
