@@ -1,4 +1,4 @@
--- Places by steps, as 64 bits count them, and spots: one step further, and where the sums fit. Assumes nothing.
+-- Places by adding, as 64 bits count, and spots: one stride further, and where the sums fit. Assumes nothing.
 use mathlib.Core.Path.{_≡_, sym, ap, _∙_}
 use mathlib.Core.Bool.{cond, true, _&&_}
 use Prim.Native.Nat.{ℕ, zero, suc, _+_, _-_, _*_, _%_, _^_, _≤_, _<_}
@@ -17,7 +17,7 @@ use Rattle.mover.specs.Private.Ready.{homeEnd, placeEnd, InExtents}
 use Rattle.mover.proofs.Places.{all-kept-of, summed-most, place-most}
 
 module _ (a j : ℕ) where
-  pub along-fits : (k : ℕ) → along a j k < 2 ^ 64
+  along-fits : (k : ℕ) → along a j k < 2 ^ 64
   unfolding along
   along-fits k = mod-lt (a + k * j) (omega arith)
 
@@ -34,7 +34,7 @@ module _ (a j : ℕ) where
   unfolding along
   along-on k n = mod-add-mod (a + k * j) (2 ^ 64) (n * j) ∙ ap (λ (y : ℕ). y % 2 ^ 64) (rw (add-mul k n j) (add-assoc a (k * j) (n * j)))
 
--- a step of 2 ^ 64 - j is a step of j down: one add serves both directions
+-- a jump down, as a source has that counts down: one add serves both directions
 pub along-down : (a j k : ℕ) → a < 2 ^ 64 → j ≤ 2 ^ 64 → k * j ≤ a → along a (2 ^ 64 - j) k ≡ a - k * j
 along-down a j zero fa fj h = rw (zero-mul j, sub-zero a) (along-none a (2 ^ 64 - j) fa)
 along-down a j (suc k) fa fj h =
@@ -42,7 +42,7 @@ along-down a j (suc k) fa fj h =
     let e = along-down a j k fa fj (omega arith) in
     ap (along a (2 ^ 64 - j)) (sym (add-one k)) ∙ sym (along-next a (2 ^ 64 - j) k) ∙ rw (e, m) (omega arith)
 
--- ---- the places at the start of a coordinate
+-- ---- the spot at a coordinate
 
 module _ (x : Axis) (c : ℕ) where
   jumps-on : x .pre < c + 1 → c + 1 - x .pre < x .count → jumpsOf x c + 1 ≡ jumpsOf x (c + 1)

@@ -1,36 +1,20 @@
 -- A run of elements that lie side by side is a run of bytes. Assumes nothing.
 use mathlib.Core.Path.{_≡_, sym, ap, subst, _∙_}
-use mathlib.Core.List.{List, [], _∷_, _++_}
+use mathlib.Core.List.{List}
 use Prim.Native.Nat.{ℕ, zero, suc, _+_, _*_, _/_, _%_, _^_, _≤_, _<_}
-use native.Mathlib.Nat.{add-zero, add-suc, suc-add, mul-one, zero-mul, suc-mul, mod-lt, mod-eq-of-lt, div-add-mod', div-lt-iff-lt-mul}
+use native.Mathlib.Nat.{add-zero, add-suc, mul-one, zero-mul, suc-mul, mod-lt, mod-eq-of-lt, div-add-mod', div-lt-iff-lt-mul}
 use native.Mathlib.Numerals.{add-one}
 use native.Mathlib.Omega.{arith}
-use lib.ListN.{length, getD, set, take, drop, length-drop}
-use lib.Seq.{sets, take-suc, getD-drop, length-take-le}
+use lib.ListN.{length, take, drop}
+use lib.Seq.{sets}
 use Rattle.mover.specs.declared.elements.Course.{Course}
 use Rattle.mover.specs.declared.elements.Origin.{Origin}
 use Rattle.mover.specs.Private.Elements.{sourceBytes}
 use Rattle.mover.specs.Private.Adding.{along}
 use Rattle.mover.specs.Private.Runs.{runStored, keptBytes, runCopied, Held, Readable, Writable}
 use Rattle.mover.proofs.Places.{apart-part}
-use Rattle.mover.proofs.Bytes.{copied-one, sized-some, sized-one, source-long}
+use Rattle.mover.proofs.Bytes.{copied-one, sized-some, sized-one, source-long, copy-more}
 use Rattle.mover.proofs.Adding.{along-none, along-next, along-on}
-
-sets-snoc : (l : List ℕ) (i : ℕ) (vs : List ℕ) (a : ℕ) → sets l i (vs ++ (a ∷ [])) ≡ set (sets l i vs) (i + length vs) a
-sets-snoc l i [] a = rw add-zero
-sets-snoc l i (v ∷ vs) a = rw (add-suc, ← suc-add) (sets-snoc (set l i v) (suc i) vs a)
-
--- one store more, after k
-sets-more : (l : List ℕ) (i k : ℕ) (vs : List ℕ) (a : ℕ) → length vs ≡ k → set (sets l i vs) (i + k) a ≡ sets l i (vs ++ (a ∷ []))
-sets-more l i k vs a e = rw (sets-snoc, e)
-
--- bytes of s from `at`, one more
-copy-more : (l s : List ℕ) (at to i : ℕ) → at + i < length s
-    → set (sets l to (take i (drop at s))) (to + i) (getD s (at + i) 0) ≡ sets l to (take (i + 1) (drop at s))
-copy-more l s at to i h =
-    let hd : i < length (drop at s) = simp length-drop (omega arith) in
-    sets-more l to i (take i (drop at s)) (getD s (at + i) 0) (length-take-le i (drop at s) (omega arith))
-    ∙ rw (add-one, take-suc (drop at s) i 0 hd, getD-drop)
 
 -- ---- places
 

@@ -1,26 +1,25 @@
 -- Laws of `movedBy`: elements by their numbers, joined, and the bytes that none holds. Assumes nothing.
 use mathlib.Core.Path.{_≡_, refl, _∙_}
 use mathlib.Core.Logic.{_⊎_, ⊎-elim, inl, inr}
-use mathlib.Core.Bool.{Bool, true, false, cond}
 use mathlib.Core.List.{List}
 use Prim.Native.Nat.{ℕ, zero, suc, _+_, _-_, _*_, _/_, _≤_, _<_}
 use native.Mathlib.Nat.{add-zero, add-suc, add-assoc, div-add-mod', mod-lt, div-lt-iff-lt-mul}
 use native.Mathlib.Omega.{arith}
 use lib.Arith.{digits-lt, digits-div, digits-mod}
-use lib.ListN.{length, getD, take, drop, replicate, length-take, length-drop, length-replicate}
-use lib.Seq.{length-sets, ext-getD, getD-take, getD-drop}
+use lib.ListN.{length, getD, drop, replicate}
+use lib.Seq.{length-sets}
 use Rattle.mover.specs.declared.plan.Plan.{Plan}
 use Rattle.mover.specs.declared.elements.Origin.{Origin}
 use Rattle.mover.specs.declared.elements.Origin.the-variants.{Lent, Inside}
 use Rattle.mover.specs.Private.Elements.{sourceBytes, planKept, placeOf, homeOf, planBytes, putAt, co0, co1, co2, co3, putNumber, planTotal, movedBy}
 use Rattle.mover.specs.Private.Ready.{placeEnd, GoodAxes, Ready, InExtents}
-use Rattle.mover.proofs.Bytes.{getD-sets-out, length-take-most}
+use Rattle.mover.proofs.Bytes.{getD-sets-out, length-cond, pick-same, run-same}
 use Rattle.mover.proofs.Places.{place-least, place-most, home-least, home-most, axis-some}
 
 -- ---- movedBy
 
 module _ (p : Plan) (s : List ℕ) where
-  pub length-put : (q : ℕ) (d : List ℕ) → length (putNumber p s q d) ≡ length d
+  length-put : (q : ℕ) (d : List ℕ) → length (putNumber p s q d) ≡ length d
   unfolding putNumber putAt
   length-put q d = simp length-sets
 
@@ -42,14 +41,14 @@ abbrev pub numberOf : Plan → ℕ → ℕ → ℕ → ℕ → ℕ
 numberOf p c0 c1 c2 c3 = ((c0 * p .d1 .extent + c1) * p .d2 .extent + c2) * p .d3 .extent + c3
 
 -- the coordinates of an element's number are those it was made from
-pub record Coords (p : Plan) (q c0 c1 c2 c3 : ℕ) : Type 0 where
+record Coords (p : Plan) (q c0 c1 c2 c3 : ℕ) : Type 0 where
   pub at0 : co0 p q ≡ c0
   pub at1 : co1 p q ≡ c1
   pub at2 : co2 p q ≡ c2
   pub at3 : co3 p q ≡ c3
 
 module _ (p : Plan) where
-  pub coords : {q c0 c1 c2 c3 : ℕ} → numberOf p c0 c1 c2 c3 ≡ q → InExtents p c0 c1 c2 c3 → Coords p q c0 c1 c2 c3
+  coords : {q c0 c1 c2 c3 : ℕ} → numberOf p c0 c1 c2 c3 ≡ q → InExtents p c0 c1 c2 c3 → Coords p q c0 c1 c2 c3
   coords {q} {c0} {c1} {c2} {c3} e w =
       let q3 = (c0 * p .d1 .extent + c1) * p .d2 .extent + c2 in
       let q2 = c0 * p .d1 .extent + c1 in
@@ -108,15 +107,11 @@ module _ (p : Plan) (g : GoodAxes p) where
 -- ---- bytes that no element holds
 
 module _ (p : Plan) (s : List ℕ) where
-  length-pick : (b : Bool) (z : ℕ) (l : List ℕ) → length (cond b (take z l) (replicate z 0)) ≤ z
-  length-pick true z l = length-take-most z l
-  length-pick false z l = rw length-replicate (omega arith)
-
   pub length-bytes : (c0 c1 c2 c3 : ℕ) → length (planBytes p s c0 c1 c2 c3) ≤ p .size
   unfolding planBytes
-  length-bytes c0 c1 c2 c3 = length-pick (planKept p c0 c1 c2 c3) (p .size) (drop (homeOf p c0 c1 c2 c3) s)
+  length-bytes c0 c1 c2 c3 = length-cond (planKept p c0 c1 c2 c3) (p .size) (drop (homeOf p c0 c1 c2 c3) s)
 
-  pub put-out : {c0 c1 c2 c3 : ℕ} (d : List ℕ) (k : ℕ) → InExtents p c0 c1 c2 c3 → (k < p .base) ⊎ (placeEnd p ≤ k)
+  put-out : {c0 c1 c2 c3 : ℕ} (d : List ℕ) (k : ℕ) → InExtents p c0 c1 c2 c3 → (k < p .base) ⊎ (placeEnd p ≤ k)
       → getD (putAt p s c0 c1 c2 c3 d) k 0 ≡ getD d k 0
   unfolding putAt
   put-out {c0} {c1} {c2} {c3} d k w h =
@@ -126,27 +121,13 @@ module _ (p : Plan) (s : List ℕ) where
       getD-sets-out (planBytes p s c0 c1 c2 c3) d (placeOf p c0 c1 c2 c3) k
       (⊎-elim (λ u. inl (omega arith)) (λ v. inr (omega arith)) h)
 
-  pub moved-out : GoodAxes p → (from n : ℕ) (d : List ℕ) (k : ℕ) → from + n ≤ planTotal p → (k < p .base) ⊎ (placeEnd p ≤ k)
+  moved-out : GoodAxes p → (from n : ℕ) (d : List ℕ) (k : ℕ) → from + n ≤ planTotal p → (k < p .base) ⊎ (placeEnd p ≤ k)
       → getD (movedBy p s from n d) k 0 ≡ getD d k 0
   unfolding movedBy putNumber
   moved-out g from zero d k m h = refl
   moved-out g from (suc n) d k m h =
       put-out (movedBy p s from n d) k (within-good p g (from + n) (omega arith)) h
       ∙ moved-out g from n d k (omega arith) h
-
--- lists of one length that agree over a run have it in common
-pub run-same : (l m : List ℕ) (at z : ℕ) → length l ≡ length m → ((k : ℕ) → at ≤ k → k < at + z → getD l k 0 ≡ getD m k 0)
-    → take z (drop at l) ≡ take z (drop at m)
-run-same l m at z e f =
-    ext-getD 0 (take z (drop at l)) (take z (drop at m))
-    (simp (length-take, length-drop, e))
-    (λ i h.
-    let hz : i < z = omega (arith, length-take-most z (drop at l)) in
-    rw (getD-take, getD-drop, getD-take, getD-drop) (f (at + i) (omega arith) (omega arith)))
-
-pub pick-same : (b : Bool) {x y : List ℕ} (z : List ℕ) → (b ≡ true → x ≡ y) → cond b x z ≡ cond b y z
-pick-same true z f = f refl
-pick-same false z f = refl
 
 -- while elements are written, the source's are as they were
 pub source-same : (o : Origin) (p : Plan) (s d : List ℕ) (from n c0 c1 c2 c3 : ℕ) → Ready o p s d → from + n ≤ planTotal p

@@ -1,16 +1,16 @@
 -- Laws of bytes stored at a place, `sets`, and of an element's. Assumes nothing.
 use mathlib.Core.Path.{_≡_, refl, sym, _∙_}
 use mathlib.Core.Logic.{_⊎_, ⊎-elim, inl, inr}
-use mathlib.Core.Bool.{Bool, true, false, _||_}
-use mathlib.Core.List.{List, [], _∷_}
+use mathlib.Core.Bool.{Bool, true, false, _||_, cond}
+use mathlib.Core.List.{List, [], _∷_, _++_}
 use Prim.Native.Nat.{ℕ, suc, _+_, _≤_, _<_}
-use native.Mathlib.Nat.{min-le-left}
+use native.Mathlib.Nat.{min-le-left, add-zero, add-suc, suc-add}
 use native.Mathlib.Numerals.{add-one}
 use native.Mathlib.Omega.{arith}
 use borrow.Author.Tests.{eqb-true}
 use lib.Dec.{eqb}
-use lib.ListN.{length, getD, set, take, drop, replicate, length-take}
-use lib.Seq.{sets, drop-cons, getD-set-other}
+use lib.ListN.{length, getD, set, take, drop, replicate, length-take, length-drop, length-replicate}
+use lib.Seq.{sets, getD-set-other, ext-getD, length-take-le, getD-take, take-suc, getD-drop}
 use Rattle.faults.proofs.Bools.{either-cases}
 use Rattle.mover.specs.declared.elements.Origin.{Origin}
 use Rattle.mover.specs.declared.elements.Origin.the-variants.{Lent, Inside}
@@ -51,30 +51,32 @@ sized-one e = omega arith
 
 -- ---- an element stored byte by byte
 
--- bytes of s from `at`, the first of them stored
-sets-part : (d s : List ℕ) (at to n a t : ℕ) → at + 1 ≡ a → to + 1 ≡ t → at < length s
-    → sets d to (take (suc n) (drop at s)) ≡ sets (set d to (getD s at 0)) t (take n (drop a s))
-sets-part d s at to n a t p q h = rw (← p, ← q, add-one, add-one, drop-cons s at 0 h)
+sets-snoc : (l : List ℕ) (i : ℕ) (vs : List ℕ) (a : ℕ) → sets l i (vs ++ (a ∷ [])) ≡ set (sets l i vs) (i + length vs) a
+sets-snoc l i [] a = rw add-zero
+sets-snoc l i (v ∷ vs) a = rw (add-suc, ← suc-add) (sets-snoc (set l i v) (suc i) vs a)
+
+-- bytes of s from `at`, one more
+pub copy-more : (l s : List ℕ) (at to i : ℕ) → at + i < length s
+    → set (sets l to (take i (drop at s))) (to + i) (getD s (at + i) 0) ≡ sets l to (take (i + 1) (drop at s))
+copy-more l s at to i h =
+    let hd : i < length (drop at s) = simp length-drop (omega arith) in
+    let n : length (take i (drop at s)) ≡ i = length-take-le i (drop at s) (omega arith) in
+    rw (add-one, take-suc (drop at s) i 0 hd, getD-drop) (sym (rw (sets-snoc, n)))
 
 module _ (d s : List ℕ) (at to : ℕ) where
   pub copied-one : at + 1 ≤ length s → set d to (getD s at 0) ≡ sets d to (take 1 (drop at s))
-  copied-one h = sym (sets-part d s at to 0 (at + 1) (to + 1) refl refl (omega arith))
+  copied-one h = rw (add-zero to, add-zero at) at (copy-more d s at to 0 (omega arith))
 
   pub copied-two : at + 2 ≤ length s → set (set d to (getD s at 0)) (to + 1) (getD s (at + 1) 0) ≡ sets d to (take 2 (drop at s))
-  copied-two h =
-      sym (sets-part d s at to 1 (at + 1) (to + 1) refl refl (omega arith) ∙
-      sets-part (set d to (getD s at 0)) s (at + 1) (to + 1) 0 (at + 2) (to + 2) (omega arith) (omega arith) (omega arith))
+  copied-two h = rw (copied-one (omega arith)) (copy-more d s at to 1 (omega arith))
+
+  copied-three : at + 3 ≤ length s
+      → set (set (set d to (getD s at 0)) (to + 1) (getD s (at + 1) 0)) (to + 2) (getD s (at + 2) 0) ≡ sets d to (take 3 (drop at s))
+  copied-three h = rw (copied-two (omega arith)) (copy-more d s at to 2 (omega arith))
 
   pub copied-four : at + 4 ≤ length s
       → set (set (set (set d to (getD s at 0)) (to + 1) (getD s (at + 1) 0)) (to + 2) (getD s (at + 2) 0)) (to + 3) (getD s (at + 3) 0) ≡ sets d to (take 4 (drop at s))
-  copied-four h =
-      let e = set d to (getD s at 0) in
-      let f = set e (to + 1) (getD s (at + 1) 0) in
-      let g = set f (to + 2) (getD s (at + 2) 0) in
-      sym (sets-part d s at to 3 (at + 1) (to + 1) refl refl (omega arith) ∙
-      sets-part e s (at + 1) (to + 1) 2 (at + 2) (to + 2) (omega arith) (omega arith) (omega arith) ∙
-      sets-part f s (at + 2) (to + 2) 1 (at + 3) (to + 3) (omega arith) (omega arith) (omega arith) ∙
-      sets-part g s (at + 3) (to + 3) 0 (at + 4) (to + 4) (omega arith) (omega arith) (omega arith))
+  copied-four h = rw (copied-three (omega arith)) (copy-more d s at to 3 (omega arith))
 
 module _ (d : List ℕ) (to : ℕ) where
   pub cleared-two : set (set d to 0) (to + 1) 0 ≡ sets d to (replicate 2 0)
@@ -94,3 +96,21 @@ length-take-most i l = rw length-take (min-le-left i (length l))
 pub source-long : (o : Origin) (s d : List ℕ) → length (sourceBytes o s d) ≤ length s + length d
 source-long Lent s d = omega arith
 source-long Inside s d = omega arith
+
+pub length-cond : (b : Bool) (z : ℕ) (l : List ℕ) → length (cond b (take z l) (replicate z 0)) ≤ z
+length-cond true z l = length-take-most z l
+length-cond false z l = rw length-replicate (omega arith)
+
+-- lists of one length that agree over some bytes have them in common
+pub run-same : (l m : List ℕ) (at z : ℕ) → length l ≡ length m → ((k : ℕ) → at ≤ k → k < at + z → getD l k 0 ≡ getD m k 0)
+    → take z (drop at l) ≡ take z (drop at m)
+run-same l m at z e f =
+    ext-getD 0 (take z (drop at l)) (take z (drop at m))
+    (simp (length-take, length-drop, e))
+    (λ i h.
+    let hz : i < z = omega (arith, length-take-most z (drop at l)) in
+    rw (getD-take, getD-drop, getD-take, getD-drop) (f (at + i) (omega arith) (omega arith)))
+
+pub pick-same : (b : Bool) {x y : List ℕ} (z : List ℕ) → (b ≡ true → x ≡ y) → cond b x z ≡ cond b y z
+pick-same true z f = f refl
+pick-same false z f = refl

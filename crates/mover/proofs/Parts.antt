@@ -13,9 +13,9 @@ use Rattle.mover.specs.declared.plan.Plan.{Plan}
 use Rattle.mover.specs.Private.Elements.{planKept, summed, placeOf, homeOf, planBytes, putAt, co0, co1, co2, co3, putNumber, planTotal, movedBy}
 use Rattle.mover.specs.Private.Runs.{BytesApart}
 use Rattle.mover.specs.Private.Ready.{homeEnd, placeEnd, stretch, placedAt, GoodAxes, InExtents, Ready}
-use Rattle.mover.proofs.Bytes.{length-take-most, getD-sets-out}
+use Rattle.mover.proofs.Bytes.{length-take-most, getD-sets-out, pick-same, run-same}
 use Rattle.mover.proofs.Places.{place-most, home-most, apart-part}
-use Rattle.mover.proofs.ByNumber.{length-moved, length-bytes, within-good, pick-same, run-same}
+use Rattle.mover.proofs.ByNumber.{length-moved, length-bytes, within-good}
 
 set-past : (x l : List ℕ) (i v : ℕ) → set (x ++ l) (length x + i) v ≡ x ++ set l i v
 set-past [] l i v = rw zero-add
@@ -28,9 +28,9 @@ sets-middle (v ∷ vs) x d y i h =
     let k : i < length d = omega arith in
     rw (set-past x (d ++ y) i v, set-append-left d y i v k, ← add-suc) (sets-middle vs x (set d i v) y (suc i) (rw length-set (omega arith)))
 
--- a run within a part is a run of the whole
-pub run-within : (m : List ℕ) (a l h z : ℕ) → a + l ≤ length m → h + z ≤ l → take z (drop (a + h) m) ≡ take z (drop h (take l (drop a m)))
-run-within m a l h z w k =
+-- bytes within a part are bytes of the whole
+bytes-within : (m : List ℕ) (a l h z : ℕ) → a + l ≤ length m → h + z ≤ l → take z (drop (a + h) m) ≡ take z (drop h (take l (drop a m)))
+bytes-within m a l h z w k =
     let u : length (take z (drop (a + h) m)) ≡ z = length-take-le z (drop (a + h) m) (simp length-drop (omega arith)) in
     let n : length (take l (drop a m)) ≡ l = length-take-le l (drop a m) (simp length-drop (omega arith)) in
     let v : length (take z (drop h (take l (drop a m)))) ≡ z =
@@ -58,7 +58,7 @@ module _ (p : Plan) (a b : ℕ) where
   unfolding planBytes planKept placedAt
   placed-bytes m l c0 c1 c2 c3 w e =
       pick-same (planKept p c0 c1 c2 c3) (replicate (p .size) 0)
-      (λ k. rw (placed-home c0 c1 c2 c3) (run-within m a l (homeOf p c0 c1 c2 c3) (p .size) w (omega (arith, home-most p c0 c1 c2 c3 k))))
+      (λ k. rw (placed-home c0 c1 c2 c3) (bytes-within m a l (homeOf p c0 c1 c2 c3) (p .size) w (omega (arith, home-most p c0 c1 c2 c3 k))))
 
   placed-put : (m x d y : List ℕ) (l c0 c1 c2 c3 : ℕ) → a + l ≤ length m → homeEnd p ≤ l → length x ≡ b → placeEnd p ≤ length d → InExtents p c0 c1 c2 c3
       → putAt (placedAt a b p) m c0 c1 c2 c3 (x ++ (d ++ y)) ≡ x ++ (putAt p (stretch m a l) c0 c1 c2 c3 d ++ y)

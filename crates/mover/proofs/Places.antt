@@ -6,9 +6,7 @@ use mathlib.Core.List.{List}
 use Prim.Native.Nat.{ℕ, _+_, _-_, _≤_, _<_}
 use native.Mathlib.Nat.{mul-le-mul-right}
 use native.Mathlib.Omega.{arith}
-use borrow.Author.Tests.{leb-true, ltb-true}
 use lib.ListN.{length}
-use lib.Dec.{leb, ltb}
 use Rattle.faults.proofs.Bools.{both-first, both-second}
 use Rattle.mover.specs.declared.plan.Axis.{Axis}
 use Rattle.mover.specs.declared.plan.Plan.{Plan}
@@ -17,8 +15,9 @@ use Rattle.mover.specs.declared.elements.Origin.the-variants.{Lent, Insi
 use Rattle.mover.specs.Private.Elements.{axisKept, planKept, summed, placeOf, homeOf, sourceBytes}
 use Rattle.mover.specs.Private.Runs.{BytesApart}
 use Rattle.mover.specs.Private.Ready.{homeEnd, placeEnd, GoodAxis, Ready, InExtents}
+use Rattle.mover.proofs.Keeping.{test-range}
 
--- a spot grows with each of its counts
+-- a place grows with each of its counts
 pub summed-most : (b : ℕ) {k0 m0 k1 m1 k2 m2 k3 m3 : ℕ} (t0 t1 t2 t3 : ℕ) → k0 ≤ m0 → k1 ≤ m1 → k2 ≤ m2 → k3 ≤ m3
     → summed b k0 t0 k1 t1 k2 t2 k3 t3 ≤ summed b m0 t0 m1 t1 m2 t2 m3 t3
 unfolding summed
@@ -29,25 +28,24 @@ summed-most b {k0} {m0} {k1} {m1} {k2} {m2} {k3} {m3} t0 t1 t2 t3 h0 h1 h2 h3 =
     let p3 = mul-le-mul-right t3 h3 in
     omega arith
 
-pub summed-least : (b k0 t0 k1 t1 k2 t2 k3 t3 : ℕ) → b ≤ summed b k0 t0 k1 t1 k2 t2 k3 t3
+summed-least : (b k0 t0 k1 t1 k2 t2 k3 t3 : ℕ) → b ≤ summed b k0 t0 k1 t1 k2 t2 k3 t3
 unfolding summed
 summed-least b k0 t0 k1 t1 k2 t2 k3 t3 = omega arith
 
 -- a dimension of which something is kept has an extent
 pub axis-some : {x : Axis} → GoodAxis x → 0 < x .extent
-axis-some {x} s = omega (arith, s .some, s .row)
+axis-some {x} s = omega (arith, s .some, s .within)
 
 -- a coordinate that is kept
 pub record Kept (x : Axis) (c : ℕ) : Type 0 where
   pub past : x .pre ≤ c
   pub most : c - x .pre ≤ x .count - 1
 
-pub kept-of : (x : Axis) (c : ℕ) → axisKept x c ≡ true → Kept x c
+kept-of : (x : Axis) (c : ℕ) → axisKept x c ≡ true → Kept x c
 unfolding axisKept
 kept-of x c h =
-    let a = leb-true (x .pre) c (both-first (leb (x .pre) c) (ltb (c - x .pre) (x .count)) h) in
-    let b = ltb-true (c - x .pre) (x .count) (both-second (leb (x .pre) c) (ltb (c - x .pre) (x .count)) h) in
-    record { past = a; most = omega arith }
+    let r = test-range (x .pre) c (x .count) h in
+    record { past = r .0; most = omega (arith, r .1) }
 
 pub record AllKept (p : Plan) (c0 c1 c2 c3 : ℕ) : Type 0 where
   pub k0 : Kept (p .d0) c0
@@ -101,10 +99,15 @@ module _ (p : Plan) (c0 c1 c2 c3 : ℕ) where
             (k .k0 .most) (k .k1 .most) (k .k2 .most) (k .k3 .most),
       )
 
--- parts of runs that are apart are apart
+-- parts of stretches of bytes that are apart are apart
 pub apart-part : (o : Origin) {a a' b b' x x' y y' : ℕ} → BytesApart o a a' b b' → a ≤ x → x' ≤ a' → b ≤ y → y' ≤ b' → BytesApart o x x' y y'
 apart-part Lent h p q r s = tt
 apart-part Inside h p q r s = ⊎-elim (λ u. inl (omega arith)) (λ v. inr (omega arith)) h
+
+-- a source of the same length
+pub still-held : (o : Origin) (s d e : List ℕ) {m : ℕ} → length e ≡ length d → m ≤ length (sourceBytes o s d) → m ≤ length (sourceBytes o s e)
+still-held Lent s d e h l = l
+still-held Inside s d e h l = rw h l
 
 -- what is asked speaks of the destination by its length alone
 pub still-ready : (o : Origin) (p : Plan) (s d e : List ℕ) → length e ≡ length d → Ready o p s d → Ready o p s e
@@ -112,11 +115,7 @@ still-ready o p s d e h r =
     record {
       sized = r .sized;
       axes = r .axes;
-      span = span o (r .span);
+      span = still-held o s d e h (r .span);
       need = rw h (r .need);
       apart = r .apart;
     }
-  where
-    span : (o : Origin) → homeEnd p ≤ length (sourceBytes o s d) → homeEnd p ≤ length (sourceBytes o s e)
-    span Lent k = k
-    span Inside k = rw h k

@@ -235,8 +235,8 @@ module _ {t : Tensor} (c : Config) (g : GoodSource t) where
     unfolding planOf
     planned-ready src dst l m =
         let good : (j : ℕ) → j < 4 → GoodAxis (wide (t .rank) lone (axisOf t c) j) = λ j h.
-        wide-each GoodAxis (t .rank) lone (axisOf t c) j (g .rank .1) h (record { some = omega arith; row = omega arith })
-        (λ i l. record { some = count-positive k (dimOf c i) (k .perm i l); row = omega (arith, extent-is c g i l) }) in
+        wide-each GoodAxis (t .rank) lone (axisOf t c) j (g .rank .1) h (record { some = omega arith; within = omega arith })
+        (λ i l. record { some = count-positive k (dimOf c i) (k .perm i l); within = omega (arith, extent-is c g i l) }) in
         record {
           sized = g .element;
           axes = record { in0 = good 0 (omega arith); in1 = good 1 (omega arith); in2 = good 2 (omega arith); in3 = good 3 (omega arith) };

@@ -1,7 +1,7 @@
 -- Laws of a run: where it ends, what its elements leave, `runStored`, and a loop that stores them. Assumes nothing.
 use mathlib.Core.Path.{_≡_, refl, sym, ap, _∙_}
 use mathlib.Core.Logic.{_⊎_, ⊎-elim, inl, inr}
-use mathlib.Core.Bool.{Bool, true, false, _&&_}
+use mathlib.Core.Bool.{Bool, true, false}
 use mathlib.Core.List.{List}
 use Prim.Native.Nat.{ℕ, zero, suc, _+_, _-_, _%_, _^_, min, _≤_, _<_}
 use native.Mathlib.Numerals.{add-one}
@@ -19,15 +19,10 @@ use Rattle.mover.specs.Private.Elements.{sourceBytes, axisKept}
 use Rattle.mover.specs.Private.Adding.{along}
 use Rattle.mover.specs.Private.Runs.{Alike, runStored, keptBytes, Parted}
 use Rattle.mover.proofs.Keeping.{range-test}
-use Rattle.mover.proofs.Bytes.{getD-sets-out, length-take-most}
+use Rattle.mover.proofs.Bytes.{getD-sets-out, length-take-most, run-same}
 use Rattle.mover.proofs.Adding.{along-none, along-next}
-use Rattle.mover.proofs.ByNumber.{run-same}
 
 -- ---- the run from a coordinate on
-
-no-more : (b : Bool) → (b && false) ≡ false
-no-more true = refl
-no-more false = refl
 
 module _ (x : Axis) (c most : ℕ) {n : ℕ} (f : x .pre + x .count ≤ x .extent) (l : c < x .extent) (m : 0 < most) where
   -- padding before, what is kept, padding afterRun, and where another coordinate is padding
@@ -60,7 +55,7 @@ module _ (x : Axis) (c most : ℕ) {n : ℕ} (f : x .pre + x .count ≤ x .exten
     same = λ k i.
         ⊎-elim
         (λ u. rw u)
-        (λ v. not-second outer (axisKept x (c + k)) (rw (le-ltb (c + k - x .pre) (x .count) (omega arith)) (no-more (leb (x .pre) (c + k)))))
+        (λ v. not-second outer (axisKept x (c + k)) (rw (le-ltb (c + k - x .pre) (x .count) (omega arith)) (not-second (leb (x .pre) (c + k)) false refl)))
         h;
     whole = λ i. inr (omega arith);
   }
@@ -68,7 +63,7 @@ module _ (x : Axis) (c most : ℕ) {n : ℕ} (f : x .pre + x .count ≤ x .exten
 -- ---- what it stores
 
 module _ (e : ℕ → List ℕ) (to stride : ℕ) where
-  pub length-run : (n : ℕ) (d : List ℕ) → length (runStored e to stride n d) ≡ length d
+  length-run : (n : ℕ) (d : List ℕ) → length (runStored e to stride n d) ≡ length d
   unfolding runStored
   length-run zero d = refl
   length-run (suc n) d = simp length-sets (length-run n d)
@@ -92,11 +87,6 @@ run-keeps Inside s d v c k p h =
     (λ j l.
     let m = length-take-most (c .size) (drop (along (c .at) (c .jump) j) v) in
     ⊎-elim (λ x. inl (omega arith)) (λ y. inr (omega arith)) (p k j h (omega arith))))
-
--- a source of the same length
-pub still-held : (o : Origin) (s d e : List ℕ) {m : ℕ} → length e ≡ length d → m ≤ length (sourceBytes o s d) → m ≤ length (sourceBytes o s e)
-still-held Lent s d e h l = l
-still-held Inside s d e h l = rw h l
 
 -- ---- a loop that stores n elements: k are, and the next stands at t
 

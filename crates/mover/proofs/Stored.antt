@@ -4,16 +4,15 @@ use native.Mathlib.Nat.{add-zero, add-suc, suc-add, not-suc-le-zero, le-of-suc-l
 use native.Mathlib.Omega.{arith}
 use mathlib.Core.Path.{_≡_, refl, _∙_}
 use mathlib.Core.Logic.{_⊎_, ⊎-elim, inl, inr}
-use mathlib.Core.Bool.{Bool, true, false, cond}
 use mathlib.Core.List.{List, [], _∷_}
-use lib.ListN.{length, getD, set, take, drop, replicate, length-set, length-replicate}
+use lib.ListN.{length, getD, set, drop, length-set}
 use lib.Seq.{sets, getD-set-same}
 use Rattle.plane.specs.declared.Tensor.{Tensor}
 use Rattle.plane.specs.declared.Config.{Config}
 use Rattle.mover.specs.Element.{areKept, sourcePlace, element}
 use Rattle.mover.specs.Moved.{total, coordOf, stored, moved}
 use Rattle.mover.specs.Demand2.{byteAt}
-use Rattle.mover.proofs.Bytes.{getD-sets-out, length-take-most}
+use Rattle.mover.proofs.Bytes.{getD-sets-out, length-cond}
 use Rattle.mover.proofs.Laws.{moved-length}
 
 -- the byte at which element number q starts
@@ -27,10 +26,6 @@ sets-inside (v ∷ vs) l at zero h m =
     rw add-zero (getD-sets-out vs (set l at v) (suc at) at (inl (omega arith)) ∙ getD-set-same l at v 0 (omega arith))
 sets-inside (v ∷ vs) l at (suc i) h m =
     rw (add-suc, ← suc-add) (sets-inside vs (set l at v) (suc at) i (le-of-suc-le-suc h) (rw length-set (omega arith)))
-
-length-cond : (b : Bool) (z : ℕ) (l : List ℕ) → length (cond b (take z l) (replicate z 0)) ≤ z
-length-cond true z l = length-take-most z l
-length-cond false z l = rw length-replicate (omega arith)
 
 module _ (t : Tensor) (c : Config) (src : List ℕ) where
   pub length-element : (x : ℕ → ℕ) → length (element t c src x) ≤ t .«element_size»

@@ -7,26 +7,26 @@ use mathlib.Core.List.{List}
 use Prim.Native.Nat.{ℕ, zero, suc, _+_, _-_, _*_, _^_, _≤_, _<_, min}
 use native.Mathlib.Nat.{add-zero, add-assoc, add-mul, one-mul, zero-sub, min-eq-left, min-eq-right, sub-self, le-trans, le-add-right, mul-le-mul-right, mod-eq-of-lt}
 use native.Mathlib.Omega.{arith}
-use lib.ListN.{length, replicate}
+use lib.ListN.{length}
 use Rattle.mover.specs.declared.plan.Plan.{Plan}
 use Rattle.mover.specs.declared.spots.Spot.{Spot}
 use Rattle.mover.specs.declared.spots.Spots.{Spots}
 use Rattle.mover.specs.declared.start.Beginning.{Beginning}
 use Rattle.mover.specs.declared.engine.Run.{Run}
 use Rattle.mover.specs.declared.elements.Origin.{Origin}
-use Rattle.mover.specs.Private.Elements.{sourceBytes, axisKept, planKept, placeOf, homeOf, planBytes, putAt, planTotal, movedBy, co3}
+use Rattle.mover.specs.Private.Elements.{sourceBytes, axisKept, planKept, placeOf, homeOf, planBytes, putAt, planTotal, movedBy, co3, padding}
 use Rattle.mover.specs.Private.Adding.{along, spotAt, onwardOf, firstSpot, beginningOf, nextRow, nextLayer, nextSlab, afterRun}
 use Rattle.mover.specs.Private.Runs.{Alike, courseOf, runStored, eitherBytes, runMoved, Readable, Writable}
 use Rattle.mover.specs.Private.Ready.{Ready, InExtents}
-use Rattle.mover.proofs.Bytes.{source-long}
+use Rattle.mover.proofs.Bytes.{source-long, pick-same}
 use Rattle.mover.proofs.Places.{place-least, place-most, home-least, home-most, all-kept-of, apart-part, still-ready}
 use Rattle.mover.proofs.Adding.{along-none, along-on, jumps-kept, spot-fits, spot-none, spot-on, row-place, row-home}
-use Rattle.mover.proofs.ByNumber.{length-moved, moved-add, pick-same, numberOf, put-number, number-lt, spread-good, source-same}
+use Rattle.mover.proofs.ByNumber.{length-moved, moved-add, numberOf, put-number, number-lt, spread-good, source-same}
 
 -- ---- a run
 
 -- neighbours in a row, stored one by one at their places
-pub run-moved : (p : Plan) (s d : List ℕ) (e : ℕ → List ℕ) (to c0 c1 c2 c3 n : ℕ) {q : ℕ} → numberOf p c0 c1 c2 c3 ≡ q
+run-moved : (p : Plan) (s d : List ℕ) (e : ℕ → List ℕ) (to c0 c1 c2 c3 n : ℕ) {q : ℕ} → numberOf p c0 c1 c2 c3 ≡ q
     → ((k : ℕ) → k < n → InExtents p c0 c1 c2 (c3 + k))
     → ((k : ℕ) → k < n → along to (p .d3 .stride) k ≡ placeOf p c0 c1 c2 (c3 + k))
     → ((k : ℕ) → k < n → planBytes p s c0 c1 c2 (c3 + k) ≡ e k)
@@ -41,14 +41,14 @@ run-moved p s d e to c0 c1 c2 c3 (suc n) {q} h w f g =
 -- ---- the engine's loops
 
 -- the coordinates are those of element number from + done, where done is the part of the budget that is not left; what
--- is before it has been moved; and the spots are those of its slab, layer and row and its own. Of the source's place nothing is
--- said where no element is left, or none that is kept in the row
+-- is before it has been moved; behind a coordinate at its end all are 0; and the spots are those of its slab, layer and row and its
+-- own. Of the source's place nothing is said where no element is left, or no kept one is ahead in the row
 pub record At (o : Origin) (p : Plan) (s d₀ : List ℕ) (from budget : ℕ) (d : List ℕ) (c0 c1 c2 c3 left : ℕ) (u : Spots) : Type 0 where
   pub in1 : c1 ≤ p .d1 .extent
   pub in2 : c2 ≤ p .d2 .extent
   pub in3 : c3 ≤ p .d3 .extent
-  pub new1 : p .d1 .extent ≤ c1 → (c2 ≡ 0) × (c3 ≡ 0)
-  pub new2 : p .d2 .extent ≤ c2 → c3 ≡ 0
+  pub rest1 : p .d1 .extent ≤ c1 → (c2 ≡ 0) × (c3 ≡ 0)
+  pub rest2 : p .d2 .extent ≤ c2 → c3 ≡ 0
   pub fund : left ≤ budget
   pub number : numberOf p c0 c1 c2 c3 ≡ from + (budget - left)
   pub most : from + (budget - left) ≤ planTotal p
@@ -71,7 +71,7 @@ pub record Over (o : Origin) (p : Plan) (s d₀ : List ℕ) (from budget : ℕ) 
   pub count : budget - left ≡ min budget (planTotal p - from)
   pub bytes : d ≡ movedBy p (sourceBytes o s d₀) from (budget - left) d₀
 
--- the end of a run of e is the start of the next
+-- the end of one row of e is the start of the next
 carry : (a c e : ℕ) → (a + (c + 1)) * e + 0 ≡ (a + c) * e + e
 carry a c e = rw (← add-assoc) (add-zero ((a + c + 1) * e) ∙ add-mul (a + c) 1 e ∙ rw one-mul)
 
@@ -88,8 +88,8 @@ start o p s d from budget r h e =
       in1 = omega (arith, w .in1);
       in2 = omega (arith, w .in2);
       in3 = omega (arith, w .in3);
-      new1 = λ l. absurd (omega (arith, w .in1));
-      new2 = λ l. absurd (omega (arith, w .in2));
+      rest1 = λ l. absurd (omega (arith, w .in1));
+      rest2 = λ l. absurd (omega (arith, w .in2));
       fund = omega arith;
       number = w .back ∙ sym (rw (sub-self) (add-zero from));
       most = omega arith;
@@ -108,30 +108,30 @@ module _ {o : Origin} {p : Plan} {s d₀ : List ℕ} {from budget : ℕ} {d : Li
   pub at-ready : Ready o p s d₀ → Ready o p s d
   at-ready r = still-ready o p s d₀ d at-length r
 
-  pub at-was-ready : Ready o p s d → Ready o p s d₀
+  at-was-ready : Ready o p s d → Ready o p s d₀
   at-was-ready r = still-ready o p s d d₀ (sym at-length) r
 
   -- a run from here on
   module _ (r : Ready o p s d) (f : length s + length d < 2 ^ 64) (w : InExtents p c0 c1 c2 c3) {outer : Bool} (q : outer ≡ (axisKept (p .d0) c0 && axisKept (p .d1) c1 && axisKept (p .d2) c2)) {run : Run} (l : Alike (p .d3) outer c3 left run) where
-    run-within : (k : ℕ) → k < run .n → InExtents p c0 c1 c2 (c3 + k)
-    run-within k h = record { in0 = w .in0; in1 = w .in1; in2 = w .in2; in3 = omega (arith, l .row) }
+    its-within : (k : ℕ) → k < run .n → InExtents p c0 c1 c2 (c3 + k)
+    its-within k h = record { in0 = w .in0; in1 = w .in1; in2 = w .in2; in3 = omega (arith, l .row) }
 
-    run-kept : (k : ℕ) → k < run .n → planKept p c0 c1 c2 (c3 + k) ≡ run .kept
+    its-kept : (k : ℕ) → k < run .n → planKept p c0 c1 c2 (c3 + k) ≡ run .kept
     unfolding planKept
-    run-kept k h = rw (← q) (l .same k h)
+    its-kept k h = rw (← q) (l .same k h)
 
     -- its places: the first place and k strides, or k jumps
-    run-to : (k : ℕ) → k < run .n → along (u .here .to) (p .d3 .stride) k ≡ placeOf p c0 c1 c2 (c3 + k)
-    run-to k h =
-        let m = place-most p c0 c1 c2 (c3 + k) (run-within k h) in
+    its-place : (k : ℕ) → k < run .n → along (u .here .to) (p .d3 .stride) k ≡ placeOf p c0 c1 c2 (c3 + k)
+    its-place k h =
+        let m = place-most p c0 c1 c2 (c3 + k) (its-within k h) in
         ap (λ (y : ℕ). along y (p .d3 .stride) k) (a .place)
         ∙ along-on (u .row .to) (p .d3 .stride) c3 k
         ∙ row-place p c0 c1 c2 (a .slab) (a .layer) (a .row) (c3 + k)
         ∙ mod-eq-of-lt (omega (arith, r .need))
 
-    run-at : run .kept ≡ true → (k : ℕ) → k < run .n → along (u .here .at) (p .d3 .jump) k ≡ homeOf p c0 c1 c2 (c3 + k)
-    run-at t k h =
-        let all : (j : ℕ) → j < run .n → planKept p c0 c1 c2 (c3 + j) ≡ true = λ j g. run-kept j g ∙ t in
+    its-home : run .kept ≡ true → (k : ℕ) → k < run .n → along (u .here .at) (p .d3 .jump) k ≡ homeOf p c0 c1 c2 (c3 + k)
+    its-home t k h =
+        let all : (j : ℕ) → j < run .n → planKept p c0 c1 c2 (c3 + j) ≡ true = λ j g. its-kept j g ∙ t in
         let z = all-kept-of p c0 c1 c2 (c3 + 0) (all 0 (l .some)) .k3 in
         let m = home-most p c0 c1 c2 (c3 + k) (all k h) in
         let e : c3 - p .d3 .pre + k ≡ c3 + k - p .d3 .pre = omega (arith, z .past) in
@@ -142,49 +142,49 @@ module _ {o : Origin} {p : Plan} {s d₀ : List ℕ} {from budget : ℕ} {d : Li
         ∙ mod-eq-of-lt (omega (arith, r .span, source-long o s d))
 
     -- what it asks
-    pub run-writes : Writable d (courseOf p (u .here) (run .n))
+    pub run-writes : Writable d (courseOf p (u .here) run)
     run-writes = record {
       sized = r .sized;
-      held = λ k h. rw (run-to k h) (omega (arith, place-most p c0 c1 c2 (c3 + k) (run-within k h), r .need));
+      held = λ k h. rw (its-place k h) (omega (arith, place-most p c0 c1 c2 (c3 + k) (its-within k h), r .need));
     }
 
-    pub run-reads : run .kept ≡ true → Readable o s d (courseOf p (u .here) (run .n))
+    pub run-reads : run .kept ≡ true → Readable o s d (courseOf p (u .here) run)
     run-reads t = record {
-      held = λ k h. rw (run-at t k h) (omega (arith, home-most p c0 c1 c2 (c3 + k) (run-kept k h ∙ t), r .span));
+      held = λ k h. rw (its-home t k h) (omega (arith, home-most p c0 c1 c2 (c3 + k) (its-kept k h ∙ t), r .span));
       parted = λ i k h g.
-          rw (run-at t i h, run-to k g)
-          (apart-part o (r .apart) (home-least p c0 c1 c2 (c3 + i)) (home-most p c0 c1 c2 (c3 + i) (run-kept i h ∙ t))
-          (place-least p c0 c1 c2 (c3 + k)) (place-most p c0 c1 c2 (c3 + k) (run-within k g)));
+          rw (its-home t i h, its-place k g)
+          (apart-part o (r .apart) (home-least p c0 c1 c2 (c3 + i)) (home-most p c0 c1 c2 (c3 + i) (its-kept i h ∙ t))
+          (place-least p c0 c1 c2 (c3 + k)) (place-most p c0 c1 c2 (c3 + k) (its-within k g)));
     }
 
     -- and what it leaves: its bytes are the elements', and nothing else has changed
-    run-bytes : (k : ℕ) → k < run .n → planBytes p (sourceBytes o s d₀) c0 c1 c2 (c3 + k) ≡ eitherBytes (run .kept) (sourceBytes o s d) (courseOf p (u .here) (run .n)) k
+    its-bytes : (k : ℕ) → k < run .n → planBytes p (sourceBytes o s d₀) c0 c1 c2 (c3 + k) ≡ eitherBytes (run .kept) (sourceBytes o s d) (courseOf p (u .here) run) k
     unfolding planBytes
-    run-bytes k h =
+    its-bytes k h =
         let v = sourceBytes o s d in
         sym (source-same o p s d₀ from (budget - left) c0 c1 c2 (c3 + k) (at-was-ready r) (a .most))
         ∙ ap (λ (y : List ℕ). planBytes p (sourceBytes o s y) c0 c1 c2 (c3 + k)) (sym (a .bytes))
-        ∙ rw (run-kept k h) (pick-same (run .kept) (replicate (p .size) 0) (λ t. rw (run-at t k h)))
+        ∙ rw (its-kept k h) (pick-same (run .kept) (padding (p .size)) (λ t. rw (its-home t k h)))
 
     pub turn : {d' : List ℕ} {u' : Spots}
-        → (u' ≡ afterRun u (p .d3) (run .n)) × (d' ≡ runMoved o s d (run .kept) (courseOf p (u .here) (run .n)))
+        → (u' ≡ afterRun u (p .d3) (run .n)) × (d' ≡ runMoved o p s d (u .here) run)
         → At o p s d₀ from budget d' c0 c1 c2 (c3 + run .n) (left - run .n) u'
     turn {d'} t =
         let m : budget - (left - run .n) ≡ budget - left + run .n = omega (arith, a .fund, l .cut) in
-        let z = number-lt p (run-within (run .n - 1) (omega (arith, l .some))) in
+        let z = number-lt p (its-within (run .n - 1) (omega (arith, l .some))) in
         rw (t .0)
         (record {
           in1 = a .in1;
           in2 = a .in2;
           in3 = l .row;
-          new1 = λ h. absurd (omega (arith, w .in1));
-          new2 = λ h. absurd (omega (arith, w .in2));
+          rest1 = λ h. absurd (omega (arith, w .in1));
+          rest2 = λ h. absurd (omega (arith, w .in2));
           fund = omega (arith, a .fund);
           number = omega (arith, a .number, a .fund, l .cut);
           most = omega (arith, a .number, a .fund, l .cut, l .some);
           bytes =
               t .1
-              ∙ sym (run-moved p (sourceBytes o s d₀) d _ (u .here .to) c0 c1 c2 c3 (run .n) (a .number) run-within run-to run-bytes)
+              ∙ sym (run-moved p (sourceBytes o s d₀) d _ (u .here .to) c0 c1 c2 c3 (run .n) (a .number) its-within its-place its-bytes)
               ∙ ap (movedBy p (sourceBytes o s d₀) (from + (budget - left)) (run .n)) (a .bytes)
               ∙ sym (moved-add p (sourceBytes o s d₀) from (budget - left) (run .n) d₀)
               ∙ ap (λ (j : ℕ). movedBy p (sourceBytes o s d₀) from j d₀) (sym m);
@@ -212,8 +212,8 @@ module _ {o : Origin} {p : Plan} {s d₀ : List ℕ} {from budget : ℕ} {d : Li
         in1 = a .in1;
         in2 = omega arith;
         in3 = omega arith;
-        new1 = λ h. absurd (omega arith);
-        new2 = λ h. refl;
+        rest1 = λ h. absurd (omega arith);
+        rest2 = λ h. refl;
         number = carry ((c0 * p .d1 .extent + c1) * p .d2 .extent) c2 (p .d3 .extent) ∙ (rw e at (a .number));
         fund = a .fund;
         most = a .most;
@@ -229,7 +229,7 @@ module _ {o : Origin} {p : Plan} {s d₀ : List ℕ} {from budget : ℕ} {d : Li
       → At o p s d₀ from budget d c0 (c1 + 1) 0 c3 left v
   next-layer h l g =
       let e : c2 ≡ p .d2 .extent = omega (arith, a .in2) in
-      let z : c3 ≡ 0 = a .new2 l in
+      let z : c3 ≡ 0 = a .rest2 l in
       let n = onwardOf (u .layer) (p .d1) (c1 + 1) in
       let k : n ≡ spotAt (u .slab) (p .d1) (c1 + 1) = ap (λ (y : Spot). onwardOf y (p .d1) (c1 + 1)) (a .layer) ∙ spot-on (u .slab) (p .d1) c1 in
       let f = spot-fits (u .slab) (p .d1) (c1 + 1) k in
@@ -238,8 +238,8 @@ module _ {o : Origin} {p : Plan} {s d₀ : List ℕ} {from budget : ℕ} {d : Li
         in1 = omega arith;
         in2 = omega arith;
         in3 = a .in3;
-        new1 = λ h. (refl, z);
-        new2 = λ h. z;
+        rest1 = λ h. (refl, z);
+        rest2 = λ h. z;
         number = rw (carry (c0 * p .d1 .extent) c1 (p .d2 .extent)) (rw e at (a .number));
         fund = a .fund;
         most = a .most;
@@ -255,8 +255,8 @@ module _ {o : Origin} {p : Plan} {s d₀ : List ℕ} {from budget : ℕ} {d : Li
       → At o p s d₀ from budget d (c0 + 1) 0 c2 c3 left v
   next-slab l g =
       let e : c1 ≡ p .d1 .extent = omega (arith, a .in1) in
-      let y = a .new1 l .0 in
-      let z = a .new1 l .1 in
+      let y = a .rest1 l .0 in
+      let z = a .rest1 l .1 in
       let n = onwardOf (u .slab) (p .d0) (c0 + 1) in
       let k : n ≡ spotAt (firstSpot p) (p .d0) (c0 + 1) = ap (λ (y : Spot). onwardOf y (p .d0) (c0 + 1)) (a .slab) ∙ spot-on (firstSpot p) (p .d0) c0 in
       let f = spot-fits (firstSpot p) (p .d0) (c0 + 1) k in
@@ -265,8 +265,8 @@ module _ {o : Origin} {p : Plan} {s d₀ : List ℕ} {from budget : ℕ} {d : Li
         in1 = omega arith;
         in2 = a .in2;
         in3 = a .in3;
-        new1 = λ h. (y, z);
-        new2 = λ h. z;
+        rest1 = λ h. (y, z);
+        rest2 = λ h. z;
         number = rw (carry0 c0 (p .d1 .extent)) (rw e at (a .number));
         fund = a .fund;
         most = a .most;

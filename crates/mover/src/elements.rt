@@ -3,9 +3,10 @@ use std::num::wrapping_add_usize;
 ghost use mathlib.Core.Path.{_≡_};
 ghost use Prim.Native.Nat.{_+_, _*_, _^_, _≤_, _<_};
 ghost use lib.ListN.{length, getD};
-ghost use Rattle.mover.specs.Private.Elements.{sourceBytes};
+ghost use lib.Seq.{sets};
+ghost use Rattle.mover.specs.Private.Elements.{sourceBytes, padding};
 ghost use Rattle.mover.specs.Private.Adding.{along};
-ghost use Rattle.mover.specs.Private.Runs.{elementCopied, elementCleared, runCopied, runCleared, Sized, Readable, Writable};
+ghost use Rattle.mover.specs.Private.Runs.{elementCopied, runCopied, runCleared, Sized, Readable, Writable};
 
 // Where the source's bytes stand: in the slice lent for reading, or in the destination's own.
 pub(crate) enum Origin {
@@ -121,7 +122,7 @@ pub(crate) fn copy_run(src: &[u8], dst: &mut [u8], origin: Origin, c: Course) ->
 fn clear(dst: &mut [u8], to: usize, size: usize)
     requires { ⌜ Sized size ⌝ }
     requires { ⌜ to + size ≤ length (now dst) ⌝ }
-    ensures { λ _. ⌜ now (dst .exit) ≡ elementCleared (now (dst .entry)) to size ⌝ }
+    ensures { λ _. ⌜ now (dst .exit) ≡ sets (now (dst .entry)) to (padding size) ⌝ }
 {
     if size == 1 {
         dst[to] = 0;

@@ -1,6 +1,6 @@
 // The loops of a move: destination elements in destination order, the last coordinate fastest, from any element on, until the
-// budget is spent. The innermost goes on by runs. From one element to the next places go on by adding alone: nothing here, nor in
-// what the loops call, multiplies or divides. What the loops are handed was worked out and accepted by the rules.
+// budget is spent. The innermost goes on by runs. Between two elements places go on by adding alone: after `begin`, nothing here nor
+// in what is called multiplies or divides. What the loops are handed was worked out and accepted by the rules.
 use crate::Part;
 use crate::elements::Course;
 use crate::elements::Origin;
@@ -23,7 +23,7 @@ ghost use Rattle.mover.specs.Private.Runs.{Alike, courseOf, runMoved, Re
 ghost use Rattle.mover.specs.Private.Ready.{Ready, LiesIn, PartsApart, movedWithin};
 ghost use Rattle.mover.specs.Within.{bytesOf};
 
-// Whether coordinate c of a dimension is kept, and not padding, where `outer` says so of the coordinates before it.
+// Whether coordinate c of a dimension is kept, and not padding, and so are those before it, as `outer` tells.
 fn kept(outer: bool, x: Axis, c: usize) -> bool
     ensures { λ r. ⌜ r ≡ (outer && axisKept x c) ⌝ }
 {
@@ -77,10 +77,10 @@ fn run_at(x: Axis, outer: bool, c: usize, most: usize) -> Run
 
 // Moves a run, kept elements or padding, and tells the spots afterRun it: where to store the next element of the row.
 fn move_run(src: &[u8], dst: &mut [u8], origin: Origin, plan: Plan, s: Spots, run: Run) -> Spots
-    requires { ⌜ Writable (now dst) (courseOf plan (s .here) (run .n)) ⌝ }
-    requires { ⌜ (run .kept ≡ true → Readable origin (now src) (now dst) (courseOf plan (s .here) (run .n))) ⌝ }
+    requires { ⌜ Writable (now dst) (courseOf plan (s .here) run) ⌝ }
+    requires { ⌜ (run .kept ≡ true → Readable origin (now src) (now dst) (courseOf plan (s .here) run)) ⌝ }
     ensures next { λ r. ⌜ r ≡ afterRun s (plan .d3) (run .n) ⌝ }
-    ensures written { λ _. ⌜ now (dst .exit) ≡ runMoved origin (now (src .entry)) (now (dst .entry)) (run .kept) (courseOf plan (s .here) (run .n)) ⌝ }
+    ensures written { λ _. ⌜ now (dst .exit) ≡ runMoved origin plan (now (src .entry)) (now (dst .entry)) (s .here) run ⌝ }
 {
     let at = s.here.at;
     let course = Course {

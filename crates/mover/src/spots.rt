@@ -4,7 +4,8 @@ use std::num::wrapping_add_usize;
 ghost use mathlib.Core.Path.{_≡_};
 ghost use Rattle.mover.specs.Private.Adding.{onwardOf, nextRow, nextLayer, nextSlab};
 
-// Two places: `to` is the byte of an element in the destination, `at` that of the source's, or of the nearest that is kept.
+// Two places: `to` is the byte of an element in the destination, `at` that of its source element; in padding it stays at one that is
+// kept.
 pub(crate) struct Spot {
     pub(crate) to: usize,
     pub(crate) at: usize,

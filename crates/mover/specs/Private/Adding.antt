@@ -1,5 +1,5 @@
--- Where elements stand, by adding: a spot is a byte of the destination and one of the source. They are counted as 64 bits count, so that
--- one add serves a jump that leads up and one that leads down.
+-- Where elements stand, by adding: a spot is a byte of the destination and one of the source. Both are sums as 64 bits count, so what
+-- lies behind the last element needs no bound, and a jump down is the same add, of 2 ^ 64 less its length.
 use mathlib.Core.Bool.{cond, _&&_}
 use Prim.Native.Nat.{ℕ, _+_, _-_, _*_, _%_, _^_, min}
 use lib.Dec.{ltb}
@@ -10,7 +10,7 @@ use Rattle.mover.specs.declared.spots.Spots.{Spots}
 use Rattle.mover.specs.declared.start.Beginning.{Beginning}
 use Rattle.mover.specs.Private.Elements.{co0, co1, co2, co3}
 
--- k steps of j from a
+-- k times j on from a
 unfoldable pub along : ℕ → ℕ → ℕ → ℕ
 along a j k = (a + k * j) % 2 ^ 64
 
@@ -25,23 +25,19 @@ spotAt s x c = record { to = along (s .to) (x .stride) c; at = along (s .at) (x 
 abbrev pub firstSpot : Plan → Spot
 firstSpot p = record { to = p .base; at = p .home }
 
--- the spots of the coordinates: where the slab starts, the layer in it, the row in that, and the element
-abbrev pub spotsOf : Plan → ℕ → ℕ → ℕ → ℕ → Spots
-spotsOf p c0 c1 c2 c3 =
-    let b = spotAt (firstSpot p) (p .d0) c0 in
-    let l = spotAt b (p .d1) c1 in
-    let r = spotAt l (p .d2) c2 in
-    record { slab = b; layer = l; row = r; here = spotAt r (p .d3) c3 }
-
--- where a step begins that begins with element number q
+-- element number q: its coordinates, and where its slab starts, its layer in that, its row in that, and itself
 unfoldable pub beginningOf : Plan → ℕ → Beginning
-beginningOf p q = record {
-  c0 = co0 p q;
-  c1 = co1 p q;
-  c2 = co2 p q;
-  c3 = co3 p q;
-  spots = spotsOf p (co0 p q) (co1 p q) (co2 p q) (co3 p q);
-}
+beginningOf p q =
+    let u0 = spotAt (firstSpot p) (p .d0) (co0 p q) in
+    let u1 = spotAt u0 (p .d1) (co1 p q) in
+    let u2 = spotAt u1 (p .d2) (co2 p q) in
+    record {
+      c0 = co0 p q;
+      c1 = co1 p q;
+      c2 = co2 p q;
+      c3 = co3 p q;
+      spots = record { slab = u0; layer = u1; row = u2; here = spotAt u2 (p .d3) (co3 p q) };
+    }
 
 -- the spot at coordinate c of a dimension, from that at the one before: the source goes on between two that are kept
 unfoldable pub onwardOf : Spot → Axis → ℕ → Spot
@@ -60,7 +56,7 @@ nextLayer s x c = let n = onwardOf (s .layer) x c in record { slab = s .slab; la
 abbrev pub nextSlab : Spots → Axis → ℕ → Spots
 nextSlab s x c = let n = onwardOf (s .slab) x c in record { slab = n; layer = n; row = n; here = n }
 
--- the spots n elements further in the row: of the source nothing is worked out
+-- the spots behind a run of n elements: of the source's place nothing is worked out
 abbrev pub afterRun : Spots → Axis → ℕ → Spots
 afterRun s x n =
     record {

@@ -22,7 +22,7 @@ axisKept x c = leb (x .pre) c && ltb (c - x .pre) (x .count)
 unfoldable pub planKept : Plan → ℕ → ℕ → ℕ → ℕ → Bool
 planKept p c0 c1 c2 c3 = axisKept (p .d0) c0 && axisKept (p .d1) c1 && axisKept (p .d2) c2 && axisKept (p .d3) c3
 
--- the byte that k steps of t bytes in each dimension lead to
+-- k times t bytes on in each dimension
 unfoldable pub summed : ℕ → ℕ → ℕ → ℕ → ℕ → ℕ → ℕ → ℕ → ℕ → ℕ
 summed b k0 t0 k1 t1 k2 t2 k3 t3 = b + (k0 * t0 + k1 * t1 + k2 * t2 + k3 * t3)
 
@@ -38,10 +38,14 @@ homeOf p c0 c1 c2 c3 =
     (c0 - p .d0 .pre) (p .d0 .jump) (c1 - p .d1 .pre) (p .d1 .jump)
     (c2 - p .d2 .pre) (p .d2 .jump) (c3 - p .d3 .pre) (p .d3 .jump)
 
--- the element's bytes: the source's if every coordinate is kept, else zeros
+-- the bytes of an element of padding
+abbrev pub padding : ℕ → List ℕ
+padding size = replicate size 0
+
+-- the element's bytes: the source's if every coordinate is kept, else padding
 unfoldable pub planBytes : Plan → List ℕ → ℕ → ℕ → ℕ → ℕ → List ℕ
 planBytes p s c0 c1 c2 c3 =
-    cond (planKept p c0 c1 c2 c3) (take (p .size) (drop (homeOf p c0 c1 c2 c3) s)) (replicate (p .size) 0)
+    cond (planKept p c0 c1 c2 c3) (take (p .size) (drop (homeOf p c0 c1 c2 c3) s)) (padding (p .size))
 
 -- the destination d with the element at the coordinates stored
 unfoldable pub putAt : Plan → List ℕ → ℕ → ℕ → ℕ → ℕ → List ℕ → List ℕ

@@ -1,4 +1,4 @@
--- The plan of an accepted move: four destination dimensions, and all that is multiplied, once.
+-- The plan of an accepted move: four destination dimensions, with what is multiplied once a call.
 use mathlib.Core.Bool.{cond}
 use mathlib.Core.List.{List}
 use Prim.Native.Nat.{ℕ, _+_, _-_, _*_, _≤_, _<_}

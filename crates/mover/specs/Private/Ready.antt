@@ -30,7 +30,7 @@ placeEnd p =
 -- something of a dimension is kept, and lies in its extent
 pub record GoodAxis (x : Axis) : Type 0 where
   pub some : 0 < x .count
-  pub row : x .pre + x .count ≤ x .extent
+  pub within : x .pre + x .count ≤ x .extent
 
 pub record GoodAxes (p : Plan) : Type 0 where
   pub in0 : GoodAxis (p .d0)

@@ -4,7 +4,7 @@ use mathlib.Core.Logic.{_⊎_}
 use mathlib.Core.Bool.{Bool, cond, _&&_}
 use mathlib.Core.List.{List}
 use Prim.Native.Nat.{ℕ, zero, suc, _+_, _≤_, _<_}
-use lib.ListN.{length, take, drop, replicate}
+use lib.ListN.{length, take, drop}
 use lib.Seq.{sets}
 use Rattle.plane.specs.Planes.{elementSize}
 use Rattle.mover.specs.declared.plan.Axis.{Axis}
@@ -14,7 +14,7 @@ use Rattle.mover.specs.declared.elements.Course.{Course}
 use Rattle.mover.specs.declared.elements.Origin.{Origin}
 use Rattle.mover.specs.declared.elements.Origin.the-variants.{Lent, Inside}
 use Rattle.mover.specs.declared.engine.Run.{Run}
-use Rattle.mover.specs.Private.Elements.{sourceBytes, axisKept}
+use Rattle.mover.specs.Private.Elements.{sourceBytes, axisKept, padding}
 use Rattle.mover.specs.Private.Adding.{along}
 
 -- ---- where a run ends
@@ -29,42 +29,41 @@ pub record Alike (x : Axis) (outer : Bool) (c most : ℕ) (r : Run) : Type 0 whe
   pub whole : r .n < most → (c + r .n ≤ x .pre) ⊎ (x .pre + x .count ≤ c + r .n)
 
 -- the course of a run of a plan's rows, at a spot
-abbrev pub courseOf : Plan → Spot → ℕ → Course
-courseOf p u n = record { at = u .at; jump = p .d3 .jump; to = u .to; stride = p .d3 .stride; size = p .size; n = n }
+abbrev pub courseOf : Plan → Spot → Run → Course
+courseOf p u r = record { at = u .at; jump = p .d3 .jump; to = u .to; stride = p .d3 .stride; size = p .size; n = r .n }
 
 -- ---- what is left of the destination d, from a source that stands in s or in d
 
--- an element of the source, at `at`, stored at `to`; and padding
+-- an element of the source, at `at`, stored at `to`
 abbrev pub elementCopied : Origin → List ℕ → List ℕ → ℕ → ℕ → ℕ → List ℕ
 elementCopied o s d at to size = sets d to (take size (drop at (sourceBytes o s d)))
-
-abbrev pub elementCleared : List ℕ → ℕ → ℕ → List ℕ
-elementCleared d to size = sets d to (replicate size 0)
 
 -- n elements, whose bytes e tells, the first at `to` and each a stride further
 unfoldable pub runStored : (ℕ → List ℕ) → ℕ → ℕ → ℕ → List ℕ → List ℕ
 runStored e to stride zero d = d
 runStored e to stride (suc n) d = sets (runStored e to stride n d) (along to stride n) (e n)
 
--- the elements of a course: the source's, padding, and either
+-- the bytes of element k of a course: the source's, padding, and either
 abbrev pub keptBytes : List ℕ → Course → ℕ → List ℕ
 keptBytes s c k = take (c .size) (drop (along (c .at) (c .jump) k) s)
 
 abbrev pub padBytes : Course → ℕ → List ℕ
-padBytes c k = replicate (c .size) 0
+padBytes c k = padding (c .size)
 
 abbrev pub eitherBytes : Bool → List ℕ → Course → ℕ → List ℕ
 eitherBytes kept s c k = cond kept (keptBytes s c k) (padBytes c k)
 
--- all of them stored
+-- all elements of a course stored, and of a run
 abbrev pub runCopied : Origin → List ℕ → List ℕ → Course → List ℕ
 runCopied o s d c = runStored (keptBytes (sourceBytes o s d) c) (c .to) (c .stride) (c .n) d
 
 abbrev pub runCleared : List ℕ → Course → List ℕ
 runCleared d c = runStored (padBytes c) (c .to) (c .stride) (c .n) d
 
-abbrev pub runMoved : Origin → List ℕ → List ℕ → Bool → Course → List ℕ
-runMoved o s d kept c = runStored (eitherBytes kept (sourceBytes o s d) c) (c .to) (c .stride) (c .n) d
+abbrev pub runMoved : Origin → Plan → List ℕ → List ℕ → Spot → Run → List ℕ
+runMoved o p s d u r =
+    let c = courseOf p u r in
+    runStored (eitherBytes (r .kept) (sourceBytes o s d) c) (c .to) (c .stride) (c .n) d
 
 -- ---- what the leaves ask
 

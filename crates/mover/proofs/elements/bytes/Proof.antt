@@ -1,4 +1,4 @@
--- `mover::elements::bytes` multiplies by 1, 2 or 4. Assumes nothing.
+-- `mover::elements::bytes` adds n up once, twice or four times. Assumes nothing.
 use Prim.Native.Nat.{_*_, _^_, _<_}
 use native.Mathlib.Omega.{arith}
 use Rattle.mover.proofs.Bytes.{sized-four}

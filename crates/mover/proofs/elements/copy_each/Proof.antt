@@ -8,7 +8,8 @@ use Rattle.mover.specs.Private.Elements.{sourceBytes}
 use Rattle.mover.specs.Private.Adding.{along}
 use Rattle.mover.specs.Private.Runs.{runStored, keptBytes}
 use Rattle.mover.proofs.Adding.{along-none, along-next}
-use Rattle.mover.proofs.Runs.{still-held, run-keeps, Done, done-start, done-length, done-next, done-end}
+use Rattle.mover.proofs.Places.{still-held}
+use Rattle.mover.proofs.Runs.{run-keeps, Done, done-start, done-length, done-next, done-end}
 use Rattle.mover.proofs.elements.copy_each.Statement.{statement}
 use Rattle.mover.proofs.elements.copy_each.Tie as tie
 

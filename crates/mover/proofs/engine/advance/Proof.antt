@@ -19,25 +19,25 @@ use Rattle.mover.proofs.engine.advance.Statement.{statement}
 use Rattle.mover.proofs.engine.advance.Tie as tie
 
 abbrev Inv-loop3 : tie.InvT-loop3
-Inv-loop3 src dst₀ origin plan from budget c0 c1 c2 c3₀ spots₀ left₀ in0 in1 in2 dst c3 spots left =
+Inv-loop3 src dst₀ origin plan from budget c0 c1 c2 c3₀ spots₀ left₀ kept0 kept1 kept2 dst c3 spots left =
     Keeps origin plan src from budget dst₀ c0 c1 c2 c3₀ left₀ spots₀ dst c0 c1 c2 c3 left spots
 
 abbrev μ-loop3 : tie.MeasureT-loop3
-μ-loop3 src dst₀ origin plan from budget c0 c1 c2 c3₀ spots₀ left₀ in0 in1 in2 dst c3 spots left = plan .d3 .extent - c3
+μ-loop3 src dst₀ origin plan from budget c0 c1 c2 c3₀ spots₀ left₀ kept0 kept1 kept2 dst c3 spots left = plan .d3 .extent - c3
 
 abbrev Inv-loop2 : tie.InvT-loop2
-Inv-loop2 src dst₀ origin plan from budget c0 c1 c2₀ c3₀ spots₀ left₀ in0 in1 dst c2 c3 spots left =
+Inv-loop2 src dst₀ origin plan from budget c0 c1 c2₀ c3₀ spots₀ left₀ kept0 kept1 dst c2 c3 spots left =
     Keeps origin plan src from budget dst₀ c0 c1 c2₀ c3₀ left₀ spots₀ dst c0 c1 c2 c3 left spots
 
 abbrev μ-loop2 : tie.MeasureT-loop2
-μ-loop2 src dst₀ origin plan from budget c0 c1 c2₀ c3₀ spots₀ left₀ in0 in1 dst c2 c3 spots left = plan .d2 .extent - c2
+μ-loop2 src dst₀ origin plan from budget c0 c1 c2₀ c3₀ spots₀ left₀ kept0 kept1 dst c2 c3 spots left = plan .d2 .extent - c2
 
 abbrev Inv-loop : tie.InvT-loop
-Inv-loop src dst₀ origin plan from budget c0 c1₀ c2₀ c3₀ spots₀ left₀ in0 dst c1 c2 c3 spots left =
+Inv-loop src dst₀ origin plan from budget c0 c1₀ c2₀ c3₀ spots₀ left₀ kept0 dst c1 c2 c3 spots left =
     Keeps origin plan src from budget dst₀ c0 c1₀ c2₀ c3₀ left₀ spots₀ dst c0 c1 c2 c3 left spots
 
 abbrev μ-loop : tie.MeasureT-loop
-μ-loop src dst₀ origin plan from budget c0 c1₀ c2₀ c3₀ spots₀ left₀ in0 dst c1 c2 c3 spots left = plan .d1 .extent - c1
+μ-loop src dst₀ origin plan from budget c0 c1₀ c2₀ c3₀ spots₀ left₀ kept0 dst c1 c2 c3 spots left = plan .d1 .extent - c1
 
 abbrev Inv-all : tie.InvT-all
 Inv-all src dst₀ origin plan from budget c0₀ c1₀ c2₀ c3₀ spots₀ left₀ dst c0 c1 c2 c3 spots left =
@@ -147,7 +147,7 @@ begin-requires c κs =
 
 run-at-requires : tie.Need-run-at-requires Inv-loop3 μ-loop3 Inv-loop2 μ-loop2 Inv-loop μ-loop Inv-all μ-all
 run-at-requires c κs =
-    (ready (loop3-of (c .before)) .axes .in3 .row, (c .before .if4 .taken, pos-of-ne-zero (c .if5 .left)))
+    (ready (loop3-of (c .before)) .axes .in3 .within, (c .before .if4 .taken, pos-of-ne-zero (c .if5 .left)))
 
 add-c3 : tie.Need-add-c3 Inv-loop3 μ-loop3 Inv-loop2 μ-loop2 Inv-loop μ-loop Inv-all μ-all
 add-c3 c =
