@@ -124,17 +124,14 @@ fn clear(dst: &mut [u8], to: usize, size: usize)
     requires { ⌜ to + size ≤ length (now dst) ⌝ }
     ensures { λ _. ⌜ now (dst .exit) ≡ sets (now (dst .entry)) to (padding size) ⌝ }
 {
-    if size == 1 {
-        dst[to] = 0;
-        return;
-    }
-    if size == 2 {
-        dst[to] = 0;
-        dst[to + 1] = 0;
-        return;
-    }
     dst[to] = 0;
+    if size == 1 {
+        return;
+    }
     dst[to + 1] = 0;
+    if size == 2 {
+        return;
+    }
     dst[to + 2] = 0;
     dst[to + 3] = 0;
 }
