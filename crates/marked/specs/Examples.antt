@@ -156,6 +156,19 @@ transfer n a b = record {
   config = defaults;
 }
 
+-- every second element of a row, with a zero before and after
+abbrev pub thinConfig : Config
+thinConfig = withPost (withPre (withStep defaults (two 1 2)) (two 0 1)) (two 0 1)
+
+-- (2,5) moved so, in bytes, from byte 0 on into byte 10 on
+abbrev pub thinTransfer : Job
+thinTransfer = record {
+  source = record { start = 0; length = 10 };
+  destination = record { start = 10; length = 10 };
+  tensor = compact 2 1 (two 2 5);
+  config = thinConfig;
+}
+
 -- the bytes 1..n
 abbrev pub upTo : ℕ → List ℕ
 upTo zero = []
@@ -317,6 +330,20 @@ table =
     -- and the other way round
     besides shows room (compact 2 1 (two 2 2)) (withDstOffset defaults (two 65536 1))
     (record { answer = refused (fault 12 0); span = 0 }) ∷
+    -- ---- thinned rows with padding, whole and by steps
+    -- (2,5) 1..10, step (1,2), a zero before and after each row: 0 1 3 5 0 0 6 8 10 0
+    besides shows move (compact 2 1 (two 2 5)) thinConfig (upTo 10) (over 10)
+    (acceptedMove 2 1 (2 ∷ 5 ∷ 0 ∷ 0 ∷ []) (5 ∷ 1 ∷ 0 ∷ 0 ∷ []) 10) (0 ∷ 1 ∷ 3 ∷ 5 ∷ 0 ∷ 0 ∷ 6 ∷ 8 ∷ 10 ∷ 0 ∷ []) ∷
+    -- by steps of 3: the first stops in mid-row, 0 1 3; the second begins there and stops in the padding of the next row, 5 0 0; of
+    -- ten elements four are left, and untouched
+    besides shows transfers (upTo 10 ++ over 10)
+    (prepare thinTransfer answers (0 ∷ 0 ∷ 0 ∷ []) ∷
+    start 0 answers (0 ∷ []) ∷
+    step 0 3 answers (0 ∷ 3 ∷ []) ∷
+    step 0 3 answers (0 ∷ 3 ∷ []) ∷
+    poll 0 answers (0 ∷ 2 ∷ 4 ∷ []) ∷
+    [])
+    (upTo 10 ++ (0 ∷ 1 ∷ 3 ∷ 5 ∷ 0 ∷ 0 ∷ 99 ∷ 99 ∷ 99 ∷ 99 ∷ [])) ∷
     -- ---- lists
     -- a list of no records; past the last it is 39, and 39 again
     besides shows list (headOf 0) 0 0 (noRecord ∷ noRecord ∷ []) ∷
