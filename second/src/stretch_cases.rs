@@ -19,12 +19,12 @@ const PADDING_TO_KEPT: &str = "padding of a row to kept";
 const KEPT_TO_PADDING: &str = "kept to padding of a row";
 const PADDED_ROW: &str = "begins in a row of padding";
 const ROW_END: &str = "past the end of a row";
-const PLANE_END: &str = "past the end of a plane";
-const BLOCK_END: &str = "past the end of a block";
+const LAYER_END: &str = "past the end of a layer";
+const SLAB_END: &str = "past the end of a slab";
 const MORE: &str = "budget above what is left";
 /// Of a stretch, in the calls that have a beginning and a budget.
 const OF_STRETCH: [&str; 10] =
-    [BEGINS, ENDS, WITHIN, PADDING_TO_KEPT, KEPT_TO_PADDING, PADDED_ROW, ROW_END, PLANE_END, BLOCK_END, MORE];
+    [BEGINS, ENDS, WITHIN, PADDING_TO_KEPT, KEPT_TO_PADDING, PADDED_ROW, ROW_END, LAYER_END, SLAB_END, MORE];
 
 const SIDE_BY_SIDE: &str = "side by side";
 const WIDER: &str = "wider in the destination";
@@ -168,8 +168,8 @@ fn stretch_met(moved: &Moved) -> Vec<String> {
         (first.is_kept && beside_kept(end), KEPT_TO_PADDING),
         (moved.in_row_of_padding(first), PADDED_ROW),
         (passes(1), ROW_END),
-        (passes(2), PLANE_END),
-        (passes(3), BLOCK_END),
+        (passes(2), LAYER_END),
+        (passes(3), SLAB_END),
         (moved.spare, MORE),
     ])
 }

@@ -160,7 +160,7 @@ transfer n a b = record {
 abbrev pub thinConfig : Config
 thinConfig = withPost (withPre (withStep defaults (two 1 2)) (two 0 1)) (two 0 1)
 
--- (2,5) moved so, in bytes, from byte 0 on into byte 10 on
+-- (2,5) moved so, in bytes: from byte 0 on, to byte 10 on
 abbrev pub thinTransfer : Job
 thinTransfer = record {
   source = record { start = 0; length = 10 };

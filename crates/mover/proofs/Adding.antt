@@ -21,7 +21,7 @@ module _ (a j : ℕ) where
   unfolding along
   along-fits k = mod-lt (a + k * j) (omega arith)
 
-  -- no step, one more, and n more
+  -- nothing added, once more, and n times more
   pub along-none : a < 2 ^ 64 → along a j 0 ≡ a
   unfolding along
   along-none h = rw (zero-mul, add-zero) (mod-eq-of-lt h)

@@ -22,7 +22,7 @@ along-unit : (a z k : ℕ) → along a z k ≡ along a 1 (k * z)
 unfolding along
 along-unit a z k = rw (mul-one (k * z))
 
--- steps of 1 that fit
+-- single bytes on, where the sum fits
 along-ones : (a z : ℕ) → a + z < 2 ^ 64 → along a 1 z ≡ a + z
 unfolding along
 along-ones a z h = rw (mul-one z) (mod-eq-of-lt h)

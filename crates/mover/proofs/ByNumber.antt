@@ -13,7 +13,7 @@ use Rattle.mover.specs.declared.elements.Origin.{Origin}
 use Rattle.mover.specs.declared.elements.Origin.the-variants.{Lent, Inside}
 use Rattle.mover.specs.Private.Elements.{sourceBytes, planKept, placeOf, homeOf, planBytes, putAt, co0, co1, co2, co3, putNumber, planTotal, movedBy}
 use Rattle.mover.specs.Private.Ready.{placeEnd, GoodAxes, Ready, InExtents}
-use Rattle.mover.proofs.Bytes.{getD-sets-out, length-cond, pick-same, run-same}
+use Rattle.mover.proofs.Bytes.{getD-sets-out, length-cond, pick-same, bytes-same}
 use Rattle.mover.proofs.Places.{place-least, place-most, home-least, home-most, axis-some}
 
 -- ---- movedBy
@@ -68,7 +68,7 @@ module _ (p : Plan) where
   unfolding planTotal
   number-lt w = digits-lt (digits-lt (digits-lt (w .in0) (w .in1)) (w .in2)) (w .in3)
 
--- the coordinates of an element's number
+-- the coordinates of number q: they make q again, and the last three are below their extents
 pub record Spread (p : Plan) (q : ℕ) : Type 0 where
   pub back : numberOf p (co0 p q) (co1 p q) (co2 p q) (co3 p q) ≡ q
   pub in1 : co1 p q < p .d1 .extent
@@ -139,7 +139,7 @@ source-same Inside p s d from n c0 c1 c2 c3 r m =
     (λ t.
     let a = home-least p c0 c1 c2 c3 in
     let b = home-most p c0 c1 c2 c3 t in
-    run-same (movedBy p d from n d) d (homeOf p c0 c1 c2 c3) (p .size) (length-moved p d from n d)
+    bytes-same (movedBy p d from n d) d (homeOf p c0 c1 c2 c3) (p .size) (length-moved p d from n d)
     (λ k u v.
     moved-out p d (r .axes) from n d k m
     (⊎-elim (λ x. inl (omega arith)) (λ y. inr (omega arith)) (r .apart))))

@@ -102,9 +102,9 @@ length-cond true z l = length-take-most z l
 length-cond false z l = rw length-replicate (omega arith)
 
 -- lists of one length that agree over some bytes have them in common
-pub run-same : (l m : List ℕ) (at z : ℕ) → length l ≡ length m → ((k : ℕ) → at ≤ k → k < at + z → getD l k 0 ≡ getD m k 0)
+pub bytes-same : (l m : List ℕ) (at z : ℕ) → length l ≡ length m → ((k : ℕ) → at ≤ k → k < at + z → getD l k 0 ≡ getD m k 0)
     → take z (drop at l) ≡ take z (drop at m)
-run-same l m at z e f =
+bytes-same l m at z e f =
     ext-getD 0 (take z (drop at l)) (take z (drop at m))
     (simp (length-take, length-drop, e))
     (λ i h.

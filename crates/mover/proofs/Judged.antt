@@ -26,8 +26,9 @@ use Rattle.mover.specs.Moved.{total, moveMemory}
 use Rattle.mover.specs.Within.{leaves, meets, jobFault, totalOf, verdictOf, bytesOf, advancedBy, further, advanceOf, advanceMemory}
 use Rattle.mover.specs.Private.Plans.{planOf}
 use Rattle.mover.specs.Private.Elements.{planTotal, movedBy}
-use Rattle.mover.specs.Private.Ready.{stretch, Ready}
+use Rattle.mover.specs.Private.Ready.{Ready}
 use Rattle.mover.proofs.Laws.{judged, judged-good, moved-whole, moved-none, source-fits, destination-fits, job-good, total-positive}
+use Rattle.mover.proofs.Parts.{bytesAt}
 use Rattle.mover.proofs.Planned.{planned-total, planned-ready, moved-planned}
 
 -- ---- a whole move
@@ -163,15 +164,15 @@ module _ (n : ℕ) (j : Job) where
 
 -- ---- a stretch
 
-part-length : (m : List ℕ) (b k : ℕ) → b + k ≤ length m → length (stretch m b k) ≡ k
+part-length : (m : List ℕ) (b k : ℕ) → b + k ≤ length m → length (bytesAt m b k) ≡ k
 part-length m b k h = length-take-le k (drop b m) (simp length-drop (omega arith))
 
 -- a part stored where it stands
-part-same : (m : List ℕ) (b k : ℕ) → b + k ≤ length m → sets m b (stretch m b k) ≡ m
+part-same : (m : List ℕ) (b k : ℕ) → b + k ≤ length m → sets m b (bytesAt m b k) ≡ m
 part-same m b k h =
     let len = part-length m b k h in
-    sets-eq (stretch m b k) m b (omega arith) ∙
-    rw (len, append-assoc) (ap (λ (r : List ℕ). take b m ++ r) (ap (λ (r : List ℕ). stretch m b k ++ r) (sym (drop-drop k b m)) ∙ take-append-drop k (drop b m)) ∙ take-append-drop b m)
+    sets-eq (bytesAt m b k) m b (omega arith) ∙
+    rw (len, append-assoc) (ap (λ (r : List ℕ). take b m ++ r) (ap (λ (r : List ℕ). bytesAt m b k ++ r) (sym (drop-drop k b m)) ∙ take-append-drop k (drop b m)) ∙ take-append-drop b m)
 
 module _ (j : Job) (from budget : ℕ) (m : List ℕ) {a : Answer} (e : a ≡ answerAt (length m) j) where
   pub advance-refused : (a .status ≡ 0 → ⊥) → (record { status = a .status; dim = a .dim; count = 0 } ≡ advanceOf j from budget m) × (m ≡ advanceMemory j from budget m)

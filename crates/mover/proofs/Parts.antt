@@ -12,10 +12,14 @@ use lib.Seq.{sets-eq, set-set, set-comm, drop-at, take-append-seam, sets, length
 use Rattle.mover.specs.declared.plan.Plan.{Plan}
 use Rattle.mover.specs.Private.Elements.{planKept, summed, placeOf, homeOf, planBytes, putAt, co0, co1, co2, co3, putNumber, planTotal, movedBy}
 use Rattle.mover.specs.Private.Runs.{BytesApart}
-use Rattle.mover.specs.Private.Ready.{homeEnd, placeEnd, stretch, placedAt, GoodAxes, InExtents, Ready}
-use Rattle.mover.proofs.Bytes.{length-take-most, getD-sets-out, pick-same, run-same}
+use Rattle.mover.specs.Private.Ready.{homeEnd, placeEnd, placedAt, GoodAxes, InExtents, Ready}
+use Rattle.mover.proofs.Bytes.{length-take-most, getD-sets-out, pick-same, bytes-same}
 use Rattle.mover.proofs.Places.{place-most, home-most, apart-part}
 use Rattle.mover.proofs.ByNumber.{length-moved, length-bytes, within-good}
+
+-- the l bytes of m from a on
+abbrev pub bytesAt : List ℕ → ℕ → ℕ → List ℕ
+bytesAt m a l = take l (drop a m)
 
 set-past : (x l : List ℕ) (i v : ℕ) → set (x ++ l) (length x + i) v ≡ x ++ set l i v
 set-past [] l i v = rw zero-add
@@ -54,42 +58,42 @@ module _ (p : Plan) (a b : ℕ) where
   placed-home c0 c1 c2 c3 = omega arith
 
   placed-bytes : (m : List ℕ) (l c0 c1 c2 c3 : ℕ) → a + l ≤ length m → homeEnd p ≤ l
-      → planBytes (placedAt a b p) m c0 c1 c2 c3 ≡ planBytes p (stretch m a l) c0 c1 c2 c3
+      → planBytes (placedAt a b p) m c0 c1 c2 c3 ≡ planBytes p (bytesAt m a l) c0 c1 c2 c3
   unfolding planBytes planKept placedAt
   placed-bytes m l c0 c1 c2 c3 w e =
       pick-same (planKept p c0 c1 c2 c3) (replicate (p .size) 0)
       (λ k. rw (placed-home c0 c1 c2 c3) (bytes-within m a l (homeOf p c0 c1 c2 c3) (p .size) w (omega (arith, home-most p c0 c1 c2 c3 k))))
 
   placed-put : (m x d y : List ℕ) (l c0 c1 c2 c3 : ℕ) → a + l ≤ length m → homeEnd p ≤ l → length x ≡ b → placeEnd p ≤ length d → InExtents p c0 c1 c2 c3
-      → putAt (placedAt a b p) m c0 c1 c2 c3 (x ++ (d ++ y)) ≡ x ++ (putAt p (stretch m a l) c0 c1 c2 c3 d ++ y)
+      → putAt (placedAt a b p) m c0 c1 c2 c3 (x ++ (d ++ y)) ≡ x ++ (putAt p (bytesAt m a l) c0 c1 c2 c3 d ++ y)
   unfolding putAt
   placed-put m x d y l c0 c1 c2 c3 w e g f i =
-      let z = length-bytes p (stretch m a l) c0 c1 c2 c3 in
+      let z = length-bytes p (bytesAt m a l) c0 c1 c2 c3 in
       rw (placed-place c0 c1 c2 c3, placed-bytes m l c0 c1 c2 c3 w e, ← g)
-      (sets-middle (planBytes p (stretch m a l) c0 c1 c2 c3) x d y (placeOf p c0 c1 c2 c3) (omega (arith, place-most p c0 c1 c2 c3 i)))
+      (sets-middle (planBytes p (bytesAt m a l) c0 c1 c2 c3) x d y (placeOf p c0 c1 c2 c3) (omega (arith, place-most p c0 c1 c2 c3 i)))
 
   module _ (good : GoodAxes p) where
     placed-moved : (m x d y : List ℕ) (l from n : ℕ) → a + l ≤ length m → homeEnd p ≤ l → length x ≡ b → placeEnd p ≤ length d → from + n ≤ planTotal p
-        → movedBy (placedAt a b p) m from n (x ++ (d ++ y)) ≡ x ++ (movedBy p (stretch m a l) from n d ++ y)
+        → movedBy (placedAt a b p) m from n (x ++ (d ++ y)) ≡ x ++ (movedBy p (bytesAt m a l) from n d ++ y)
     unfolding movedBy putNumber placedAt
     placed-moved m x d y l from zero w e g f t = refl
     placed-moved m x d y l from (suc n) w e g f t =
         let q = from + n in
         rw (placed-moved m x d y l from n w e g f (omega arith))
-        (placed-put m x (movedBy p (stretch m a l) from n d) y l (co0 p q) (co1 p q) (co2 p q) (co3 p q) w e g
+        (placed-put m x (movedBy p (bytesAt m a l) from n d) y l (co0 p q) (co1 p q) (co2 p q) (co3 p q) w e g
         (rw length-moved f) (within-good p good q (omega arith)))
 
     -- the move within a memory m, from its l bytes at a to its k bytes at b
     pub moved-within : (m : List ℕ) (l k from n : ℕ) → a + l ≤ length m → b + k ≤ length m → homeEnd p ≤ l → placeEnd p ≤ k → from + n ≤ planTotal p
-        → movedBy (placedAt a b p) m from n m ≡ sets m b (movedBy p (stretch m a l) from n (stretch m b k))
+        → movedBy (placedAt a b p) m from n m ≡ sets m b (movedBy p (bytesAt m a l) from n (bytesAt m b k))
     moved-within m l k from n wa wb e f t =
-        let len : length (stretch m b k) ≡ k = length-take-le k (drop b m) (simp length-drop (omega arith)) in
-        let whole : m ≡ take b m ++ (stretch m b k ++ drop (b + k) m) =
-        sym (ap (λ (r : List ℕ). take b m ++ r) (ap (λ (r : List ℕ). stretch m b k ++ r) (sym (drop-drop k b m)) ∙ take-append-drop k (drop b m)) ∙ take-append-drop b m)
+        let len : length (bytesAt m b k) ≡ k = length-take-le k (drop b m) (simp length-drop (omega arith)) in
+        let whole : m ≡ take b m ++ (bytesAt m b k ++ drop (b + k) m) =
+        sym (ap (λ (r : List ℕ). take b m ++ r) (ap (λ (r : List ℕ). bytesAt m b k ++ r) (sym (drop-drop k b m)) ∙ take-append-drop k (drop b m)) ∙ take-append-drop b m)
         in
         ap (λ (r : List ℕ). movedBy (placedAt a b p) m from n r) whole
-        ∙ placed-moved m (take b m) (stretch m b k) (drop (b + k) m) l from n wa e (length-take-le b m (omega arith)) (rw len f) t
-        ∙ sym (sets-eq (movedBy p (stretch m a l) from n (stretch m b k)) m b (rw (length-moved, len) (omega arith)) ∙ rw (length-moved, len, append-assoc))
+        ∙ placed-moved m (take b m) (bytesAt m b k) (drop (b + k) m) l from n wa e (length-take-le b m (omega arith)) (rw len f) t
+        ∙ sym (sets-eq (movedBy p (bytesAt m a l) from n (bytesAt m b k)) m b (rw (length-moved, len) (omega arith)) ∙ rw (length-moved, len, append-assoc))
 
   placed-homeEnd : homeEnd (placedAt a b p) ≡ a + homeEnd p
   unfolding homeEnd summed placedAt
@@ -101,7 +105,7 @@ module _ (p : Plan) (a b : ℕ) where
 
   -- what a move between the parts asks, and that they are apart, is what the move within the memory asks
   pub placed-ready : (m none : List ℕ) (l k : ℕ) → a + l ≤ length m → b + k ≤ length m → BytesApart Inside a (a + l) b (b + k)
-      → Ready Lent p (stretch m a l) (stretch m b k) → Ready Inside (placedAt a b p) none m
+      → Ready Lent p (bytesAt m a l) (bytesAt m b k) → Ready Inside (placedAt a b p) none m
   unfolding placedAt
   placed-ready m none l k wa wb u r =
       let e = length-take-most l (drop a m) in
@@ -116,7 +120,7 @@ module _ (p : Plan) (a b : ℕ) where
         apart = apart-part Inside u (omega arith) (omega (arith, placed-homeEnd)) (omega arith) (omega (arith, placed-placeEnd));
       }
 
-  pub placed-fits : (m : List ℕ) (l k : ℕ) → a + l ≤ length m → b + k ≤ length m → Ready Lent p (stretch m a l) (stretch m b k)
+  pub placed-fits : (m : List ℕ) (l k : ℕ) → a + l ≤ length m → b + k ≤ length m → Ready Lent p (bytesAt m a l) (bytesAt m b k)
       → (a + p .home ≤ length m) × (b + p .base ≤ length m)
   unfolding homeEnd placeEnd summed
   placed-fits m l k wa wb r =
@@ -125,9 +129,9 @@ module _ (p : Plan) (a b : ℕ) where
       (omega (arith, length-take-most l (drop a m)), omega (arith, length-take-most k (drop b m)))
 
   -- what the engine leaves of the memory is what the move between the parts leaves of the destination part
-  pub placed-written : (m e : List ℕ) (l k from budget r : ℕ) → a + l ≤ length m → b + k ≤ length m → Ready Lent p (stretch m a l) (stretch m b k) → from < planTotal p
+  pub placed-written : (m e : List ℕ) (l k from budget r : ℕ) → a + l ≤ length m → b + k ≤ length m → Ready Lent p (bytesAt m a l) (bytesAt m b k) → from < planTotal p
       → r ≡ min budget (planTotal p - from) → e ≡ movedBy (placedAt a b p) m from r m
-      → e ≡ sets m b (movedBy p (stretch m a l) from r (stretch m b k))
+      → e ≡ sets m b (movedBy p (bytesAt m a l) from r (bytesAt m b k))
   placed-written m e l k from budget r wa wb g f n w =
       let s = g .span in
       let d = g .need in
@@ -137,14 +141,14 @@ module _ (p : Plan) (a b : ℕ) where
 
 -- what a step leaves of a memory: its own part is what was put there, a part that does not meet it is as it was, and what is put
 -- there next takes its place
-pub part-own : (m e : List ℕ) (b : ℕ) → b + length e ≤ length m → stretch (sets m b e) b (length e) ≡ e
+pub part-own : (m e : List ℕ) (b : ℕ) → b + length e ≤ length m → bytesAt (sets m b e) b (length e) ≡ e
 part-own m e b h =
     rw (sets-eq e m b h, append-assoc, drop-at (take b m) (e ++ drop (b + length e) m) b (length-take-le b m (omega arith)))
     (take-append-seam e (drop (b + length e) m))
 
-pub part-other : (m e : List ℕ) (b a l : ℕ) → (a + l ≤ b) ⊎ (b + length e ≤ a) → stretch (sets m b e) a l ≡ stretch m a l
+pub part-other : (m e : List ℕ) (b a l : ℕ) → (a + l ≤ b) ⊎ (b + length e ≤ a) → bytesAt (sets m b e) a l ≡ bytesAt m a l
 part-other m e b a l o =
-    run-same (sets m b e) m a l (length-sets m b e)
+    bytes-same (sets m b e) m a l (length-sets m b e)
     (λ k u v. getD-sets-out e m b k (⊎-elim (λ x. inl (omega arith)) (λ y. inr (omega arith)) o))
 
 set-sets : (vs l : List ℕ) (i j v : ℕ) → i < j → set (sets l j vs) i v ≡ sets (set l i v) j vs

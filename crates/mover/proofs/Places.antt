@@ -99,7 +99,7 @@ module _ (p : Plan) (c0 c1 c2 c3 : ℕ) where
             (k .k0 .most) (k .k1 .most) (k .k2 .most) (k .k3 .most),
       )
 
--- parts of stretches of bytes that are apart are apart
+-- what lies within bytes that are apart is apart
 pub apart-part : (o : Origin) {a a' b b' x x' y y' : ℕ} → BytesApart o a a' b b' → a ≤ x → x' ≤ a' → b ≤ y → y' ≤ b' → BytesApart o x x' y y'
 apart-part Lent h p q r s = tt
 apart-part Inside h p q r s = ⊎-elim (λ u. inl (omega arith)) (λ v. inr (omega arith)) h

@@ -156,7 +156,7 @@ pub record Planned (t : Tensor) (c : Config) (q : ℕ) : Type 0 where
   pub at2 : co2 (planOf t c) q ≡ front t (coordOf t c q) 2
   pub at3 : co3 (planOf t c) q ≡ front t (coordOf t c q) 3
 
--- the offset and k on, in bytes; and k steps on
+-- the offset and k coordinates further, in bytes; and k steps further
 further : (o k s z : ℕ) → o * s * z + k * (s * z) ≡ (o + k) * s * z
 further o k s z = rw (add-mul o k s, add-mul (o * s) (k * s) z, mul-assoc k s z)
 

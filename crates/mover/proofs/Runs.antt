@@ -19,13 +19,13 @@ use Rattle.mover.specs.Private.Elements.{sourceBytes, axisKept}
 use Rattle.mover.specs.Private.Adding.{along}
 use Rattle.mover.specs.Private.Runs.{Alike, runStored, keptBytes, Parted}
 use Rattle.mover.proofs.Keeping.{range-test}
-use Rattle.mover.proofs.Bytes.{getD-sets-out, length-take-most, run-same}
+use Rattle.mover.proofs.Bytes.{getD-sets-out, length-take-most, bytes-same}
 use Rattle.mover.proofs.Adding.{along-none, along-next}
 
 -- ---- the run from a coordinate on
 
 module _ (x : Axis) (c most : ℕ) {n : ℕ} (f : x .pre + x .count ≤ x .extent) (l : c < x .extent) (m : 0 < most) where
-  -- padding before, what is kept, padding afterRun, and where another coordinate is padding
+  -- padding before, what is kept, padding after it, and where another coordinate is padding
   pub run-before : c < x .pre → n ≡ min (x .pre - c) most → Alike x true c most (record { kept = false; n = n })
   unfolding axisKept
   run-before h e = record {
@@ -81,7 +81,7 @@ pub run-keeps : (o : Origin) (s d v : List ℕ) (c : Course) (k : ℕ) → Parte
     → keptBytes (sourceBytes o s (runStored (keptBytes v c) (c .to) (c .stride) k d)) c k ≡ keptBytes (sourceBytes o s d) c k
 run-keeps Lent s d v c k p h = refl
 run-keeps Inside s d v c k p h =
-    run-same (runStored (keptBytes v c) (c .to) (c .stride) k d) d (along (c .at) (c .jump) k) (c .size) (length-run (keptBytes v c) (c .to) (c .stride) k d)
+    bytes-same (runStored (keptBytes v c) (c .to) (c .stride) k d) d (along (c .at) (c .jump) k) (c .size) (length-run (keptBytes v c) (c .to) (c .stride) k d)
     (λ i a b.
     run-out (keptBytes v c) (c .to) (c .stride) k d i
     (λ j l.

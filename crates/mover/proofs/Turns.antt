@@ -1,5 +1,5 @@
--- What a turn of the engine's loops keeps: a run is elements by their numbers, and the end of a row, a layer and a slab is the start of
--- the next. Assumes nothing.
+-- What a turn of the engine's loops keeps: a run is elements by their numbers, and the end of a row, a layer and a slab is the start
+-- of the next. Assumes nothing.
 use mathlib.Core.Path.{_≡_, refl, sym, ap, _∙_}
 use mathlib.Core.Logic.{_⊎_, ⊎-elim}
 use mathlib.Core.Bool.{Bool, true, _&&_}
@@ -40,9 +40,9 @@ run-moved p s d e to c0 c1 c2 c3 (suc n) {q} h w f g =
 
 -- ---- the engine's loops
 
--- the coordinates are those of element number from + done, where done is the part of the budget that is not left; what
--- is before it has been moved; behind a coordinate at its end all are 0; and the spots are those of its slab, layer and row and its
--- own. Of the source's place nothing is said where no element is left, or no kept one is ahead in the row
+-- the coordinates are those of element number from + done, where done is the part of the budget that is not left; what is before it
+-- has been moved; behind a coordinate at its end all are 0; and the spots are those of its slab, layer and row and its own. Of the
+-- source's place nothing is said where no element is left, or no kept one is ahead in the row
 pub record At (o : Origin) (p : Plan) (s d₀ : List ℕ) (from budget : ℕ) (d : List ℕ) (c0 c1 c2 c3 left : ℕ) (u : Spots) : Type 0 where
   pub in1 : c1 ≤ p .d1 .extent
   pub in2 : c2 ≤ p .d2 .extent

@@ -1,4 +1,4 @@
--- What only private functions cite: a move as the engine wants it. No reader of a public contract needs these files.
+-- What private functions and their proofs cite: a move as the engine wants it. No reader of a public contract needs these files.
 pub mod Plans
 pub mod Elements
 pub mod Adding

@@ -61,7 +61,7 @@ fn copy(src: &[u8], dst: &mut [u8], origin: Origin, at: usize, to: usize, size: 
     dst[to + 3] = d;
 }
 
-// A run of kept elements, one by one; tells where the next is stored. The size is tested within, and the compiler makes a loop for each.
+// A run of kept elements, one by one; tells where the next is stored. The size is tested within: the compiler makes a loop for each.
 fn copy_each(src: &[u8], dst: &mut [u8], origin: Origin, c: Course) -> usize
     requires { ⌜ Writable (now dst) c ⌝ }
     requires { ⌜ Readable origin (now src) (now dst) c ⌝ }

@@ -75,7 +75,7 @@ fn run_at(x: Axis, outer: bool, c: usize, most: usize) -> Run
     }
 }
 
-// Moves a run, kept elements or padding, and tells the spots afterRun it: where to store the next element of the row.
+// Moves a run, kept elements or padding, and tells the spots after it: where to store the next element of the row.
 fn move_run(src: &[u8], dst: &mut [u8], origin: Origin, plan: Plan, s: Spots, run: Run) -> Spots
     requires { ⌜ Writable (now dst) (courseOf plan (s .here) run) ⌝ }
     requires { ⌜ (run .kept ≡ true → Readable origin (now src) (now dst) (courseOf plan (s .here) run)) ⌝ }

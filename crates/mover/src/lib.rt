@@ -2,7 +2,7 @@
 // and changes no other byte. Between two lent slices, or between two parts of one memory, from any element on.
 
 mod plan; // an accepted move as the engine wants it
-mod spots; // where an element stands, and where the next row, plane and block start
+mod spots; // where an element stands, and where the next row, layer and slab start
 mod start; // where a step begins
 mod elements; // a run of elements, copied or of padding
 mod engine; // the loops over four destination coordinates

@@ -4,14 +4,15 @@ use std::num::wrapping_add_usize;
 ghost use mathlib.Core.Path.{_≡_};
 ghost use Rattle.mover.specs.Private.Adding.{onwardOf, nextRow, nextLayer, nextSlab};
 
-// Two places: `to` is the byte of an element in the destination, `at` that of its source element; in padding it stays at one that is
-// kept.
+// Two places: `to` is the byte of an element in the destination, `at` that of its source element. In padding, and behind a run, `at`
+// stays at one that is kept.
 pub(crate) struct Spot {
     pub(crate) to: usize,
     pub(crate) at: usize,
 }
 
-// The spots of an element: the first of its slab, of its layer and of its row, and its own.
+// The spots of an element: where its slab, its layer and its row start, and its own. A row goes over the last coordinate, a layer over
+// the last two, a slab over the last three.
 pub(crate) struct Spots {
     pub(crate) slab: Spot,
     pub(crate) layer: Spot,

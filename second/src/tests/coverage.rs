@@ -50,7 +50,7 @@ fn what_was_not_met_is_named() {
         "03 judge: 12 too large at 0",
         "20 move_plane: 12 past the row at 3",
         "20 move_plane: 4-byte row thinned",
-        "22 advance: past the end of a block",
+        "22 advance: past the end of a slab",
         "24 sub_part: 15",
         "41 prepare: 22",
         "41 prepare: ff04",

@@ -64,8 +64,8 @@ fn what_a_stretch_passes() {
     let tensor = plane(&[2, 2, 2, 2]);
     let at = |from: u64, budget: u64| stretch(tensor, default(&tensor), from, budget);
     assert_eq!(at(4, 4), "past the end of a row");
-    assert_eq!(at(2, 4), "past the end of a row; past the end of a plane");
-    assert_eq!(at(6, 4), "past the end of a row; past the end of a plane; past the end of a block");
+    assert_eq!(at(2, 4), "past the end of a row; past the end of a layer");
+    assert_eq!(at(6, 4), "past the end of a row; past the end of a layer; past the end of a slab");
     // A row of one element adds nothing that would have to be taken back.
     let narrow = plane(&[2, 2, 1]);
     assert_eq!(stretch(narrow, default(&narrow), 0, 4), "");

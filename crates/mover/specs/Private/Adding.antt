@@ -22,6 +22,7 @@ jumpsOf x c = min (c - x .pre) (x .count - 1)
 unfoldable pub spotAt : Spot → Axis → ℕ → Spot
 spotAt s x c = record { to = along (s .to) (x .stride) c; at = along (s .at) (x .jump) (jumpsOf x c) }
 
+-- the spot at which all coordinates are 0
 abbrev pub firstSpot : Plan → Spot
 firstSpot p = record { to = p .base; at = p .home }
 

@@ -42,8 +42,8 @@ planOf t c = record {
   d3 = axisAt t c 3;
 }
 
--- the same as the code makes it, from the configuration, the move's answer and the source's resolved strides: what the padding
--- leaves of an extent is kept
+-- destination dimension i as the code makes it, from the configuration, the move's answer and the source's resolved strides: what
+-- the padding leaves of its extent is kept
 abbrev pub axisMade : Config → Answer → List ℕ → ℕ → Axis
 axisMade c a strides i = record {
   extent = at (a .extent) i;

@@ -1,7 +1,7 @@
 -- What the checks establish of a plan and the bytes that it is made over, and a move within one memory.
 use mathlib.Core.List.{List}
 use Prim.Native.Nat.{ℕ, _+_, _-_, _≤_, _<_}
-use lib.ListN.{length, take, drop}
+use lib.ListN.{length}
 use lib.Seq.{sets}
 use Rattle.mover.specs.declared.Part.{Part}
 use Rattle.mover.specs.declared.plan.Axis.{Axis}
@@ -38,6 +38,7 @@ pub record GoodAxes (p : Plan) : Type 0 where
   pub in2 : GoodAxis (p .d2)
   pub in3 : GoodAxis (p .d3)
 
+-- what the engine asks of a plan, and of the bytes of source and destination
 pub record Ready (o : Origin) (p : Plan) (s d : List ℕ) : Type 0 where
   pub sized : Sized (p .size)
   pub axes : GoodAxes p
@@ -63,10 +64,6 @@ PartsApart p q = BytesApart Inside (p .start) (p .start + p .length) (q .start) 
 -- the memory m with n elements moved from its part s to its part d
 abbrev pub movedWithin : Plan → Part → Part → List ℕ → ℕ → ℕ → List ℕ
 movedWithin p s d m from n = sets m (d .start) (movedBy p (bytesOf s m) from n (bytesOf d m))
-
--- the l bytes of m from a on. (`sets m b e` is m with the bytes from b on replaced by e.)
-abbrev pub stretch : List ℕ → ℕ → ℕ → List ℕ
-stretch m a l = take l (drop a m)
 
 -- the plan of a move between parts of one memory that start at a and b
 unfoldable pub placedAt : ℕ → ℕ → Plan → Plan

@@ -1,6 +1,6 @@
 -- `mover::engine::advance` meets its contract. Each loop keeps `At`: the coordinates are those of element number from + done, the
--- elements before it are movedBy, and the spots are its own. A loop's own start is another than the function's, so its invariant says that
--- `At`, at whatever destination the function began with, holds now if it held where the loop began. Assumes nothing.
+-- elements before it are moved, and the spots are its own. A loop's own start is another than the function's, so its invariant says
+-- that `At`, at whatever destination the function began with, holds now if it held where the loop began. Assumes nothing.
 use Prim.Native.Nat.{ℕ, _+_, _-_, _^_, _<_}
 use mathlib.Core.Path.{_≡_, ap, _∙_}
 use mathlib.Core.Bool.{Bool, _&&_}
