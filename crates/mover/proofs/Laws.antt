@@ -14,7 +14,7 @@ use lib.ListN.{length, getD, take, drop, length-drop, take-append-drop}
 use lib.Seq.{sets, sets-eq, length-sets, length-take-le, drop-drop}
 use Rattle.plane.specs.declared.Tensor.{Tensor}
 use Rattle.plane.specs.declared.Config.{Config}
-use Rattle.plane.specs.Arrays.{product}
+use Rattle.plane.proofs.Arrays.{product-positive}
 use Rattle.plane.specs.Planes.{span}
 use Rattle.plane.specs.Moves.{need, moveFault, judgeOf}
 use Rattle.faults.proofs.Bools.{either-clear}
@@ -72,11 +72,6 @@ module _ (t : Tensor) (c : Config) where
   moved-refused src dst h =
       if-fault (moveFault t c (length src) (length dst)) dst (moved t c src 0 (total t c) dst)
       (λ z. h (judged (length src) (length dst) ∙ z))
-
-  product-positive : (n : ℕ) (f : ℕ → ℕ) → ((i : ℕ) → i < n → 0 < f i) → 0 < product n f
-  unfolding product
-  product-positive zero f h = omega arith
-  product-positive (suc n) f h = mul-pos (product-positive n f (λ i l. h i (omega arith))) (h n (omega arith))
 
   -- an accepted move has an element
   pub total-positive : GoodSource t → GoodConfig t c → 0 < total t c

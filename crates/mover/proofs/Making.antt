@@ -2,10 +2,9 @@
 -- the axes. Assumes nothing.
 use Prim.Native.Nat.{ℕ, _+_, _-_, _*_, _^_, _≤_, _<_}
 use native.Mathlib.Nat.{mul-le-mul}
-use native.Mathlib.Numerals.{add-one}
 use native.Mathlib.Decide.{decLt}
 use native.Mathlib.Omega.{arith}
-use mathlib.Core.Path.{_≡_, refl, sym, ap, ap₂, subst, _∙_}
+use mathlib.Core.Path.{_≡_, sym, ap, ap₂, subst, _∙_}
 use mathlib.Core.Bool.{cond}
 use mathlib.Core.List.{List}
 use borrow.Author.Tests.{lt-ltb, le-ltb}
@@ -14,11 +13,11 @@ use Rattle.plane.specs.declared.Tensor.{Tensor}
 use Rattle.plane.specs.declared.Config.{Config}
 use Rattle.plane.specs.declared.Source.{Source}
 use Rattle.plane.specs.declared.Answer.{Answer}
-use Rattle.plane.specs.Arrays.{at, sum, product}
+use Rattle.plane.specs.Arrays.{at, sum}
 use Rattle.plane.specs.Planes.{srcStrides, sourceOf}
 use Rattle.plane.specs.Moves.{count, extent, dstExtents, roomFault, accepted}
 use Rattle.plane.proofs.Arrays.{firsts-at}
-use Rattle.plane.proofs.Bounds.{product-fits, element-small}
+use Rattle.plane.proofs.Bounds.{element-small}
 use Rattle.faults.proofs.Faults.{status, or-clear}
 use Rattle.plane.specs.Good.{GoodSource, GoodConfig, GoodDst}
 use Rattle.plane.proofs.Good.{source-good, config-good, dst-good}
@@ -36,36 +35,6 @@ bytes-fit x n z l s h =
 -- a step times a stride, times an element size
 pub jump-fits : (x z : ℕ) → x ≤ 65535 * 4294967295 → z ≤ 4 → x * z < 2 ^ 64
 jump-fits x z h l = omega (arith, mul-le-mul h l)
-
--- a loop that multiplies extents up to n
-pub record Multiplied (n : ℕ) (f : ℕ → ℕ) (total i : ℕ) : Type 0 where
-  pub within : i ≤ n
-  pub is : total ≡ product i f
-
-module _ {n : ℕ} {f : ℕ → ℕ} where
-  pub multiplied-start : Multiplied n f 1 0
-  unfolding product
-  multiplied-start = record { within = omega arith; is = refl }
-
-  module _ {total i : ℕ} (m : Multiplied n f total i) where
-    next : total * f i ≡ product (i + 1) f
-    unfolding product
-    next = ap (λ (x : ℕ). x * f i) (m .is) ∙ sym (ap (λ (k : ℕ). product k f) (add-one i))
-
-    pub multiplied-more : i < n → Multiplied n f (total * f i) (i + 1)
-    multiplied-more h = record { within = omega arith; is = next }
-
-    pub multiplied-fits : n ≤ 4 → ((k : ℕ) → k < n → f k ≤ 65535) → i < n → total * f i < 2 ^ 64
-    multiplied-fits l b h =
-        let e = next in
-        let w = product-fits (i + 1) f (omega arith) (λ k q. b k (omega arith)) in
-        omega arith
-
-    pub multiplied-end : n ≤ i → total ≡ product n f
-    multiplied-end h =
-        let l = m .within in
-        let q : i ≡ n = omega arith in
-        m .is ∙ ap (λ (k : ℕ). product k f) q
 
 -- ---- an accepted move
 

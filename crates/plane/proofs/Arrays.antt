@@ -1,6 +1,6 @@
 -- Laws of arrays, sums and products over the dimensions (`specs/Arrays.antt`), and of a loop that fills an array. Assumes nothing.
 use Prim.Native.Nat.{ℕ, zero, suc, _+_, _*_, _≤_, _<_}
-use native.Mathlib.Nat.{suc-mul, not-suc-le-zero, le-of-suc-le-suc, eq-or-lt-of-le}
+use native.Mathlib.Nat.{suc-mul, mul-pos, not-suc-le-zero, le-of-suc-le-suc, eq-or-lt-of-le}
 use native.Mathlib.Numerals.{add-one}
 use native.Mathlib.Decide.{ℕ-discrete, decLt}
 use native.Mathlib.Omega.{arith}
@@ -138,6 +138,11 @@ pub product-same : (n : ℕ) (f g : ℕ → ℕ) → ((k : ℕ) → k < n → f 
 unfolding product
 product-same zero f g h = refl
 product-same (suc n) f g h = ap₂ (λ (x y : ℕ). x * y) (product-same n f g (λ k q. h k (omega arith))) (h n (omega arith))
+
+pub product-positive : (n : ℕ) (f : ℕ → ℕ) → ((k : ℕ) → k < n → 0 < f k) → 0 < product n f
+unfolding product
+product-positive zero f h = omega arith
+product-positive (suc n) f h = mul-pos (product-positive n f (λ k q. h k (omega arith))) (h n (omega arith))
 
 pub howMany-same : (n : ℕ) (p q : ℕ → Bool) → ((k : ℕ) → k < n → p k ≡ q k) → howMany n p ≡ howMany n q
 unfolding howMany

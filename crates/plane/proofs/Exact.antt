@@ -25,6 +25,7 @@ use Rattle.plane.specs.Orders.{sourceRules, configRules, dstRules, moveR
 use Rattle.plane.specs.Claims.{SourceExact, SourceZeros, JudgeExact, JudgeZeros, RoomExact, RoomZeros, RoomNever, RoomIsJudge, CountExact, CountZeros, SubExact, SubZeros}
 use Rattle.faults.proofs.Faults.{status, or-path, or-none, or-found, or-assoc, spared, when-zero, if-fault, if-none}
 use Rattle.plane.proofs.Rules.{answer-refused, answer-given, answer-status}
+use Rattle.plane.proofs.Counting.{count-refused, count-given}
 use Rattle.plane.proofs.SubAnswers.{sub-status}
 use Rattle.faults.proofs.Chains.{Positive, chain, exact, exact-fault, never-given, or-last, whole-is, join, one-chain}
 
@@ -61,7 +62,7 @@ room-chain t c =
 
 count-chain : (t : Tensor) (start : ℕ) → countFault t start ≡ chain (countRules t start)
 unfolding countFault chain
-count-chain t start = or-path (whole-is 1 _) (or-path refl (or-path (whole-is 16 _) (one-chain 29 _ (omega arith))))
+count-chain t start = or-path (whole-is 1 _) (or-path refl (one-chain 16 _ (omega arith)))
 
 sub-chain : (t : Tensor) (s : SubConfig) (srcLen : ℕ) → subFault t s srcLen ≡ chain (subRules t s srcLen)
 unfolding subFault rankFault chain
@@ -94,19 +95,16 @@ zeros-besides t c f h =
     e ∙ ap (λ (x : Answer). refused (fault (x .status) (x .dim))) (sym e)
 
 count-status : (f : Fault) (x : ℕ) → countAnswer f x .status ≡ f .status
-unfolding countAnswer
 count-status f x = elim (ℕ-discrete (f .status) 0) [
-  | yes z ↦ ap (λ (c : Count). c .status) (if-none f (noCount f) (record { status = 0; dim = 0; count = x }) z) ∙ sym z
-  | no z ↦ ap (λ (c : Count). c .status) (if-fault f (noCount f) (record { status = 0; dim = 0; count = x }) z)
+  | yes z ↦ ap (λ (c : Count). c .status) (count-given f x z) ∙ sym z
+  | no z ↦ ap (λ (c : Count). c .status) (count-refused f x z)
 ]
 
 count-dim : (f : Fault) (x : ℕ) → (f .status ≡ 0 → ⊥) → countAnswer f x .dim ≡ f .dim
-unfolding countAnswer
-count-dim f x z = ap (λ (c : Count). c .dim) (if-fault f (noCount f) (record { status = 0; dim = 0; count = x }) z)
+count-dim f x z = ap (λ (c : Count). c .dim) (count-refused f x z)
 
 count-plain : (f : Fault) (x : ℕ) → f .status ≡ 0 → countAnswer f x .dim ≡ 0
-unfolding countAnswer
-count-plain f x z = ap (λ (c : Count). c .dim) (if-none f (noCount f) (record { status = 0; dim = 0; count = x }) z)
+count-plain f x z = ap (λ (c : Count). c .dim) (count-given f x z)
 
 sub-plain : (f : Fault) (t : Tensor) (x : ℕ) → f .status ≡ 0 → subAnswer f t x .dim ≡ 0
 unfolding subAnswer
@@ -184,10 +182,10 @@ count-exact t start =
     exact (countRules t start) (positive-count t start) (countFault t start) (count-chain t start) (count-status _ _) (count-plain _ _) (count-dim _ _)
 
 pub count-zeros : CountZeros
-unfolding countOf countAnswer
+unfolding countOf
 count-zeros t start h =
     let f = countFault t start in
-    let e = if-fault f (noCount f) (record { status = 0; dim = 0; count = elements t start }) (λ z. h (count-status f (elements t start) ∙ z)) in
+    let e = count-refused f (elements t start) (λ z. h (count-status f (elements t start) ∙ z)) in
     e ∙ ap (λ (x : Count). noCount (fault (x .status) (x .dim))) (sym e)
 
 pub sub-exact : SubExact

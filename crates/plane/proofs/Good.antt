@@ -11,7 +11,7 @@ use Rattle.plane.specs.Arrays.{at, some}
 use Rattle.faults.specs.Faults.{lowest, outward}
 use Rattle.plane.specs.Planes.{badRank, badElement, badShape, shapeAt, strideAt, inner, resolved, badStrideAt, span, sourceFault}
 use Rattle.plane.specs.Moves.{extent, need, badPermAt, badOffset, badSize, badStep, badExtent, badDstOffsetAt, badDstOffsetOf, configFault, dstFault, moveFault}
-use Rattle.plane.specs.Good.{GoodStrides, GoodSource, GoodConfig, GoodDst}
+use Rattle.plane.specs.Good.{FromTo, GoodStrides, GoodSource, GoodConfig, GoodDst}
 use Rattle.plane.specs.Claims.{MoveGood, MoveClear}
 use Rattle.faults.proofs.Bools.{either-clear, neither, in-range}
 use Rattle.plane.proofs.Arrays.{some-clear, some-none}
@@ -61,6 +61,9 @@ module _ (extent stride offset : ℕ → ℕ) where
 -- ---- 1 to 4
 
 module _ (t : Tensor) where
+  pub shapes-good : lowest 3 (t .rank) (λ d. badShape (shapeAt t d)) .status ≡ 0 → (d : ℕ) → d < t .rank → FromTo 1 65535 (shapeAt t d)
+  shapes-good z d h = in-range (shapeAt t d) 1 65535 (lowest-clear 3 (t .rank) (λ d. badShape (shapeAt t d)) d (omega arith) z h)
+
   pub source-good : sourceFault t .status ≡ 0 → GoodSource t
   unfolding sourceFault
   source-good z =
@@ -70,7 +73,7 @@ module _ (t : Tensor) where
       record {
         rank = in-range (t .rank) 1 4 (when-clear 1 0 (badRank (t .rank)) (omega arith) (z1 .0));
         element = eqb-false _ _ (when-clear 2 0 (badElement (t .«element_size»)) (omega arith) (z2 .0));
-        shape = λ d h. in-range (shapeAt t d) 1 65535 (lowest-clear 3 (t .rank) (λ d. badShape (shapeAt t d)) d (omega arith) (z3 .0) h);
+        shape = shapes-good (z3 .0);
         strides = strides-good 4 (t .rank) (shapeAt t) (strideAt t) (omega arith) (z3 .1);
       }
 

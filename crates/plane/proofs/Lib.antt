@@ -12,5 +12,6 @@ pub mod Resolving
 pub mod Falling
 pub mod Rules
 pub mod Counting
+pub mod Products
 pub mod Staying
 pub mod SubAnswers

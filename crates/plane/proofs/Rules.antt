@@ -18,12 +18,11 @@ use Rattle.faults.specs.Faults.{none, fault, when, _orElse_, lowest, ifFault}
 use Rattle.plane.specs.Planes.{badShape, shapeAt, srcStrides, span, sourceFault, sourceOf}
 use Rattle.plane.specs.Moves.{upward, taken, count, extent, dstExtents, dstStrides, need, badDstOffsetAt, configFault, dstFault, moveFault, roomFault, refused, accepted, answerOf, judgeOf, roomOf}
 use Rattle.plane.specs.Private.{stridesOf, reach}
-use Rattle.faults.proofs.Bools.{in-range}
 use Rattle.plane.proofs.Arrays.{zeros-at, sum-same, firsts-at}
 use Rattle.faults.proofs.Faults.{status, or-none, or-found, or-assoc, passed, stopped, if-fault, if-none, given, spared, when-bad, when-good, lowest-clear}
 use Rattle.plane.proofs.Resolving.{strides-fault, strides-ok}
 use Rattle.plane.specs.Good.{GoodSource, GoodConfig}
-use Rattle.plane.proofs.Good.{positive, dst-offset-small, source-good}
+use Rattle.plane.proofs.Good.{positive, dst-offset-small, shapes-good, source-good}
 
 -- ---- a tensor record by itself
 
@@ -54,7 +53,7 @@ module _ (t : Tensor) where
 
   pub shape-box : lowest 3 (t .rank) (λ d. badShape (shapeAt t d)) .status ≡ 0 → (d : ℕ) → d < t .rank → (0 < shapeAt t d) × (at zeros d + shapeAt t d ≤ 131072)
   shape-box z d h =
-      let w = in-range (shapeAt t d) 1 65535 (lowest-clear 3 (t .rank) (λ d. badShape (shapeAt t d)) d (omega arith) z h) in
+      let w = shapes-good t z d h in
       let o = zeros-at d in
       (omega arith, omega arith)
 

@@ -1,6 +1,6 @@
 -- Entries at or past the rank are not looked at: records and configurations that agree below the rank have the same answers.
 -- Assumes nothing.
-use Prim.Native.Nat.{ℕ, zero, suc, _+_, _-_, _*_, _^_, _≤_, _<_}
+use Prim.Native.Nat.{ℕ, zero, suc, _+_, _-_, _*_, _≤_, _<_}
 use native.Mathlib.Decide.{ℕ-discrete}
 use native.Mathlib.Omega.{arith}
 use mathlib.Core.Path.{_≡_, refl, sym, ap, ap₂, _∙_}
@@ -186,7 +186,7 @@ module _ (n z : ℕ) (s s′ p p′ : List ℕ) (a : SameTensor (tensor n z s p)
   unfolding countOf countFault
   count-same start =
       ap₂ countAnswer
-      (or-path refl (or-path shapes-same (or-path refl (ap (λ (x : ℕ). when 29 0 (leb (2 ^ 64) x)) (elements-same start)))))
+      (or-path refl (or-path shapes-same refl))
       (elements-same start)
 
   -- the sub-tensor's rank is one number m, so that its output's rank is one too

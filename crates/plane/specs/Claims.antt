@@ -11,9 +11,9 @@ use Rattle.faults.specs.Faults.{fault}
 use Rattle.faults.specs.Exactness.{Exact}
 use Rattle.plane.specs.Planes.{shapeAt, strideAt, inner, resolved, srcStrides, span, sourceFault, sourceOf}
 use Rattle.plane.specs.Moves.{dstExtents, need, moveFault, refused, judgeOf, roomOf}
-use Rattle.plane.specs.Helpers.{noCount, countOf, staying, excess, subDim, subFault, subOf, noSub, subTensorOf}
+use Rattle.plane.specs.Helpers.{elements, noCount, countOf, staying, excess, subDim, subFault, subOf, noSub, subTensorOf}
 use Rattle.plane.specs.Orders.{sourceRules, moveRules, roomRules, countRules, subRules}
-use Rattle.plane.specs.Good.{GoodStrides, GoodSource, GoodConfig, GoodDst, GoodMove, GoodSub}
+use Rattle.plane.specs.Good.{FromTo, GoodStrides, GoodSource, GoodConfig, GoodDst, GoodMove, GoodSub}
 
 -- ---- Refusals
 
@@ -110,9 +110,21 @@ NeedFits = (t : Tensor) (c : Config) → GoodSource t → GoodConfig t c → Goo
 abbrev pub ExtentsFit : Type 0
 ExtentsFit = (t : Tensor) (c : Config) → GoodSource t → GoodConfig t c → product (t .rank) (at (dstExtents t c)) < 2 ^ 64
 
--- a count
-abbrev pub ProductFits : Type 0
-ProductFits = (n : ℕ) (f : ℕ → ℕ) → n ≤ 4 → ((d : ℕ) → d < n → f d ≤ 65535) → product n f < 2 ^ 64
+-- the most elements that a plane can have
+abbrev pub mostElements : ℕ
+mostElements = 18445618199572250625
+
+-- a count: where rank and shapes are in range, the product of the shapes from any dimension on is at most that, which 64 bits hold, and
+-- four shapes of 65,535 meet it
+pub record CountFits : Type 0 where
+  pub most : (t : Tensor) (start : ℕ) → FromTo 1 4 (t .rank) → ((d : ℕ) → d < t .rank → FromTo 1 65535 (shapeAt t d)) →
+      elements t start ≤ mostElements
+  pub fits : mostElements < 2 ^ 64
+  pub met : (t : Tensor) → t .rank ≡ 4 → ((d : ℕ) → d < 4 → shapeAt t d ≡ 65535) → elements t 0 ≡ mostElements
+
+-- so no answer is above it, whatever was asked
+abbrev pub CountMost : Type 0
+CountMost = (t : Tensor) (start : ℕ) → countOf t start .count ≤ mostElements
 
 -- ---- Sub-tensors
 

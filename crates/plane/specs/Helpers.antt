@@ -1,5 +1,5 @@
 -- The helpers: element count and sub-tensor. The element size is in Planes.
-use Prim.Native.Nat.{ℕ, zero, suc, _+_, _-_, _*_, _^_}
+use Prim.Native.Nat.{ℕ, zero, suc, _+_, _-_, _*_}
 use mathlib.Core.Bool.{Bool, cond, _||_, _&&_}
 use mathlib.Core.List.{List, [], _∷_, _++_}
 use lib.Dec.{ltb, leb, eqb}
@@ -19,13 +19,12 @@ use Rattle.plane.specs.Moves.{badOffset, badSize}
 unfoldable pub elements : Tensor → ℕ → ℕ
 elements t start = product (t .rank - start) (λ k. shapeAt t (start + k))
 
--- 16: a start dimension not below the rank; 29: a count that does not fit 64 bits
+-- 16: a start dimension not below the rank
 unfoldable pub countFault : Tensor → ℕ → Fault
 countFault t start =
     when 1 0 (badRank (t .rank)) orElse
     lowest 3 (t .rank) (λ d. badShape (shapeAt t d)) orElse
-    when 16 0 (leb (t .rank) start) orElse
-    when 29 0 (leb (2 ^ 64) (elements t start))
+    when 16 0 (leb (t .rank) start)
 
 abbrev pub noCount : Fault → Count
 noCount f = record { status = f .status; dim = f .dim; count = 0 }

@@ -1,5 +1,5 @@
 -- The rules of each call, in the paper's order.
-use Prim.Native.Nat.{ℕ, _^_}
+use Prim.Native.Nat.{ℕ}
 use mathlib.Core.Bool.{_||_}
 use mathlib.Core.List.{List, [], _∷_, _++_}
 use lib.Dec.{ltb, leb, eqb}
@@ -9,7 +9,7 @@ use Rattle.plane.specs.declared.SubConfig.{SubConfig}
 use Rattle.plane.specs.Arrays.{at, howMany}
 use Rattle.plane.specs.Planes.{badRank, badElement, badShape, shapeAt, strideAt, badStrideAt, span}
 use Rattle.plane.specs.Moves.{extent, dstExtents, need, badPermAt, badOffset, badSize, badStep, badExtent, badDstOffsetOf}
-use Rattle.plane.specs.Helpers.{elements, isUnit, excess, badSubSize}
+use Rattle.plane.specs.Helpers.{isUnit, excess, badSubSize}
 use Rattle.faults.specs.Exactness.{Rule, whole, fromFirst, fromLast}
 
 -- 1 to 4
@@ -48,13 +48,12 @@ moveRules t c srcLen dstLen =
 abbrev pub roomRules : Tensor → Config → List Rule
 roomRules t c = sourceRules t ++ configRules t c ++ dstRules t c
 
--- count: 1, 3, 16, 29
+-- count: 1, 3, 16
 abbrev pub countRules : Tensor → ℕ → List Rule
 countRules t start =
     whole 1 (badRank (t .rank)) ∷
     fromFirst 3 (t .rank) (λ d. badShape (shapeAt t d)) ∷
     whole 16 (leb (t .rank) start) ∷
-    whole 29 (leb (2 ^ 64) (elements t start)) ∷
     []
 
 -- sub-tensor: 1 to 5, 7, 8, 14, 15

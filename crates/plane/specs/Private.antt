@@ -1,18 +1,16 @@
 -- What the contracts of private functions cite. No reader of a public contract needs this file.
-use Prim.Native.Nat.{ℕ, _+_, _-_, _*_, _^_, _≤_, _<_}
+use Prim.Native.Nat.{ℕ, _+_, _-_, _*_, _≤_, _<_}
 use mathlib.Core.List.{List}
-use lib.Dec.{leb}
 use lib.ListN.{length}
 use Rattle.plane.specs.declared.Tensor.{Tensor}
 use Rattle.plane.specs.declared.Config.{Config}
-use Rattle.plane.specs.declared.Count.{Count}
 use Rattle.plane.specs.declared.strides.Strides.{Strides}
 use Rattle.plane.specs.declared.sub.Staying.{Staying}
-use Rattle.plane.specs.Arrays.{at, firsts, zeros, sum, product, howMany}
-use Rattle.faults.specs.Faults.{when, outward, ifFault}
+use Rattle.plane.specs.Arrays.{at, firsts, zeros, sum, howMany}
+use Rattle.faults.specs.Faults.{outward, ifFault}
 use Rattle.plane.specs.Planes.{shapeAt, badStrideAt, strides}
 use Rattle.plane.specs.Moves.{extent}
-use Rattle.plane.specs.Helpers.{countAnswer, isUnit, staying}
+use Rattle.plane.specs.Helpers.{isUnit, staying}
 
 -- ---- what they ask
 
@@ -44,11 +42,6 @@ stridesOf num n shape stride = record {
 -- the elements from the first to the last coordinate of a box that starts at these offsets
 abbrev pub reach : ℕ → (ℕ → ℕ) → (ℕ → ℕ) → (ℕ → ℕ) → ℕ
 reach n offset extent stride = 1 + sum n (λ d. (offset d + extent d - 1) * stride d)
-
--- the product of the shapes of n dimensions from start on, or 29
-unfoldable pub productOf : ℕ → (ℕ → ℕ) → ℕ → Count
-productOf n shape start =
-    countAnswer (when 29 0 (leb (2 ^ 64) (product (n - start) (λ k. shape (start + k))))) (product (n - start) (λ k. shape (start + k)))
 
 -- the sizes and strides of the dimensions that stay, and how many that should go are not there
 unfoldable pub stayingOf : ℕ → (ℕ → ℕ) → (ℕ → ℕ) → ℕ → Staying

@@ -5,11 +5,10 @@ use crate::Tensor;
 use crate::refusals::rank_is_bad;
 use crate::refusals::shape_fault;
 ghost use mathlib.Core.Path.{_≡_};
-ghost use Prim.Native.Nat.{ℕ, _≤_, _<_};
-ghost use Rattle.plane.specs.Arrays.{at};
+ghost use Prim.Native.Nat.{ℕ, _+_, _-_, _≤_, _<_};
+ghost use Rattle.plane.specs.Arrays.{at, product};
 ghost use Rattle.plane.specs.Planes.{elementSize};
 ghost use Rattle.plane.specs.Helpers.{noCount, countOf};
-ghost use Rattle.plane.specs.Private.{productOf};
 
 // The element size in bytes, and 0 for one that is not taken.
 pub fn element_size(size: u8) -> u8
@@ -32,24 +31,17 @@ fn refused(f: Fault) -> Count
     }
 }
 
-// The elements from a start dimension on: the product of the shapes, or 29 where 64 bits do not hold it.
-fn product_from(n: u8, shape: [u32; 4], start: u8) -> Count
-    requires { ⌜ (n ≤ 4) × (start < n) × ((d : ℕ) → d < n → 0 < at shape d) ⌝ }
-    ensures { λ r. ⌜ r ≡ productOf n (at shape) start ⌝ }
+// The product of the shapes from a start dimension on. 64 bits hold it: there are four at most, of 65,535 at most.
+fn product_from(n: u8, shape: [u32; 4], start: u8) -> u64
+    requires { ⌜ (n ≤ 4) × (start < n) × ((d : ℕ) → d < n → at shape d ≤ 65535) ⌝ }
+    ensures { λ r. ⌜ r ≡ product (n - start) (λ k. at shape (start + k)) ⌝ }
 {
     let mut count: u64 = 1;
     for d in start..n {
         let s = shape[d as usize] as u64;
-        if 18446744073709551615 / s < count {
-            return refused(Fault { status: 29, dim: 0 });
-        }
         count = count * s;
     }
-    Count {
-        status: 0,
-        dim: 0,
-        count: count,
-    }
+    count
 }
 
 // How many elements there are from a start dimension on; all of them from 0 on.
@@ -68,5 +60,10 @@ pub fn element_count(t: Tensor, start: u32) -> Count
     if (n as u32) <= start {
         return refused(Fault { status: 16, dim: 0 });
     }
-    product_from(n, shape, start as u8)
+    let count = product_from(n, shape, start as u8);
+    Count {
+        status: 0,
+        dim: 0,
+        count: count,
+    }
 }

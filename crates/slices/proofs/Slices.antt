@@ -18,8 +18,7 @@ use Rattle.plane.specs.Moves.{dstStrides, need}
 use Rattle.plane.specs.Settings.{withOffset, withSize, withDstStride}
 use Rattle.plane.specs.Helpers.{excess, subDim, subOf, subByte}
 use Rattle.ready_made.specs.ReadyMade.{defaults, cutTo}
-use Rattle.plane.proofs.Arrays.{sum-same, product-same}
-use Rattle.plane.proofs.Counting.{product-grows}
+use Rattle.plane.proofs.Arrays.{sum-same, product-same, product-positive}
 use Rattle.plane.specs.Good.{GoodConfig, GoodDst, GoodMove, GoodSub}
 use Rattle.plane.proofs.Good.{move-clear}
 use Rattle.plane.proofs.Staying.{staying-sum}
@@ -89,7 +88,7 @@ module _ {t : Tensor} {s : SubConfig} {srcLen : ℕ} (g : GoodSub t s srcLen) wh
       let heads = product-same (suc i) (shapeAt (subOf t s)) sizes (λ j l. sub-shape g j (omega arith)) ∙ staying-heads (at (s .size)) (excess t s) (t .rank) i (rw (sub-count g) h) in
       let all = product-same (s .rank) (shapeAt (subOf t s)) sizes (sub-shape g) ∙ ap (λ (m : ℕ). product m sizes) (sym (sub-count g)) ∙ staying-product (at (s .size)) (excess t s) (t .rank) in
       eq-of-mul-eq-mul-left (product (suc d) (at (s .size)))
-      (product-grows (suc d) 0 (at (s .size)) (λ j q. g .size j (omega (arith, subDim-below g i h)) .0) (omega arith)) (ours i) (theirs d)
+      (product-positive (suc d) (at (s .size)) (λ j q. g .size j (omega (arith, subDim-below g i h)) .0)) (ours i) (theirs d)
       (ap (λ (y : ℕ). y * ours i) (sym heads) ∙
       boxed-stride copy-boxed few-stay (cut-zero (s .rank) few-stay) i h ∙
       all ∙

@@ -3,7 +3,7 @@ use Prim.Native.Nat.{_-_}
 use native.Mathlib.Omega.{arith}
 use borrow.Author.Needs.{needs}
 use Rattle.plane.specs.Arrays.{at}
-use Rattle.mover.proofs.Making.{Multiplied, multiplied-start, multiplied-more, multiplied-fits, multiplied-end}
+use Rattle.plane.proofs.Products.{Multiplied, multiplied-start, multiplied-more, multiplied-fits, multiplied-end}
 use Rattle.mover.proofs.plan.total.Statement.{statement}
 use Rattle.mover.proofs.plan.total.Tie as tie
 

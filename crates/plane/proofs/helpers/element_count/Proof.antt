@@ -1,15 +1,13 @@
 -- `plane::helpers::element_count` meets its contract. Assumes nothing.
-use mathlib.Core.Path.{sym, ap, _∙_}
+use mathlib.Core.Path.{sym, _∙_}
 use native.Mathlib.Omega.{arith}
 use borrow.Author.Needs.{needs}
 use borrow.Author.Tests.{le-leb, lt-leb}
-use Rattle.faults.specs.declared.Fault.{Fault}
-use Rattle.plane.specs.Helpers.{elements, countFault, countAnswer, countOf}
-use Rattle.plane.specs.Private.{productOf}
+use Rattle.plane.specs.Helpers.{elements, countFault}
 use Rattle.faults.proofs.Bools.{in-range}
-use Rattle.faults.proofs.Faults.{status, given, spared, passed, stopped}
-use Rattle.plane.proofs.Rules.{shape-box}
-use Rattle.plane.proofs.Counting.{counts-refused}
+use Rattle.faults.proofs.Faults.{status, or-zero, when-zero, when-bad, given, spared, passed, stopped}
+use Rattle.plane.proofs.Good.{shapes-good}
+use Rattle.plane.proofs.Counting.{counts-refused, counts-given}
 use Rattle.plane.proofs.helpers.element_count.Statement.{statement}
 use Rattle.plane.proofs.helpers.element_count.Tie as tie
 
@@ -38,7 +36,7 @@ returns-3 c =
     let i = f .before .before in
     counts-refused _ _
     (spared 1 0 _ _ (sym (i .before .rank-is-bad .ensures) ∙ i .if1 .left) ∙ passed _ (f .shape-fault .ensures) (c .before .before .if2 .left) ∙
-    given 16 0 _ _ (omega arith) (le-leb _ _ (c .before .if3 .taken)))
+    when-bad 16 0 _ (le-leb _ _ (c .before .if3 .taken)))
     (λ z. omega arith) (c .refused3 .ensures)
 
 product-from-requires : tie.Need-product-from-requires
@@ -48,19 +46,18 @@ product-from-requires c κs =
     let t = i .before .before .args .t in (
       in-range _ 1 4 (sym (i .before .rank-is-bad .ensures) ∙ i .if1 .left) .1,
       c .if3 .left,
-      λ d h. shape-box t (sym (status (f .shape-fault .ensures)) ∙ c .before .if2 .left) d h .0,
+      λ d h. shapes-good t (sym (status (f .shape-fault .ensures)) ∙ c .before .if2 .left) d h .1,
     )
 
 returns-4 : tie.Need-returns-4
-unfolding countFault countOf productOf elements
+unfolding countFault elements
 returns-4 c =
     let f = c .before .before .before .before in
     let i = f .before .before in
-    let a = i .before .before .args in
-    c .product-from .ensures ∙
-    sym (ap (λ (x : Fault). countAnswer x (elements (a .t) (a .start)))
-    (spared 1 0 _ _ (sym (i .before .rank-is-bad .ensures) ∙ i .if1 .left) ∙ passed _ (f .shape-fault .ensures) (c .before .before .if2 .left) ∙
-    spared 16 0 _ _ (lt-leb _ _ (c .before .if3 .left))))
+    counts-given _ _
+    (or-zero _ _ (when-zero 1 0 _ (sym (i .before .rank-is-bad .ensures) ∙ i .if1 .left))
+    (or-zero _ _ (sym (status (f .shape-fault .ensures)) ∙ c .before .before .if2 .left) (when-zero 16 0 _ (lt-leb _ _ (c .before .if3 .left)))))
+    (c .product-from .ensures)
 
 pub element-count-spec : {M : Type 1} → statement M
 element-count-spec =
