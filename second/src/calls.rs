@@ -92,7 +92,7 @@ const ROOM: Gives = Gives::First(&[0, 1, 2, 3, 4, 6, 7, 8, 9, 10, 11, 12]);
 const MOVE: Gives = Gives::First(&[0, 1, 2, 3, 4, 5, 6, 7, 8, 9, 10, 11, 12, 13]);
 /// "Sub-tensor: 1 to 5, 7, 8, 14, 15."
 const SUB_TENSOR: Gives = Gives::First(&[0, 1, 2, 3, 4, 5, 7, 8, 14, 15]);
-/// "Count: 1, 3, 16, 29." 29 can't be provoked: four shapes of at most 65,535 have a product below 2^64.
+/// "count is then 1, 3, 16"
 const COUNT: Gives = Gives::First(&[0, 1, 3, 16]);
 /// "1 with all fields 0 answers a wrong one"
 const MADE: Gives = Gives::First(&[0, 1]);

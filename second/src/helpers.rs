@@ -35,7 +35,7 @@ pub fn element_count(tensor: &Tensor, start: u32) -> Count {
     }
 }
 
-/// "Count: 1, 3, 16, 29." Every shape below the rank is looked at, also those before the start.
+/// "count is then 1, 3, 16". Every shape below the rank is looked at, also those before the start.
 fn count_from(tensor: &Tensor, start: u32) -> Result<u64, Fault> {
     let rank = check_rank(tensor.rank)?;
     check_shapes(tensor, rank)?;
@@ -43,15 +43,14 @@ fn count_from(tensor: &Tensor, start: u32) -> Result<u64, Fault> {
     if start as u64 >= rank as u64 {
         return refuse(16, 0);
     }
-    let mut count: u64 = 1;
-    for d in start as usize..rank {
-        // 29: "count doesn't fit 64 bits"
-        match count.checked_mul(tensor.shape[d] as u64) {
-            Some(product) => count = product,
-            None => return refuse(29, 0),
-        }
-    }
-    Ok(count)
+    Ok(product(&tensor.shape[start as usize..rank]))
+}
+
+/// "Four shapes of 65,535 multiply to 18,445,618,199,572,250,625, which fits." A product that did not fit would stop
+/// the program.
+pub fn product(shapes: &[u32]) -> u64 {
+    let product: u128 = shapes.iter().map(|&shape| shape as u128).product();
+    u64::try_from(product).unwrap_or_else(|_| panic!("the product of {shapes:?} does not fit 64 bits"))
 }
 
 /// The call `sub_tensor`: the record of the sub-tensor and its byte offset.
