@@ -1,8 +1,9 @@
 //! What a long comparison has to meet: each call with everything that it can give and with arguments of a wrong length,
-//! each state of a slot in each call that takes a table, each case of a destination offset, of a list and of elements
-//! that are moved, each reason for which a line is no call, and each number of `rmvshow` and `rmvlist`.
+//! each state of a slot in each call that takes a table, each case of a count, of a destination offset, of a list and
+//! of elements that are moved, each reason for which a line is no call, and each number of `rmvshow` and `rmvlist`.
 
 use crate::calls::{Call, Calls, Gives};
+use crate::count_cases;
 use crate::lines::{unhex, NO_CALL, NO_DIGITS, NO_NEWLINE, TOO_LONG, WRONG_LENGTH};
 use crate::list_cases;
 use crate::offset_cases;
@@ -152,13 +153,13 @@ fn cases(calls: &Calls, call: &Call) -> Vec<String> {
 
 /// What the numbers alone do not tell apart.
 fn cases_told_apart(call: &Call) -> Vec<String> {
-    let number = call.number;
-    [offset_cases::cases(number), list_cases::cases(number), stretch_cases::cases(number)].concat()
+    let cases = [count_cases::cases, offset_cases::cases, list_cases::cases, stretch_cases::cases];
+    cases.iter().flat_map(|cases| cases(call.number)).collect()
 }
 
 /// Those of them that a call with these bytes is.
 fn cases_met(bytes: &[u8], expected: &[u8]) -> Vec<String> {
-    let met = [offset_cases::met, list_cases::met, stretch_cases::met];
+    let met = [count_cases::met, offset_cases::met, list_cases::met, stretch_cases::met];
     met.iter().flat_map(|met| met(bytes, expected)).collect()
 }
 

@@ -5,6 +5,7 @@
 
 mod calls;
 mod compare;
+mod count_cases;
 mod coverage;
 mod generate;
 mod helpers;

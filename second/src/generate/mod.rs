@@ -63,7 +63,7 @@ const KINDS: &[Kind] = &[
     (2, numbers::rank_is_bad),
     (2, numbers::zero),
     (2, numbers::answer_refused),
-    (16, numbers::element_count),
+    (10, numbers::element_count),
     (22, numbers::sub_tensor),
     (18, numbers::ready_made),
     (10, numbers::settings),

@@ -8,7 +8,7 @@ use super::Work;
 use crate::helpers::SubConfig;
 use crate::job::Part;
 use crate::random::Random;
-use crate::tensor::{source_of as source_of_tensor, Fault, Tensor};
+use crate::tensor::{source_of as source_of_tensor, Fault, Tensor, EXTENT_LIMIT};
 use crate::wire::Rest;
 
 /// A move at any scale, spoiled or not.
@@ -73,24 +73,43 @@ pub fn answer_refused(work: &mut Work) {
     work.call(0x0a, &fault);
 }
 
+/// A record counted from each of its dimensions, from just behind them, and from farther off.
 pub fn element_count(work: &mut Work) {
-    let random = &mut work.random;
-    let mut tensor = draw_tensor(random);
-    // Neither the element size nor a stride is looked at, and the largest product of all just fits 64 bits.
-    match random.below(8) {
-        0 => tensor.element_size = any_u8(random),
-        1 => tensor.stride = any_u32s(random),
-        2 => tensor.shape = [65_535; 4],
-        3..=4 => tensor.shape[random.index(4)] = random.pick(&[0, 65_536]),
-        _ => {}
+    let tensor = draw_counted(&mut work.random);
+    for start in 0..=tensor.rank.min(4) {
+        work.call(0x05, &(tensor, start as u32));
     }
-    let start = match random.below(10) {
-        0..=5 => random.below(tensor.rank as u64) as u32,
-        6..=7 => tensor.rank as u32,
-        8 => 256 + random.below(4) as u32,
-        _ => any_u32(random),
-    };
+    let random = &mut work.random;
+    let rank = tensor.rank as u32;
+    // A dimension again in 8 bits.
+    let wraps = random.pick(&[256, 65_536, 1 << 31]) + random.below(rank as u64) as u32;
+    let any = any_u32(random);
+    let start = random.pick(&[rank + 1, wraps, wraps, u32::MAX, any]);
     work.call(0x05, &(tensor, start));
+}
+
+/// Shapes at their limits or between them, now and then a bad one, and a bad rank. Past the rank stands what 3 would
+/// refuse.
+fn draw_counted(random: &mut Random) -> Tensor {
+    if random.chance(20) {
+        return draw_tensor(random);
+    }
+    let rank = random.pick(&[1, 2, 3, 4, 4]);
+    let past = random.pick(&[0, 65_536, u32::MAX]);
+    let mut tensor = Tensor { rank, shape: [past; 4], ..any_tensor(random) };
+    // Four shapes of 60,000 have a product above 2^63.
+    let least = random.pick(&[1, 1, 60_000, EXTENT_LIMIT, EXTENT_LIMIT]);
+    for d in 0..rank as usize {
+        let any = random.between(least, EXTENT_LIMIT);
+        tensor.shape[d] = random.pick(&[least, EXTENT_LIMIT, any]) as u32;
+    }
+    for _ in 0..random.pick(&[0, 0, 0, 0, 0, 1, 1, 2]) {
+        tensor.shape[random.index(rank as usize)] = random.pick(&[0, 65_536]);
+    }
+    if random.chance(15) {
+        tensor.rank = random.pick(&[0, 0, 5, 6, 255]);
+    }
+    tensor
 }
 
 /// The calls of a sub-tensor: the numbers, and those over a source if it is short enough to be lent.

@@ -48,6 +48,7 @@ fn what_was_not_met_is_named() {
         "00 version: made",
         "02 room: 12",
         "03 judge: 12 too large at 0",
+        "05 element_count: the most",
         "20 move_plane: 12 past the row at 3",
         "20 move_plane: 4-byte row thinned",
         "22 advance: past the end of a slab",
@@ -86,6 +87,8 @@ fn a_number_that_a_call_can_not_give_is_named() {
     // "never gives 5 or 13"
     coverage.call(&calls, b"02", &[0x02, 5]);
     coverage.call(&calls, b"0403", &[0x04, 3]);
+    // The element size is not looked at.
+    coverage.call(&calls, b"05", &[0x05, 2]);
     coverage.call(&calls, b"30", &[0xff, 4]);
     coverage.call(&calls, b"350000000000000000", &[0x35, 0, 0, 0, 0, 0, 0, 0, 0]);
     // A record of a list always has its 131 bytes.
@@ -96,6 +99,7 @@ fn a_number_that_a_call_can_not_give_is_named() {
     let unlisted = [
         "02 room: 5",
         "04 element_size: 3",
+        "05 element_count: 2",
         "30 record::read: ff04",
         "34 record_at: 25",
         "rmvlist: record 25",

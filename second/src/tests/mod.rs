@@ -1,5 +1,6 @@
 //! The examples of the paper and how it is read, with values typed in from the paper or worked out by hand.
 
+mod counts;
 mod coverage;
 mod errors;
 mod examples;

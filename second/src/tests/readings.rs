@@ -1,8 +1,8 @@
-//! How the paper is read where it is silent: widths, orders, and what a refused call hands back. Transfers, records and
-//! `rmvshow` have files of their own.
+//! How the paper is read where it is silent: widths, orders, and what a refused call hands back. Counts, transfers,
+//! records and `rmvshow` have files of their own.
 
 use super::{default, four, plane, refused};
-use crate::helpers::{element_count, element_size, sub_part, sub_tensor, SubConfig, SubTensor};
+use crate::helpers::{element_size, sub_part, sub_tensor, SubConfig, SubTensor};
 use crate::moves::{judge, room, Config, Room};
 use crate::ready_made::{all, concatenate, copy, pad_chw, pad_hwc, permute, slice, subsample, Made};
 use crate::tensor::{source_of, Source, Tensor};
@@ -82,17 +82,6 @@ fn units_are_counted_by_size() {
     assert_eq!(at(&[1, 1, 2], 0).status, 14);
     assert_eq!(at(&[1, 1, 2], 4).status, 14);
     assert_eq!((at(&[1, 0, 2], 1).status, at(&[1, 0, 2], 1).dimension), (8, 1));
-}
-
-#[test]
-fn a_count_checks_every_shape() {
-    let refusal = element_count(&plane(&[0, 4, 65_536]), 1);
-    assert_eq!((refusal.status, refusal.dimension, refusal.count), (3, 0, 0));
-    let odd = Tensor { element_size: 3, stride: [1, u32::MAX, 1, 0], ..plane(&[2, 4, 8]) };
-    assert_eq!(element_count(&odd, 2).count, 8);
-    assert_eq!(element_count(&odd, 3).status, 16);
-    assert_eq!(element_count(&odd, u32::MAX).status, 16);
-    assert_eq!(element_count(&plane(&[65_535; 4]), 0).count, 18_445_618_199_572_250_625);
 }
 
 #[test]
