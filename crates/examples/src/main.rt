@@ -176,10 +176,12 @@ fn sub() {
     run(b"K", tensor, copy_of(1), part, &mut [0u8; 2]);
 }
 
-// Run only: the count of (2,4,8) from 1; sizes 65,280 and 65,281 with 255 zeros before.
+// Run only: the count of (2,4,8) from 1, and the most that a count can be; sizes 65,280 and 65,281 with 255 zeros before.
 fn run_only() {
     let n = plane::element_count(compact(3, 1, [2, 4, 8, 0]), 1);
+    let most = plane::element_count(compact(4, 1, [65535; 4]), 0);
     print(b"count", n.count);
+    print(b"", most.count);
     end_line();
     let t = compact(1, 1, [65535, 0, 0, 0]);
     let c = copy_of(1).with_pre([255, 0, 0, 0]);

@@ -139,6 +139,10 @@ two a b = a ∷ b ∷ 9 ∷ 9 ∷ []
 abbrev pub three : ℕ → ℕ → ℕ → List ℕ
 three a b c = a ∷ b ∷ c ∷ 9 ∷ []
 
+-- four entries, all the same
+abbrev pub alike : ℕ → List ℕ
+alike a = a ∷ a ∷ a ∷ a ∷ []
+
 -- a plane with all strides 0: rank, element size, shape
 abbrev pub compact : ℕ → ℕ → List ℕ → Tensor
 compact n size shape = record { rank = n; «element_size» = size; shape = shape; stride = zeros }
@@ -278,6 +282,12 @@ table =
     -- the count of (2,4,8) from 1 is 32; from 3: 16
     besides shows count (compact 3 1 (three 2 4 8)) 1 (record { status = 0; dim = 0; count = 32 }) ∷
     besides shows count (compact 3 1 (three 2 4 8)) 3 (noCount (fault 16 0)) ∷
+    -- the most that a count can be is four shapes of 65,535, from 0; from 1 it is their third power. Four shapes of 65,536 would
+    -- make 2^64, which 64 bits do not hold, but they are 3 at dimension 0; and 3 comes before 16
+    besides shows count (compact 4 1 (alike 65535)) 0 (record { status = 0; dim = 0; count = 18445618199572250625 }) ∷
+    besides shows count (compact 4 1 (alike 65535)) 1 (record { status = 0; dim = 0; count = 281462092005375 }) ∷
+    besides shows count (compact 4 1 (alike 65536)) 0 (noCount (fault 3 0)) ∷
+    besides shows count (compact 2 1 (two 2 0)) 2 (noCount (fault 3 1)) ∷
     -- size 65,280 with pre 255 is accepted, 65,281 gives 10
     besides shows room (compact 1 1 (one 65535)) (withPre (withSize defaults (one 65280)) (one 255))
     (record { answer = acceptedMove 1 1 (65535 ∷ 0 ∷ 0 ∷ 0 ∷ []) (1 ∷ 0 ∷ 0 ∷ 0 ∷ []) 65535; span = 65535 }) ∷

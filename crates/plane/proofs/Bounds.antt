@@ -1,4 +1,4 @@
--- All sums and products of what is accepted fit 64 bits: inner products, spans, needs, and the elements of a destination.
+-- All sums and products of what is accepted fit 64 bits: inner products, spans, needs, the elements of a destination, and counts.
 -- Assumes nothing.
 use Prim.Native.Nat.{ℕ, zero, suc, _+_, _-_, _*_, _^_, _≤_, _<_}
 use native.Mathlib.Nat.{mul-le-mul, suc-mul, pow-suc, not-suc-le-zero, le-of-suc-le-suc}

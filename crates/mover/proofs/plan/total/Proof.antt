@@ -1,6 +1,7 @@
 -- `mover::plan::total` multiplies the extents. Assumes nothing.
 use Prim.Native.Nat.{_-_}
 use native.Mathlib.Omega.{arith}
+use mathlib.Core.Path.{refl}
 use borrow.Author.Needs.{needs}
 use Rattle.plane.specs.Arrays.{at}
 use Rattle.plane.proofs.Products.{Multiplied, multiplied-start, multiplied-more, multiplied-fits, multiplied-end}
@@ -16,10 +17,10 @@ abbrev μ-loop : tie.MeasureT-loop
 mul-product-2 : tie.Need-mul-product-2 Inv-loop μ-loop
 mul-product-2 c =
     let l = c .before .before in
-    omega (arith, multiplied-fits (l .loop .inv) (l .before .pre .0) (l .before .pre .1) (c .before .loop-test .taken))
+    omega (arith, multiplied-fits (l .loop .inv) (c .before .loop-test .taken) refl (l .before .pre .0) (l .before .pre .1))
 
 loop-again : tie.Need-loop-again Inv-loop μ-loop
-loop-again c = multiplied-more (c .before .before .loop .inv) (c .before .loop-test .taken)
+loop-again c = multiplied-more (c .before .before .loop .inv) (c .before .loop-test .taken) refl
 
 pub total-spec : {M : Type 1} → statement M
 total-spec =
