@@ -123,8 +123,8 @@ count-most t start =
     let f = countFault t start in
     elim (ℕ-discrete (f .status) 0) [
       | yes z ↦
-        let p = or-clear _ _ z in
-        rw (count-given f (elements t start) z)
-        (elements-most t start (in-range (t .rank) 1 4 (when-clear 1 0 _ (omega arith) (p .0))) (shapes-good t (or-clear _ _ (p .1) .0)))
+          let p = or-clear _ _ z in
+          rw (count-given f (elements t start) z)
+          (elements-most t start (in-range (t .rank) 1 4 (when-clear 1 0 _ (omega arith) (p .0))) (shapes-good t (or-clear _ _ (p .1) .0)))
       | no z ↦ rw (count-refused f (elements t start) z) (omega arith)
     ]
