@@ -9,7 +9,6 @@ use mathlib.Core.Bool.{Bool, true, false, _||_}
 use mathlib.Core.Logic.{⊎-elim}
 use borrow.Author.Tests.{eqb-true}
 use lib.Dec.{eqb}
-use Rattle.plane.specs.declared.Tensor.{Tensor}
 use Rattle.plane.specs.Arrays.{at, sum, product, or0}
 use Rattle.plane.specs.Planes.{elementSize, shapeAt, strideAt, inner, resolved, srcStrides, span}
 use Rattle.plane.specs.Moves.{dstExtents, dstStrides, need}
@@ -17,11 +16,10 @@ use Rattle.plane.specs.Helpers.{elements, countFault, countOf}
 use Rattle.faults.proofs.Bools.{either-cases, in-range}
 use Rattle.faults.proofs.Faults.{or-clear, when-clear}
 use Rattle.plane.proofs.Arrays.{firsts-at, product-same}
-use Rattle.plane.specs.Claims.{InnerFits, SpanFits, NeedFits, ExtentsFit, mostElements, CountFits, CountMost}
-use Rattle.plane.specs.Good.{FromTo}
+use Rattle.plane.specs.Claims.{InnerFits, SpanFits, NeedFits, ExtentsFit, mostCount, CountFits, CountBounded}
 use Rattle.plane.proofs.Good.{shapes-good}
 use Rattle.plane.proofs.Rules.{dst-extent}
-use Rattle.plane.proofs.Counting.{count-refused, count-given}
+use Rattle.plane.proofs.CountAnswers.{count-answer-refused, count-answer-given}
 
 pub sum-most : (n : ℕ) (f : ℕ → ℕ) (m : ℕ) → ((d : ℕ) → d < n → f d ≤ m) → sum n f ≤ n * m
 unfolding sum
@@ -31,16 +29,16 @@ sum-most (suc n) f m h =
     let v = h n (omega arith) in
     rw (suc-mul n m) (omega arith)
 
-product-most : (n : ℕ) (f : ℕ → ℕ) → ((d : ℕ) → d < n → f d ≤ 65535) → product n f ≤ 65535 ^ n
+product-power : (n : ℕ) (f : ℕ → ℕ) → ((d : ℕ) → d < n → f d ≤ 65535) → product n f ≤ 65535 ^ n
 unfolding product
-product-most zero f h = omega arith
-product-most (suc n) f h = rw (pow-suc 65535 n) (mul-le-mul (product-most n f (λ d q. h d (omega arith))) (h n (omega arith)))
+product-power zero f h = omega arith
+product-power (suc n) f h = rw (pow-suc 65535 n) (mul-le-mul (product-power n f (λ d q. h d (omega arith))) (h n (omega arith)))
 
 -- four factors of at most 65,535
-pub product-fits : (n : ℕ) (f : ℕ → ℕ) → n ≤ 4 → ((d : ℕ) → d < n → f d ≤ 65535) → product n f ≤ mostElements
-product-fits n f l h = let w = product-most n f h in let v = powers n l in omega arith
+pub product-most : (n : ℕ) (f : ℕ → ℕ) → n ≤ 4 → ((d : ℕ) → d < n → f d ≤ 65535) → product n f ≤ mostCount
+product-most n f l h = let w = product-power n f h in let v = powers n l in omega arith
   where
-    powers : (n : ℕ) → n ≤ 4 → 65535 ^ n ≤ mostElements
+    powers : (n : ℕ) → n ≤ 4 → 65535 ^ n ≤ mostCount
     powers zero l = omega arith
     powers (suc zero) l = omega arith
     powers (suc (suc zero)) l = omega arith
@@ -101,30 +99,26 @@ need-fits t c g k p =
 -- how many elements a destination has
 pub extents-fit : ExtentsFit
 extents-fit t c g k =
-    let w = product-fits (t .rank) (at (dstExtents t c)) (g .rank .1) (λ i h. dst-extent k i (g .rank .1) h .1) in omega arith
+    let w = product-most (t .rank) (at (dstExtents t c)) (g .rank .1) (λ i h. dst-extent k i (g .rank .1) h .1) in omega arith
 
 -- ---- counts
 
-elements-most : (t : Tensor) (start : ℕ) → FromTo 1 4 (t .rank) → ((d : ℕ) → d < t .rank → FromTo 1 65535 (shapeAt t d)) → elements t start ≤ mostElements
-unfolding elements
-elements-most t start r s = product-fits (t .rank - start) _ (omega (arith, r .1)) (λ k h. s (start + k) (omega arith) .1)
-
--- four shapes of 65,535 meet it
-elements-met : (t : Tensor) → t .rank ≡ 4 → ((d : ℕ) → d < 4 → shapeAt t d ≡ 65535) → elements t 0 ≡ mostElements
-unfolding elements product
-elements-met t r s = rw r (product-same 4 _ (λ _. 65535) (λ k h. s (0 + k) (omega arith)))
-
 pub count-fits : CountFits
-count-fits = record { most = elements-most; fits = omega arith; met = elements-met }
+unfolding elements product
+count-fits = record {
+  most = λ t start r s. product-most (t .rank - start) _ (omega (arith, r .1)) (λ k h. s (start + k) (omega arith) .1);
+  fits = omega arith;
+  met = λ t r s. rw r (product-same 4 _ (λ _. 65535) (λ k h. s (0 + k) (omega arith)));
+}
 
-pub count-most : CountMost
+pub count-bounded : CountBounded
 unfolding countOf countFault
-count-most t start =
+count-bounded t start =
     let f = countFault t start in
     elim (ℕ-discrete (f .status) 0) [
       | yes z ↦
           let p = or-clear _ _ z in
-          rw (count-given f (elements t start) z)
-          (elements-most t start (in-range (t .rank) 1 4 (when-clear 1 0 _ (omega arith) (p .0))) (shapes-good t (or-clear _ _ (p .1) .0)))
-      | no z ↦ rw (count-refused f (elements t start) z) (omega arith)
+          rw (count-answer-given f (elements t start) z)
+          (count-fits .most t start (in-range (t .rank) 1 4 (when-clear 1 0 _ (omega arith) (p .0))) (shapes-good t (or-clear _ _ (p .1) .0)))
+      | no z ↦ rw (count-answer-refused f (elements t start) z) (omega arith)
     ]

@@ -25,7 +25,7 @@ use Rattle.plane.specs.Orders.{sourceRules, configRules, dstRules, moveR
 use Rattle.plane.specs.Claims.{SourceExact, SourceZeros, JudgeExact, JudgeZeros, RoomExact, RoomZeros, RoomNever, RoomIsJudge, CountExact, CountZeros, SubExact, SubZeros}
 use Rattle.faults.proofs.Faults.{status, or-path, or-none, or-found, or-assoc, spared, when-zero, if-fault, if-none}
 use Rattle.plane.proofs.Rules.{answer-refused, answer-given, answer-status}
-use Rattle.plane.proofs.Counting.{count-refused, count-given}
+use Rattle.plane.proofs.CountAnswers.{count-answer-refused, count-answer-given}
 use Rattle.plane.proofs.SubAnswers.{sub-status}
 use Rattle.faults.proofs.Chains.{Positive, chain, exact, exact-fault, never-given, or-last, whole-is, join, one-chain}
 
@@ -96,15 +96,15 @@ zeros-besides t c f h =
 
 count-status : (f : Fault) (x : ℕ) → countAnswer f x .status ≡ f .status
 count-status f x = elim (ℕ-discrete (f .status) 0) [
-  | yes z ↦ ap (λ (c : Count). c .status) (count-given f x z) ∙ sym z
-  | no z ↦ ap (λ (c : Count). c .status) (count-refused f x z)
+  | yes z ↦ ap (λ (c : Count). c .status) (count-answer-given f x z) ∙ sym z
+  | no z ↦ ap (λ (c : Count). c .status) (count-answer-refused f x z)
 ]
 
 count-dim : (f : Fault) (x : ℕ) → (f .status ≡ 0 → ⊥) → countAnswer f x .dim ≡ f .dim
-count-dim f x z = ap (λ (c : Count). c .dim) (count-refused f x z)
+count-dim f x z = ap (λ (c : Count). c .dim) (count-answer-refused f x z)
 
 count-plain : (f : Fault) (x : ℕ) → f .status ≡ 0 → countAnswer f x .dim ≡ 0
-count-plain f x z = ap (λ (c : Count). c .dim) (count-given f x z)
+count-plain f x z = ap (λ (c : Count). c .dim) (count-answer-given f x z)
 
 sub-plain : (f : Fault) (t : Tensor) (x : ℕ) → f .status ≡ 0 → subAnswer f t x .dim ≡ 0
 unfolding subAnswer
@@ -185,7 +185,7 @@ pub count-zeros : CountZeros
 unfolding countOf
 count-zeros t start h =
     let f = countFault t start in
-    let e = count-refused f (elements t start) (λ z. h (count-status f (elements t start) ∙ z)) in
+    let e = count-answer-refused f (elements t start) (λ z. h (count-status f (elements t start) ∙ z)) in
     e ∙ ap (λ (x : Count). noCount (fault (x .status) (x .dim))) (sym e)
 
 pub sub-exact : SubExact

@@ -61,6 +61,7 @@ module _ (extent stride offset : ℕ → ℕ) where
 -- ---- 1 to 4
 
 module _ (t : Tensor) where
+  -- 3 by itself, which a count asks too
   pub shapes-good : lowest 3 (t .rank) (λ d. badShape (shapeAt t d)) .status ≡ 0 → (d : ℕ) → d < t .rank → FromTo 1 65535 (shapeAt t d)
   shapes-good z d h = in-range (shapeAt t d) 1 65535 (lowest-clear 3 (t .rank) (λ d. badShape (shapeAt t d)) d (omega arith) z h)
 

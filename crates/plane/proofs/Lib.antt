@@ -11,7 +11,7 @@ pub mod Arrays
 pub mod Resolving
 pub mod Falling
 pub mod Rules
-pub mod Counting
+pub mod CountAnswers
 pub mod Products
 pub mod Staying
 pub mod SubAnswers

@@ -4,7 +4,7 @@ use native.Mathlib.Numerals.{add-one}
 use native.Mathlib.Omega.{arith}
 use mathlib.Core.Path.{_≡_, refl, sym, ap, ap₂, subst, _∙_}
 use Rattle.plane.specs.Arrays.{product}
-use Rattle.plane.proofs.Bounds.{product-fits}
+use Rattle.plane.proofs.Bounds.{product-most}
 
 -- a loop that multiplies factors up to n
 pub record Multiplied (n : ℕ) (f : ℕ → ℕ) (total i : ℕ) : Type 0 where
@@ -27,7 +27,7 @@ module _ {n : ℕ} {f : ℕ → ℕ} where
     pub multiplied-fits : n ≤ 4 → ((k : ℕ) → k < n → f k ≤ 65535) → total * v < 2 ^ 64
     multiplied-fits l b =
         let p = next in
-        let w = product-fits (i + 1) f (omega arith) (λ k q. b k (omega arith)) in
+        let w = product-most (i + 1) f (omega arith) (λ k q. b k (omega arith)) in
         omega arith
 
   pub multiplied-end : {total i : ℕ} → Multiplied n f total i → n ≤ i → total ≡ product n f
@@ -39,13 +39,13 @@ module _ {n : ℕ} {f : ℕ → ℕ} where
 -- the same from start on, where the loop stands at d
 pub record MultipliedFrom (start n : ℕ) (f : ℕ → ℕ) (total d : ℕ) : Type 0 where
   pub past : start ≤ d
-  pub rest : Multiplied (n - start) (λ k. f (start + k)) total (d - start)
+  pub sofar : Multiplied (n - start) (λ k. f (start + k)) total (d - start)
 
 module _ {start n : ℕ} {f : ℕ → ℕ} where
   pub from-start : MultipliedFrom start n f 1 start
   from-start = let e : 0 ≡ start - start = omega arith in record {
     past = omega arith;
-    rest = subst (λ (i : ℕ). Multiplied (n - start) (λ k. f (start + k)) 1 i) e multiplied-start;
+    sofar = subst (λ (i : ℕ). Multiplied (n - start) (λ k. f (start + k)) 1 i) e multiplied-start;
   }
 
   module _ {total d : ℕ} (m : MultipliedFrom start n f total d) (h : d < n) where
@@ -55,13 +55,13 @@ module _ {start n : ℕ} {f : ℕ → ℕ} where
     pub from-more : MultipliedFrom start n f (total * f d) (d + 1)
     from-more = let p = m .past in let e : d - start + 1 ≡ d + 1 - start = omega arith in record {
       past = omega arith;
-      rest = subst (λ (i : ℕ). Multiplied (n - start) (λ k. f (start + k)) (total * f d) i) e (multiplied-more (m .rest) (omega arith) factor);
+      sofar = subst (λ (i : ℕ). Multiplied (n - start) (λ k. f (start + k)) (total * f d) i) e (multiplied-more (m .sofar) (omega arith) factor);
     }
 
     pub from-fits : n ≤ 4 → ((k : ℕ) → k < n → f k ≤ 65535) → total * f d < 2 ^ 64
     from-fits l b =
         let p = m .past in
-        multiplied-fits (m .rest) (omega arith) factor (omega arith) (λ k q. b (start + k) (omega arith))
+        multiplied-fits (m .sofar) (omega arith) factor (omega arith) (λ k q. b (start + k) (omega arith))
 
   pub from-end : {total d : ℕ} → MultipliedFrom start n f total d → n ≤ d → total ≡ product (n - start) (λ k. f (start + k))
-  from-end m h = let p = m .past in multiplied-end (m .rest) (omega arith)
+  from-end m h = let p = m .past in multiplied-end (m .sofar) (omega arith)

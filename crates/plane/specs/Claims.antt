@@ -110,21 +110,21 @@ NeedFits = (t : Tensor) (c : Config) → GoodSource t → GoodConfig t c → Goo
 abbrev pub ExtentsFit : Type 0
 ExtentsFit = (t : Tensor) (c : Config) → GoodSource t → GoodConfig t c → product (t .rank) (at (dstExtents t c)) < 2 ^ 64
 
--- the most elements that a plane can have
-abbrev pub mostElements : ℕ
-mostElements = 18445618199572250625
+-- 65,535 to the fourth
+abbrev pub mostCount : ℕ
+mostCount = 18445618199572250625
 
--- a count: where rank and shapes are in range, the product of the shapes from any dimension on is at most that, which 64 bits hold, and
+-- a count: where rank and shapes are in range, the product of the shapes from any dimension on is at most that, which is below 2^64;
 -- four shapes of 65,535 meet it
 pub record CountFits : Type 0 where
   pub most : (t : Tensor) (start : ℕ) → FromTo 1 4 (t .rank) → ((d : ℕ) → d < t .rank → FromTo 1 65535 (shapeAt t d)) →
-      elements t start ≤ mostElements
-  pub fits : mostElements < 2 ^ 64
-  pub met : (t : Tensor) → t .rank ≡ 4 → ((d : ℕ) → d < 4 → shapeAt t d ≡ 65535) → elements t 0 ≡ mostElements
+      elements t start ≤ mostCount
+  pub fits : mostCount < 2 ^ 64
+  pub met : (t : Tensor) → t .rank ≡ 4 → ((d : ℕ) → d < 4 → shapeAt t d ≡ 65535) → elements t 0 ≡ mostCount
 
 -- so no answer is above it, whatever was asked
-abbrev pub CountMost : Type 0
-CountMost = (t : Tensor) (start : ℕ) → countOf t start .count ≤ mostElements
+abbrev pub CountBounded : Type 0
+CountBounded = (t : Tensor) (start : ℕ) → countOf t start .count ≤ mostCount
 
 -- ---- Sub-tensors
 

@@ -33,7 +33,7 @@ fn refused(f: Fault) -> Count
 
 // The product of the shapes from a start dimension on. 64 bits hold it: there are four at most, of 65,535 at most.
 fn product_from(n: u8, shape: [u32; 4], start: u8) -> u64
-    requires { ⌜ (n ≤ 4) × (start < n) × ((d : ℕ) → d < n → at shape d ≤ 65535) ⌝ }
+    requires { ⌜ (n ≤ 4) × ((d : ℕ) → d < n → at shape d ≤ 65535) ⌝ }
     ensures { λ r. ⌜ r ≡ product (n - start) (λ k. at shape (start + k)) ⌝ }
 {
     let mut count: u64 = 1;

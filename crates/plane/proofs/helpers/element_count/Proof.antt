@@ -7,14 +7,14 @@ use Rattle.plane.specs.Helpers.{elements, countFault}
 use Rattle.faults.proofs.Bools.{in-range}
 use Rattle.faults.proofs.Faults.{status, or-zero, when-zero, when-bad, given, spared, passed, stopped}
 use Rattle.plane.proofs.Good.{shapes-good}
-use Rattle.plane.proofs.Counting.{counts-refused, counts-given}
+use Rattle.plane.proofs.CountAnswers.{count-refuses, count-accepts}
 use Rattle.plane.proofs.helpers.element_count.Statement.{statement}
 use Rattle.plane.proofs.helpers.element_count.Tie as tie
 
 returns : tie.Need-returns
 unfolding countFault
 returns c =
-    counts-refused _ _ (given 1 0 _ _ (omega arith) (sym (c .before .before .rank-is-bad .ensures) ∙ c .before .if1 .taken)) (λ z. omega arith)
+    count-refuses _ _ (given 1 0 _ _ (omega arith) (sym (c .before .before .rank-is-bad .ensures) ∙ c .before .if1 .taken)) (λ z. omega arith)
     (c .refused .ensures)
 
 shape-fault-requires : tie.Need-shape-fault-requires
@@ -25,7 +25,7 @@ unfolding countFault
 returns-2 c =
     let f = c .before .before .before in
     let i = f .before .before in
-    counts-refused _ _
+    count-refuses _ _
     (spared 1 0 _ _ (sym (i .before .rank-is-bad .ensures) ∙ i .if1 .left) ∙ stopped _ (f .shape-fault .ensures) (c .before .if2 .taken))
     (c .before .if2 .taken) (c .refused2 .ensures)
 
@@ -34,7 +34,7 @@ unfolding countFault
 returns-3 c =
     let f = c .before .before .before .before in
     let i = f .before .before in
-    counts-refused _ _
+    count-refuses _ _
     (spared 1 0 _ _ (sym (i .before .rank-is-bad .ensures) ∙ i .if1 .left) ∙ passed _ (f .shape-fault .ensures) (c .before .before .if2 .left) ∙
     when-bad 16 0 _ (le-leb _ _ (c .before .if3 .taken)))
     (λ z. omega arith) (c .refused3 .ensures)
@@ -45,7 +45,6 @@ product-from-requires c κs =
     let i = f .before .before in
     let t = i .before .before .args .t in (
       in-range _ 1 4 (sym (i .before .rank-is-bad .ensures) ∙ i .if1 .left) .1,
-      c .if3 .left,
       λ d h. shapes-good t (sym (status (f .shape-fault .ensures)) ∙ c .before .if2 .left) d h .1,
     )
 
@@ -54,7 +53,7 @@ unfolding countFault elements
 returns-4 c =
     let f = c .before .before .before .before in
     let i = f .before .before in
-    counts-given _ _
+    count-accepts _ _
     (or-zero _ _ (when-zero 1 0 _ (sym (i .before .rank-is-bad .ensures) ∙ i .if1 .left))
     (or-zero _ _ (sym (status (f .shape-fault .ensures)) ∙ c .before .before .if2 .left) (when-zero 16 0 _ (lt-leb _ _ (c .before .if3 .left)))))
     (c .product-from .ensures)

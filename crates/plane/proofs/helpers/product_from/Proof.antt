@@ -16,7 +16,7 @@ abbrev μ-loop : tie.MeasureT-loop
 mul-count : tie.Need-mul-count Inv-loop μ-loop
 mul-count c =
     let l = c .before in
-    omega (arith, from-fits (l .loop .inv) (c .loop-test .taken) (l .before .pre .0) (l .before .pre .2))
+    omega (arith, from-fits (l .loop .inv) (c .loop-test .taken) (l .before .pre .0) (l .before .pre .1))
 
 loop-again : tie.Need-loop-again Inv-loop μ-loop
 loop-again c = from-more (c .before .loop .inv) (c .loop-test .taken)
