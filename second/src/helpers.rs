@@ -43,14 +43,8 @@ fn count_from(tensor: &Tensor, start: u32) -> Result<u64, Fault> {
     if start as u64 >= rank as u64 {
         return refuse(16, 0);
     }
-    Ok(product(&tensor.shape[start as usize..rank]))
-}
-
-/// "Four shapes of 65,535 multiply to 18,445,618,199,572,250,625, which fits." A product that did not fit would stop
-/// the program.
-pub fn product(shapes: &[u32]) -> u64 {
-    let product: u128 = shapes.iter().map(|&shape| shape as u128).product();
-    u64::try_from(product).unwrap_or_else(|_| panic!("the product of {shapes:?} does not fit 64 bits"))
+    // "Four shapes of 65,535 multiply to 18,445,618,199,572,250,625, which fits."
+    Ok(tensor.shape[start as usize..rank].iter().map(|&shape| shape as u64).product())
 }
 
 /// The call `sub_tensor`: the record of the sub-tensor and its byte offset.

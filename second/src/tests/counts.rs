@@ -3,7 +3,7 @@
 use super::plane;
 use crate::calls::Calls;
 use crate::count_cases::{cases, met};
-use crate::helpers::{element_count, product, Count};
+use crate::helpers::{element_count, Count};
 use crate::tensor::Tensor;
 use crate::wire::bytes_of;
 
@@ -32,13 +32,6 @@ fn a_count_has_64_bits() {
     let beside = |shape: u32| element_count(&plane(&[shape, 65_535, 65_535, 65_535]), 0);
     assert_eq!(beside(32_769), counted(9_223_231_292_924_133_375));
     assert_eq!(beside(32_770), counted(9_223_512_755_016_138_750));
-}
-
-#[test]
-#[should_panic(expected = "the product of [65536, 65536, 65536, 65536] does not fit 64 bits")]
-fn a_product_that_does_not_fit_stops_the_program() {
-    // 2^64, which is 0 in 64 bits.
-    product(&[65_536; 4]);
 }
 
 #[test]
