@@ -163,6 +163,11 @@ fn cases_met(bytes: &[u8], expected: &[u8]) -> Vec<String> {
     met.iter().flat_map(|met| met(bytes, expected)).collect()
 }
 
+/// What is counted, if it holds.
+pub fn holding(all: &[(bool, &str)]) -> Vec<String> {
+    all.iter().filter(|(holds, _)| *holds).map(|(_, case)| case.to_string()).collect()
+}
+
 /// The list of a call.
 fn can_give(calls: &Calls, call: &Call) -> Vec<String> {
     match call.gives {

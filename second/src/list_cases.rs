@@ -1,5 +1,6 @@
 //! The cases of lists of moves that a number alone does not tell apart. A long comparison has to meet each.
 
+use crate::coverage::holding;
 use crate::list::{length_of, list_fault, record_at, record_count, HEAD};
 use crate::moves::Config;
 use crate::record::{self, has_entry};
@@ -154,11 +155,6 @@ pub fn met(bytes: &[u8], expected: &[u8]) -> Vec<String> {
         }),
         _ => Vec::new(),
     }
-}
-
-/// What is counted, if it holds.
-pub fn holding(all: &[(bool, &str)]) -> Vec<String> {
-    all.iter().filter(|(holds, _)| *holds).map(|(_, case)| case.to_string()).collect()
 }
 
 /// The numbers behind this one that hold too.

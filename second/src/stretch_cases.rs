@@ -1,8 +1,8 @@
 //! The cases of elements that are moved: where in its rows a stretch begins and ends, and how the elements of a row lie
 //! in source and destination. The number 0 alone does not tell them apart, and a long comparison has to meet each.
 
+use crate::coverage::holding;
 use crate::job::Job;
-use crate::list_cases::holding;
 use crate::moves::{coordinates, plan, source_place, Config, Plan};
 use crate::tensor::Tensor;
 use crate::transfers::Table;
