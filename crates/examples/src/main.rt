@@ -176,7 +176,7 @@ fn sub() {
     run(b"K", tensor, copy_of(1), part, &mut [0u8; 2]);
 }
 
-// Run only: the count of (2,4,8) from 1, and the most that a count can be; sizes 65,280 and 65,281 with 255 zeros before.
+// What the paper only runs: the count of (2,4,8) from 1; sizes 65,280 and 65,281 with 255 zeros before. And the largest count.
 fn run_only() {
     let n = plane::element_count(compact(3, 1, [2, 4, 8, 0]), 1);
     let most = plane::element_count(compact(4, 1, [65535; 4]), 0);

@@ -282,8 +282,8 @@ table =
     -- the count of (2,4,8) from 1 is 32; from 3: 16
     besides shows count (compact 3 1 (three 2 4 8)) 1 (record { status = 0; dim = 0; count = 32 }) ∷
     besides shows count (compact 3 1 (three 2 4 8)) 3 (noCount (fault 16 0)) ∷
-    -- the most that a count can be is that of four shapes of 65,535, from 0; from 1 it is the third power. Four shapes of 65,536 would
-    -- make 2^64, which 64 bits do not hold, but they are 3 at dimension 0; and 3 comes before 16
+    -- the most that a count can be is that of four shapes of 65,535, from 0; from 1 it is 65,535 to the third. Four shapes of 65,536
+    -- would make 2^64, which 64 bits do not hold, but they are 3 at dimension 0; and 3 comes before 16
     besides shows count (compact 4 1 (alike 65535)) 0 (record { status = 0; dim = 0; count = 18445618199572250625 }) ∷
     besides shows count (compact 4 1 (alike 65535)) 1 (record { status = 0; dim = 0; count = 281462092005375 }) ∷
     besides shows count (compact 4 1 (alike 65536)) 0 (noCount (fault 3 0)) ∷

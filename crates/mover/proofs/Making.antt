@@ -1,4 +1,4 @@
--- A plan as the code makes it is the plan of the move: the bounds of its numbers, what acceptance gives, and the axes. Assumes nothing.
+-- A plan as the code makes it is the plan of the move: bounds of its numbers, what acceptance gives, and the axes. Assumes nothing.
 use Prim.Native.Nat.{ℕ, _+_, _-_, _*_, _^_, _≤_, _<_}
 use native.Mathlib.Nat.{mul-le-mul}
 use native.Mathlib.Decide.{decLt}

@@ -21,7 +21,7 @@ module _ (t : Tensor) (start : ℕ) where
   unfolding countOf
   count-refuses {f} p h e = e ∙ sym (ap (λ (g : Fault). countAnswer g (elements t start)) p ∙ count-answer-refused f (elements t start) h)
 
-  -- the rules give none
+  -- the rules give no refusal, and the code the product
   pub count-accepts : {x : ℕ} → countFault t start .status ≡ 0 → x ≡ elements t start → record { status = 0; dim = 0; count = x } ≡ countOf t start
   unfolding countOf
   count-accepts z e = ap (λ (x : ℕ). record { status = 0; dim = 0; count = x }) e ∙ sym (count-answer-given (countFault t start) (elements t start) z)

@@ -184,10 +184,7 @@ module _ (n z : ℕ) (s s′ p p′ : List ℕ) (a : SameTensor (tensor n z s p)
 
   count-same : (start : ℕ) → countOf T start ≡ countOf T′ start
   unfolding countOf countFault
-  count-same start =
-      ap₂ countAnswer
-      (or-path refl (or-path shapes-same refl))
-      (elements-same start)
+  count-same start = ap₂ countAnswer (or-path refl (or-path shapes-same refl)) (elements-same start)
 
   -- the sub-tensor's rank is one number m, so that its output's rank is one too
   module _ (m : ℕ) (o o′ q q′ : List ℕ) (b : SameSub n (record { offset = o; size = q; rank = m }) (record { offset = o′; size = q′; rank = m })) where

@@ -88,7 +88,7 @@ pub fn element_count(work: &mut Work) {
     work.call(0x05, &(tensor, start));
 }
 
-/// Shapes at their limits or between them, now and then a bad one, and a bad rank. Past the rank stands what 3 would
+/// Shapes at their limits or between them, now and then a bad one, or a bad rank. Past the rank stands what 3 would
 /// refuse.
 fn draw_counted(random: &mut Random) -> Tensor {
     if random.chance(20) {
