@@ -2,6 +2,7 @@
 -- memory and answer the same. Assumes nothing.
 use Prim.Native.Nat.{ℕ, zero, suc, _+_, _-_, _*_, _/_, _%_, _<_, min}
 use native.Mathlib.Decide.{ℕ-discrete}
+use native.Mathlib.Omega.{arith}
 use mathlib.Core.Path.{_≡_, refl, sym, ap, ap₂, _∙_}
 use mathlib.Core.Bool.{cond, _||_, _&&_}
 use mathlib.Core.List.{List}
@@ -45,7 +46,7 @@ module _ (t t′ : Tensor) (c c′ : Config) (a : SameTensor t t′) (b : SameCo
   module _ (g : GoodConfig t c) where
     -- what is read at the source dimension of destination dimension i
     at-dim : (f f′ : ℕ → ℕ) → ((d : ℕ) → d < t .rank → f d ≡ f′ d) → (i : ℕ) → i < t .rank → f (dimOf c i) ≡ f′ (dimOf c′ i)
-    at-dim f f′ e i h = e (dimOf c i) (g .perm i h) ∙ ap f′ (b .perm i h)
+    at-dim f f′ e i h = e (dimOf c i) (g .perm i h) ∙ ap f′ (b .arrays 5 (omega arith) i h)
 
     same-kept : (x : ℕ → ℕ) → areKept t c x ≡ areKept t′ c′ x
     unfolding areKept isKept
@@ -53,7 +54,7 @@ module _ (t t′ : Tensor) (c c′ : Config) (a : SameTensor t t′) (b : SameCo
         every-same (t .rank) _ _
         (λ i h.
         ap₂ (λ (p n : ℕ). leb p (x i) && ltb (x i - p) n)
-        (at-dim (at (c .pre)) (at (c′ .pre)) (b .pre) i h)
+        (at-dim (at (c .pre)) (at (c′ .pre)) (b .arrays 6 (omega arith)) i h)
         (at-dim (count t c) (count t′ c′) (kept-unseen t t′ a c c′ b) i h)) ∙
         ap (λ (n : ℕ). every n (λ i. isKept t′ c′ i (x i))) (a .rank)
 
@@ -62,9 +63,9 @@ module _ (t t′ : Tensor) (c c′ : Config) (a : SameTensor t t′) (b : SameCo
     same-source x =
         sum-same (t .rank) _ _
         (λ i h.
-        let o = at-dim (at (c .offset)) (at (c′ .offset)) (b .offset) i h in
-        let p = at-dim (at (c .pre)) (at (c′ .pre)) (b .pre) i h in
-        let s = at-dim (at (c .step)) (at (c′ .step)) (b .step) i h in
+        let o = at-dim (at (c .offset)) (at (c′ .offset)) (b .arrays 0 (omega arith)) i h in
+        let p = at-dim (at (c .pre)) (at (c′ .pre)) (b .arrays 6 (omega arith)) i h in
+        let s = at-dim (at (c .step)) (at (c′ .step)) (b .arrays 2 (omega arith)) i h in
         let w = at-dim (at (srcStrides t)) (at (srcStrides t′)) (λ d l. ap (λ (y : List ℕ). at y d) (strides-unseen t t′ a)) i h in
         λ k. (o k + (x i - p k) * s k) * w k) ∙
         ap (λ (n : ℕ). sum n (λ i. (at (c′ .offset) (dimOf c′ i) + kOf c′ i (x i) * at (c′ .step) (dimOf c′ i)) * at (srcStrides t′) (dimOf c′ i))) (a .rank)
@@ -78,7 +79,7 @@ module _ (t t′ : Tensor) (c c′ : Config) (a : SameTensor t t′) (b : SameCo
     same-place : (x : ℕ → ℕ) → place t c x ≡ place t′ c′ x
     unfolding place
     same-place x =
-        sum-same (t .rank) _ _ (λ i h. ap (λ (y : ℕ). (y + x i) * at (dstStrides t c) i) (b .dst-offset i h)) ∙
+        sum-same (t .rank) _ _ (λ i h. ap (λ (y : ℕ). (y + x i) * at (dstStrides t c) i) (b .arrays 3 (omega arith) i h)) ∙
         ap₂ (λ (n : ℕ) (w : List ℕ). sum n (λ i. (at (c′ .«dst_offset») i + x i) * at w i)) (a .rank) (dst-strides-unseen t t′ a c c′ b g)
 
     -- in the same order

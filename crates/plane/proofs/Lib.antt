@@ -8,6 +8,7 @@ pub mod Bounds
 pub mod SubTensors
 -- Laws over plain values, which the functions' proofs cite.
 pub mod Arrays
+pub mod Configs
 pub mod Resolving
 pub mod Falling
 pub mod Rules

@@ -87,44 +87,44 @@ module _ (n z : ℕ) (s s′ p p′ : List ℕ) (a : SameTensor (tensor n z s p)
     extent-same : (d : ℕ) → d < n → extent T c d ≡ extent T′ c′ d
     unfolding extent count
     extent-same d h =
-        let w = ap₂ or0 (b .size d h) (ap₂ (λ (x y : ℕ). x - y) (a .shape d h) (b .offset d h)) in
-        ap₂ (λ (x y : ℕ). x + y) (ap₂ (λ (x y : ℕ). x + y) (b .pre d h) (ap₂ upward w (b .step d h))) (b .post d h)
+        let w = ap₂ or0 (b .arrays 1 (omega arith) d h) (ap₂ (λ (x y : ℕ). x - y) (a .shape d h) (b .arrays 0 (omega arith) d h)) in
+        ap₂ (λ (x y : ℕ). x + y) (ap₂ (λ (x y : ℕ). x + y) (b .arrays 6 (omega arith) d h) (ap₂ upward w (b .arrays 2 (omega arith) d h))) (b .arrays 7 (omega arith) d h)
 
     perm-same : (i : ℕ) → i < n → badPermAt n (at (c .perm)) i ≡ badPermAt n (at (c′ .perm)) i
     perm-same i h =
-        ap₂ (λ (x y : Bool). x || y) (ap (leb n) (b .perm i h)) (some-same i _ _ (λ j q. ap₂ eqb (b .perm j (omega arith)) (b .perm i h)))
+        ap₂ (λ (x y : Bool). x || y) (ap (leb n) (b .arrays 5 (omega arith) i h)) (some-same i _ _ (λ j q. ap₂ eqb (b .arrays 5 (omega arith) j (omega arith)) (b .arrays 5 (omega arith) i h)))
 
     config-same : configFault T c ≡ configFault T′ c′
     unfolding configFault
     config-same =
         or-path (lowest-same 6 n _ _ perm-same)
-        (or-path (lowest-same 7 n _ _ (λ d h. ap₂ badOffset (a .shape d h) (b .offset d h)))
-        (or-path (lowest-same 8 n _ _ (λ d h. ap₂ (λ (x y : ℕ). ltb x y) (a .shape d h) (ap₂ (λ (x y : ℕ). x + y) (b .size d h) (b .offset d h))))
-        (or-path (lowest-same 9 n _ _ (λ d h. ap badStep (b .step d h))) (lowest-same 10 n _ _ (λ d h. ap badExtent (extent-same d h))))))
+        (or-path (lowest-same 7 n _ _ (λ d h. ap₂ badOffset (a .shape d h) (b .arrays 0 (omega arith) d h)))
+        (or-path (lowest-same 8 n _ _ (λ d h. ap₂ (λ (x y : ℕ). ltb x y) (a .shape d h) (ap₂ (λ (x y : ℕ). x + y) (b .arrays 1 (omega arith) d h) (b .arrays 0 (omega arith) d h))))
+        (or-path (lowest-same 9 n _ _ (λ d h. ap badStep (b .arrays 2 (omega arith) d h))) (lowest-same 10 n _ _ (λ d h. ap badExtent (extent-same d h))))))
 
     -- the destination is looked at only where no number up to 10 is given
     module _ (g : configFault T c .status ≡ 0) where
       extents-same : dstExtents T c ≡ dstExtents T′ c′
       unfolding dstExtents
       extents-same =
-          firsts-same 0 n _ _ (λ i h. extent-same (at (c .perm) i) (config-good T c g .perm i h) ∙ ap (extent T′ c′) (b .perm i h))
+          firsts-same 0 n _ _ (λ i h. extent-same (at (c .perm) i) (config-good T c g .perm i h) ∙ ap (extent T′ c′) (b .arrays 5 (omega arith) i h))
 
       extent-at : (d : ℕ) → d < n → at (dstExtents T c) d ≡ at (dstExtents T′ c′) d
       extent-at d h = ap (λ (l : List ℕ). at l d) extents-same
 
       dst-strides-same : dstStrides T c ≡ dstStrides T′ c′
-      dst-strides-same = strides-same n _ _ _ _ extent-at (b .dst-stride)
+      dst-strides-same = strides-same n _ _ _ _ extent-at (b .arrays 4 (omega arith))
 
       place-at : (i : ℕ) → i < n → badDstOffsetOf T c i ≡ badDstOffsetOf T′ c′ i
       unfolding badDstOffsetAt
       place-at i h =
-          ap₂ (λ (x o : ℕ). ltb 65535 o || (ltb 0 i && ltb (at (dstStrides T c) (i - 1)) ((o + x) * at (dstStrides T c) i))) (extent-at i h) (b .dst-offset i h) ∙
+          ap₂ (λ (x o : ℕ). ltb 65535 o || (ltb 0 i && ltb (at (dstStrides T c) (i - 1)) ((o + x) * at (dstStrides T c) i))) (extent-at i h) (b .arrays 3 (omega arith) i h) ∙
           ap (λ (l : List ℕ). badDstOffsetAt (at (dstExtents T′ c′)) (at l) (at (c′ .«dst_offset»)) i) dst-strides-same
 
       place-same : dstFault T c ≡ dstFault T′ c′
       unfolding dstFault
       place-same =
-          or-path (outward-same 11 n _ _ (badStrideAt-same n _ _ _ _ extent-at (b .dst-stride)))
+          or-path (outward-same 11 n _ _ (badStrideAt-same n _ _ _ _ extent-at (b .arrays 4 (omega arith))))
           (lowest-same 12 n _ _ place-at)
 
       need-same : need T c ≡ need T′ c′
@@ -134,7 +134,7 @@ module _ (n z : ℕ) (s s′ p p′ : List ℕ) (a : SameTensor (tensor n z s p)
           (sum-same n _ _
           (λ i h.
           ap₂ (λ (x y : ℕ). x * y)
-          (ap₂ (λ (x : ℕ) (l : List ℕ). x + at l i - 1) (b .dst-offset i h) extents-same)
+          (ap₂ (λ (x : ℕ) (l : List ℕ). x + at l i - 1) (b .arrays 3 (omega arith) i h) extents-same)
           (ap (λ (l : List ℕ). at l i) dst-strides-same)))
 
       accepted-same : accepted T c ≡ accepted T′ c′
@@ -276,7 +276,7 @@ module _ (t t′ : Tensor) (a : SameTensor t t′) where
     pub kept-unseen : (d : ℕ) → d < t .rank → count t c d ≡ count t′ c′ d
     unfolding count
     kept-unseen d h =
-        ap₂ upward (ap₂ or0 (b .size d h) (ap₂ (λ (x y : ℕ). x - y) (a .shape d h) (b .offset d h))) (b .step d h)
+        ap₂ upward (ap₂ or0 (b .arrays 1 (omega arith) d h) (ap₂ (λ (x y : ℕ). x - y) (a .shape d h) (b .arrays 0 (omega arith) d h))) (b .arrays 2 (omega arith) d h)
 
     module _ (g : GoodConfig t c) where
       pub extents-unseen : dstExtents t c ≡ dstExtents t′ c′

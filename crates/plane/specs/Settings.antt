@@ -1,44 +1,65 @@
--- The settings: one field is set to the four entries given, and the others are kept.
+-- A configuration by its arrays, and the settings: one array is set to the four entries given, and the others are kept.
 use Prim.Native.Nat.{ℕ}
-use mathlib.Core.List.{List}
+use mathlib.Core.Bool.{cond}
+use mathlib.Core.List.{List, [], _∷_}
+use lib.Dec.{eqb}
+use lib.ListN.{getD}
 use Rattle.plane.specs.declared.Config.{Config}
 use Rattle.plane.specs.Arrays.{zeros}
 
-abbrev pub configOf : List ℕ → List ℕ → List ℕ → List ℕ → List ℕ → List ℕ → List ℕ → List ℕ → Config
-configOf offset size step dstOffset dstStride perm pre post = record {
-  offset = offset;
-  size = size;
-  step = step;
-  «dst_offset» = dstOffset;
-  «dst_stride» = dstStride;
-  perm = perm;
-  pre = pre;
-  post = post;
+-- ---- The arrays: here, and nowhere else, each has its number
+
+abbrev pub arrayCount : ℕ
+arrayCount = 8
+
+abbrev pub arrays : Config → List (List ℕ)
+arrays c = c .offset ∷ c .size ∷ c .step ∷ c .«dst_offset» ∷ c .«dst_stride» ∷ c .perm ∷ c .pre ∷ c .post ∷ []
+
+abbrev pub arrayOf : Config → ℕ → List ℕ
+arrayOf c k = getD (arrays c) k []
+
+-- the configuration whose array number k is f k
+abbrev pub configOf : (ℕ → List ℕ) → Config
+configOf f = record {
+  offset = f 0;
+  size = f 1;
+  step = f 2;
+  «dst_offset» = f 3;
+  «dst_stride» = f 4;
+  perm = f 5;
+  pre = f 6;
+  post = f 7;
 }
 
+abbrev pub zeroConfig : Config
+zeroConfig = configOf (λ k. zeros)
+
+-- ---- The settings
+
+-- array number k set to x
+abbrev pub withArray : ℕ → Config → List ℕ → Config
+withArray k c x = configOf (λ j. cond (eqb j k) x (arrayOf c j))
+
 abbrev pub withOffset : Config → List ℕ → Config
-withOffset c x = configOf x (c .size) (c .step) (c .«dst_offset») (c .«dst_stride») (c .perm) (c .pre) (c .post)
+withOffset c x = withArray 0 c x
 
 abbrev pub withSize : Config → List ℕ → Config
-withSize c x = configOf (c .offset) x (c .step) (c .«dst_offset») (c .«dst_stride») (c .perm) (c .pre) (c .post)
+withSize c x = withArray 1 c x
 
 abbrev pub withStep : Config → List ℕ → Config
-withStep c x = configOf (c .offset) (c .size) x (c .«dst_offset») (c .«dst_stride») (c .perm) (c .pre) (c .post)
+withStep c x = withArray 2 c x
 
 abbrev pub withDstOffset : Config → List ℕ → Config
-withDstOffset c x = configOf (c .offset) (c .size) (c .step) x (c .«dst_stride») (c .perm) (c .pre) (c .post)
+withDstOffset c x = withArray 3 c x
 
 abbrev pub withDstStride : Config → List ℕ → Config
-withDstStride c x = configOf (c .offset) (c .size) (c .step) (c .«dst_offset») x (c .perm) (c .pre) (c .post)
+withDstStride c x = withArray 4 c x
 
 abbrev pub withPerm : Config → List ℕ → Config
-withPerm c x = configOf (c .offset) (c .size) (c .step) (c .«dst_offset») (c .«dst_stride») x (c .pre) (c .post)
+withPerm c x = withArray 5 c x
 
 abbrev pub withPre : Config → List ℕ → Config
-withPre c x = configOf (c .offset) (c .size) (c .step) (c .«dst_offset») (c .«dst_stride») (c .perm) x (c .post)
+withPre c x = withArray 6 c x
 
 abbrev pub withPost : Config → List ℕ → Config
-withPost c x = configOf (c .offset) (c .size) (c .step) (c .«dst_offset») (c .«dst_stride») (c .perm) (c .pre) x
-
-abbrev pub zeroConfig : Config
-zeroConfig = configOf zeros zeros zeros zeros zeros zeros zeros zeros
+withPost c x = withArray 7 c x

@@ -6,6 +6,7 @@ use Rattle.plane.specs.declared.Config.{Config}
 use Rattle.plane.specs.declared.SubConfig.{SubConfig}
 use Rattle.plane.specs.Arrays.{at}
 use Rattle.plane.specs.Planes.{sourceOf}
+use Rattle.plane.specs.Settings.{arrayCount, arrayOf}
 use Rattle.plane.specs.Moves.{judgeOf, roomOf}
 use Rattle.plane.specs.Helpers.{countOf, subTensorOf}
 
@@ -17,16 +18,9 @@ pub record SameTensor (t t′ : Tensor) : Type 0 where
   pub shape : (d : ℕ) → d < t .rank → at (t .shape) d ≡ at (t′ .shape) d
   pub stride : (d : ℕ) → d < t .rank → at (t .stride) d ≡ at (t′ .stride) d
 
--- below the rank n
+-- every array, below the rank n
 pub record SameConfig (n : ℕ) (c c′ : Config) : Type 0 where
-  pub offset : (d : ℕ) → d < n → at (c .offset) d ≡ at (c′ .offset) d
-  pub size : (d : ℕ) → d < n → at (c .size) d ≡ at (c′ .size) d
-  pub step : (d : ℕ) → d < n → at (c .step) d ≡ at (c′ .step) d
-  pub dst-offset : (d : ℕ) → d < n → at (c .«dst_offset») d ≡ at (c′ .«dst_offset») d
-  pub dst-stride : (d : ℕ) → d < n → at (c .«dst_stride») d ≡ at (c′ .«dst_stride») d
-  pub perm : (d : ℕ) → d < n → at (c .perm) d ≡ at (c′ .perm) d
-  pub pre : (d : ℕ) → d < n → at (c .pre) d ≡ at (c′ .pre) d
-  pub post : (d : ℕ) → d < n → at (c .post) d ≡ at (c′ .post) d
+  pub arrays : (k : ℕ) → k < arrayCount → (d : ℕ) → d < n → at (arrayOf c k) d ≡ at (arrayOf c′ k) d
 
 pub record SameSub (n : ℕ) (s s′ : SubConfig) : Type 0 where
   pub offset : (d : ℕ) → d < n → at (s .offset) d ≡ at (s′ .offset) d

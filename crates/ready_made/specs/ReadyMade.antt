@@ -2,10 +2,11 @@
 use Prim.Native.Nat.{ℕ}
 use mathlib.Core.Bool.{cond}
 use mathlib.Core.List.{List, [], _∷_}
+use lib.ListN.{getD}
 use Rattle.plane.specs.declared.Config.{Config}
 use Rattle.plane.specs.Arrays.{at, firsts}
 use Rattle.plane.specs.Planes.{badRank}
-use Rattle.plane.specs.Settings.{configOf, zeroConfig, withOffset, withSize, withStep, withDstOffset, withDstStride, withPerm, withPre, withPost}
+use Rattle.plane.specs.Settings.{arrayOf, configOf, zeroConfig, withOffset, withSize, withStep, withDstOffset, withDstStride, withPerm, withPre, withPost}
 use Rattle.ready_made.specs.declared.Made.{Made}
 
 -- ---- For a rank
@@ -16,10 +17,7 @@ defaults = withPerm (withStep zeroConfig (1 ∷ 1 ∷ 1 ∷ 1 ∷ [])) (0 ∷ 1 
 
 -- the configuration with 0 in every entry at or past the rank n
 unfoldable pub cutTo : ℕ → Config → Config
-cutTo n c =
-    configOf (firsts n (at (c .offset))) (firsts n (at (c .size))) (firsts n (at (c .step)))
-    (firsts n (at (c .«dst_offset»))) (firsts n (at (c .«dst_stride»)))
-    (firsts n (at (c .perm))) (firsts n (at (c .pre))) (firsts n (at (c .post)))
+cutTo n c = configOf (λ k. firsts n (at (arrayOf c k)))
 
 -- a wrong rank is answered by 1 and all fields 0
 unfoldable pub madeFor : ℕ → Config → Made
@@ -54,4 +52,4 @@ padHwcOf left right top bottom dstStride =
 
 abbrev pub allOf : ℕ → List ℕ → List ℕ → List ℕ → List ℕ → List ℕ → List ℕ → List ℕ → List ℕ → Made
 allOf n offset size step dstOffset dstStride perm pre post =
-    madeFor n (configOf offset size step dstOffset dstStride perm pre post)
+    madeFor n (configOf (λ k. getD (offset ∷ size ∷ step ∷ dstOffset ∷ dstStride ∷ perm ∷ pre ∷ post ∷ []) k []))

@@ -31,7 +31,7 @@ module _ (l : List ℕ) (t : Tensor) where
 
 module _ (l : List ℕ) (c : Config) {m1 m2 m3 m4 m5 m6 m7 m8 : List ℕ} (e1 : m1 ≡ sets l configAt (fourBytes 4 (c .offset))) (e2 : m2 ≡ sets m1 55 (fourBytes 4 (c .size))) (e3 : m3 ≡ sets m2 71 (fourBytes 4 (c .step))) (e4 : m4 ≡ sets m3 87 (fourBytes 4 (c .«dst_offset»))) (e5 : m5 ≡ sets m4 103 (fourBytes 4 (c .«dst_stride»))) (e6 : m6 ≡ sets m5 119 (fourBytes 1 (c .perm))) (e7 : m7 ≡ sets m6 123 (fourBytes 1 (c .pre))) (e8 : m8 ≡ sets m7 127 (fourBytes 1 (c .post))) where
   pub config-laid : m8 ≡ sets l configAt (configBytes c)
-  unfolding configBytes
+  unfolding configBytes joined
   config-laid =
       let a = fourBytes 4 (c .offset) in
       let b = a ++ fourBytes 4 (c .size) in

@@ -15,8 +15,9 @@ use Rattle.plane.specs.declared.Tensor.{Tensor}
 use Rattle.plane.specs.declared.Config.{Config}
 use Rattle.plane.specs.Arrays.{at, sum, some}
 use Rattle.faults.specs.Faults.{when}
-use Rattle.plane.specs.Settings.{configOf}
+use Rattle.plane.specs.Settings.{arrayOf}
 use Rattle.plane.proofs.Arrays.{table-at, is-table}
+use Rattle.plane.proofs.Configs.{same-arrays}
 use Rattle.faults.proofs.Faults.{status, or-clear, when-clear}
 use Rattle.record.specs.declared.Reading.{Reading}
 use Rattle.record.specs.Layout.{little, number, part, joined, recordLength, rankIn, sizeIn, headBytes, groupCount, group, width, start, fourBytes}
@@ -73,8 +74,8 @@ module _ (t : Tensor) (c : Config) (f : Fits t c) where
   config-back : configIn (recordBytes t c) ≡ c
   unfolding configIn
   config-back =
-      λ i. configOf (group-back 2 (omega arith) i) (group-back 3 (omega arith) i) (group-back 4 (omega arith) i) (group-back 5 (omega arith) i)
-      (group-back 6 (omega arith) i) (group-back 7 (omega arith) i) (group-back 8 (omega arith) i) (group-back 9 (omega arith) i)
+      same-arrays _ (arrayOf c)
+      (λ k h. group-back (2 + k) (omega arith) ∙ ap (group t c) (let z : 2 + k ≡ suc (suc k) = omega arith in z))
 
   mark-back : badMark (recordBytes t c) ≡ false
   unfolding recordBytes some

@@ -7,6 +7,7 @@ use lib.ListN.{getD, take, drop}
 use Rattle.plane.specs.declared.Tensor.{Tensor}
 use Rattle.plane.specs.declared.Config.{Config}
 use Rattle.plane.specs.Arrays.{at, table, sum}
+use Rattle.plane.specs.Settings.{arrays}
 
 -- ---- Numbers as bytes, the lowest byte first
 
@@ -67,12 +68,9 @@ sizeIn bs = at bs 6
 abbrev pub headBytes : ℕ → ℕ → List ℕ
 headBytes rank size = mark ++ little 2 theVersion ++ rank ∷ size ∷ []
 
--- the groups, in the record's order
+-- the groups, in the record's order: the tensor record's two arrays, and the configuration's in their order
 abbrev pub groups : Tensor → Config → List (List ℕ)
-groups t c =
-    t .shape ∷ t .stride ∷
-    c .offset ∷ c .size ∷ c .step ∷ c .«dst_offset» ∷ c .«dst_stride» ∷
-    c .perm ∷ c .pre ∷ c .post ∷ []
+groups t c = t .shape ∷ t .stride ∷ arrays c
 
 abbrev pub group : Tensor → Config → ℕ → List ℕ
 group t c k = getD (groups t c) k []

@@ -3,7 +3,8 @@ use Prim.Native.Nat.{ℕ, _+_, _*_}
 use mathlib.Core.List.{List, _++_}
 use Rattle.plane.specs.declared.Tensor.{Tensor}
 use Rattle.plane.specs.declared.Config.{Config}
-use Rattle.record.specs.Layout.{headLength, headBytes, fourBytes}
+use Rattle.plane.specs.Settings.{arrayCount, arrayOf}
+use Rattle.record.specs.Layout.{joined, headLength, headBytes, width, fourBytes}
 
 -- the record's bytes up to the end of the strides
 unfoldable pub tensorBytes : Tensor → List ℕ
@@ -15,7 +16,4 @@ configAt = headLength + 2 * (4 * 4)
 
 -- the bytes from there on
 unfoldable pub configBytes : Config → List ℕ
-configBytes c =
-    fourBytes 4 (c .offset) ++ fourBytes 4 (c .size) ++ fourBytes 4 (c .step) ++
-    fourBytes 4 (c .«dst_offset») ++ fourBytes 4 (c .«dst_stride») ++
-    fourBytes 1 (c .perm) ++ fourBytes 1 (c .pre) ++ fourBytes 1 (c .post)
+configBytes c = joined arrayCount (λ k. fourBytes (width (2 + k)) (arrayOf c k))

@@ -1,5 +1,5 @@
 -- The move record: what reading bytes answers, and what writing a tensor record and a configuration does.
-use Prim.Native.Nat.{ℕ}
+use Prim.Native.Nat.{ℕ, _+_}
 use mathlib.Core.Bool.{Bool, not, _&&_}
 use mathlib.Core.List.{List, _++_}
 use lib.Dec.{leb, eqb}
@@ -25,9 +25,7 @@ unfoldable pub tensorIn : List ℕ → Tensor
 tensorIn bs = record { rank = rankIn bs; «element_size» = sizeIn bs; shape = groupIn bs 0; stride = groupIn bs 1 }
 
 unfoldable pub configIn : List ℕ → Config
-configIn bs =
-    configOf (groupIn bs 2) (groupIn bs 3) (groupIn bs 4) (groupIn bs 5) (groupIn bs 6)
-    (groupIn bs 7) (groupIn bs 8) (groupIn bs 9)
+configIn bs = configOf (λ k. groupIn bs (2 + k))
 
 -- the first seven bytes, and then the groups
 unfoldable pub recordBytes : Tensor → Config → List ℕ

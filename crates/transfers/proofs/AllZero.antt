@@ -11,10 +11,11 @@ use lib.ListN.{length}
 use Rattle.plane.specs.Arrays.{at, zeros}
 use Rattle.faults.proofs.Bools.{both-first, both-second}
 use Rattle.plane.proofs.Arrays.{every-each}
+use Rattle.plane.proofs.Configs.{same-arrays}
 use Rattle.mover.specs.declared.Part.{Part}
 use Rattle.mover.specs.declared.Job.{Job}
 use Rattle.transfers.specs.declared.Slot.{Slot}
-use Rattle.plane.specs.Settings.{zeroConfig}
+use Rattle.plane.specs.Settings.{arrayCount, arrayOf, zeroConfig}
 use Rattle.plane.specs.Planes.{zeroTensor}
 use Rattle.transfers.specs.Slots.{zeroPart, zeroJob, freeSlot, isZeroArray, isZeroPart, isZeroTensor, isZeroConfig, isZeroJob, slotAt, slotSound}
 use Rattle.transfers.specs.Sound.{FourEntries, FreeIsZero}
@@ -53,39 +54,8 @@ module _ (j : Job) (f : FourEntries j) where
   no-config : isZeroConfig (j .config) ≡ true → j .config ≡ zeroConfig
   unfolding isZeroConfig
   no-config e =
-      let c = j .config in
-      let a1 = isZeroArray (c .offset) in
-      let a2 = a1 && isZeroArray (c .size) in
-      let a3 = a2 && isZeroArray (c .step) in
-      let a4 = a3 && isZeroArray (c .«dst_offset») in
-      let a5 = a4 && isZeroArray (c .«dst_stride») in
-      let a6 = a5 && isZeroArray (c .perm) in
-      let a7 = a6 && isZeroArray (c .pre) in
-      let e7 = both-first a7 (isZeroArray (c .post)) e in
-      let e6 = both-first a6 (isZeroArray (c .pre)) e7 in
-      let e5 = both-first a5 (isZeroArray (c .perm)) e6 in
-      let e4 = both-first a4 (isZeroArray (c .«dst_stride»)) e5 in
-      let e3 = both-first a3 (isZeroArray (c .«dst_offset»)) e4 in
-      let e2 = both-first a2 (isZeroArray (c .step)) e3 in
-      let e1 = both-first a1 (isZeroArray (c .size)) e2 in
-      let offset = no-entry (c .offset) (f .offset) e1 in
-      let size = no-entry (c .size) (f .size) (both-second a1 (isZeroArray (c .size)) e2) in
-      let step = no-entry (c .step) (f .step) (both-second a2 (isZeroArray (c .step)) e3) in
-      let dst-offset = no-entry (c .«dst_offset») (f .dst-offset) (both-second a3 (isZeroArray (c .«dst_offset»)) e4) in
-      let dst-stride = no-entry (c .«dst_stride») (f .dst-stride) (both-second a4 (isZeroArray (c .«dst_stride»)) e5) in
-      let perm = no-entry (c .perm) (f .perm) (both-second a5 (isZeroArray (c .perm)) e6) in
-      let pre = no-entry (c .pre) (f .pre) (both-second a6 (isZeroArray (c .pre)) e7) in
-      let post = no-entry (c .post) (f .post) (both-second a7 (isZeroArray (c .post)) e) in
-      λ i. record {
-        offset = offset i;
-        size = size i;
-        step = step i;
-        «dst_offset» = dst-offset i;
-        «dst_stride» = dst-stride i;
-        perm = perm i;
-        pre = pre i;
-        post = post i;
-      }
+      same-arrays (arrayOf (j .config)) (λ k. zeros)
+      (λ k h. no-entry _ (f .arrays k h) (every-each (λ (k : ℕ). isZeroArray (arrayOf (j .config) k)) arrayCount e k h))
 
   pub no-job : isZeroJob j ≡ true → j ≡ zeroJob
   unfolding isZeroJob

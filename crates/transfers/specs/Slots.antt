@@ -6,7 +6,7 @@ use lib.Dec.{ltb, leb, eqb}
 use lib.ListN.{getD}
 use Rattle.plane.specs.declared.Tensor.{Tensor}
 use Rattle.plane.specs.declared.Config.{Config}
-use Rattle.plane.specs.Settings.{zeroConfig}
+use Rattle.plane.specs.Settings.{arrayCount, arrayOf, zeroConfig}
 use Rattle.plane.specs.Planes.{zeroTensor}
 use Rattle.plane.specs.Arrays.{at, table, some, every}
 use Rattle.mover.specs.declared.Part.{Part}
@@ -72,10 +72,7 @@ unfoldable pub isZeroTensor : Tensor → Bool
 isZeroTensor t = eqb (t .rank) 0 && eqb (t .«element_size») 0 && isZeroArray (t .shape) && isZeroArray (t .stride)
 
 unfoldable pub isZeroConfig : Config → Bool
-isZeroConfig c =
-    isZeroArray (c .offset) && isZeroArray (c .size) && isZeroArray (c .step) &&
-    isZeroArray (c .«dst_offset») && isZeroArray (c .«dst_stride») &&
-    isZeroArray (c .perm) && isZeroArray (c .pre) && isZeroArray (c .post)
+isZeroConfig c = every arrayCount (λ k. isZeroArray (arrayOf c k))
 
 -- a job that is all zero
 unfoldable pub isZeroJob : Job → Bool

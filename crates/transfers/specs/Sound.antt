@@ -6,6 +6,7 @@ use Prim.Native.Nat.{ℕ, _≤_, _<_}
 use mathlib.Core.Bool.{true, false}
 use mathlib.Core.List.{List}
 use lib.ListN.{length}
+use Rattle.plane.specs.Settings.{arrayCount, arrayOf}
 use Rattle.mover.specs.declared.Job.{Job}
 use Rattle.transfers.specs.declared.Table.{Table}
 use Rattle.transfers.specs.Slots.{freeSlot, freshTable, slotAt, breaks, slotSound, tableSound, limit}
@@ -30,14 +31,7 @@ SoundMeans = (t : Table) → (tableSound t ≡ true) ↔ SoundTable t
 pub record FourEntries (j : Job) : Type 0 where
   pub shape : length (j .tensor .shape) ≡ 4
   pub stride : length (j .tensor .stride) ≡ 4
-  pub offset : length (j .config .offset) ≡ 4
-  pub size : length (j .config .size) ≡ 4
-  pub step : length (j .config .step) ≡ 4
-  pub dst-offset : length (j .config .«dst_offset») ≡ 4
-  pub dst-stride : length (j .config .«dst_stride») ≡ 4
-  pub perm : length (j .config .perm) ≡ 4
-  pub pre : length (j .config .pre) ≡ 4
-  pub post : length (j .config .post) ≡ 4
+  pub arrays : (k : ℕ) → k < arrayCount → length (arrayOf (j .config) k) ≡ 4
 
 -- and so has every array of the table's four jobs
 abbrev pub FourEach : Table → Type 0

@@ -1,11 +1,12 @@
 -- `transfers::zeros::is_zero_config` tells whether a configuration is all zero. Assumes nothing.
 use borrow.Author.Needs.{needs}
+use Rattle.plane.specs.Arrays.{every}
 use Rattle.transfers.specs.Slots.{isZeroConfig}
 use Rattle.transfers.proofs.zeros.is_zero_config.Statement.{statement}
 use Rattle.transfers.proofs.zeros.is_zero_config.Tie as tie
 
 returns : tie.Need-returns
-unfolding isZeroConfig
+unfolding isZeroConfig every
 returns c =
     let d = c .before .before .before in
     let e = d .before .before in
