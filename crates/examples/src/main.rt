@@ -99,11 +99,13 @@ fn thin() {
     );
 }
 
-// D: padded. G: padding counts by source dimension.
+// D: padded; and with a fill of 128. G: padding counts by source dimension.
 fn pad() {
     let t = compact(2, 1, [1, 2, 0, 0]);
     let c = copy_of(2).with_pre([1, 0, 0, 0]);
-    run(b"D", t, c.with_post([0, 1, 0, 0]), &[5u8, 6], &mut [9u8; 6]);
+    let d = c.with_post([0, 1, 0, 0]);
+    run(b"D", t, d, &[5u8, 6], &mut [9u8; 6]);
+    run(b"filled", t, d.with_fill(128), &[5u8, 6], &mut [9u8; 6]);
     run(b"G", t, c.with_perm([1, 0, 0, 0]), &[5u8, 6], &mut [9u8; 4]);
 }
 

@@ -8,17 +8,18 @@ use mathlib.Core.List.{List, [], _∷_}
 use lib.ListN.{length, take, set}
 use lib.Seq.{sets, length-sets, getD-set-other}
 use Rattle.plane.specs.Arrays.{at}
-use Rattle.record.specs.Layout.{little, recordLength}
+use Rattle.plane.specs.Numbers.{little}
+use Rattle.record.specs.Layout.{recordLength}
 use Rattle.record.specs.Records.{recordBytes}
-use Rattle.record.proofs.Digits.{length-little}
-use Rattle.record.proofs.Laying.{length-record}
+use Rattle.plane.proofs.Numbers.{length-little}
 use Rattle.list.specs.declared.Appended.{Appended}
 use Rattle.list.specs.Layout.{listHeadLength, countPlace, listHead}
 use Rattle.list.specs.Lists.{recordCount}
 use Rattle.list.specs.Writers.{startFault}
 use Rattle.list.specs.Claims.{StartAlone, AppendAlone}
-use Rattle.list.proofs.Writing.{start-same, start-given, append-given, append-told, append-status, append-behind, head-within}
+use Rattle.list.proofs.Writing.{start-same, start-given, append-given, append-told, append-status, append-behind, head-within, append-member}
 use Rattle.list.proofs.Listing.{length-head}
+use Rattle.list.proofs.Members.{member-length}
 
 -- entries stored from i on leave those before and behind them
 sets-out : (vs l : List ℕ) (i j : ℕ) → (j < i) ⊎ (i + length vs ≤ j) → at (sets l i vs) j ≡ at l j
@@ -56,6 +57,6 @@ append-alone buffer n t c y =
       ap length e ∙ length-sets (sets buffer n (recordBytes t c)) countPlace two ∙ length-sets buffer n (recordBytes t c),
       λ i b. ap (λ (l : List ℕ). at l i) e ∙
           sets-out two (sets buffer n (recordBytes t c)) countPlace i (beside-count n i (length two) h (length-little 2 (recordCount (take n buffer) + 1)) b) ∙
-          sets-out (recordBytes t c) buffer n i (beside-record n i (length (recordBytes t c)) h (length-record t c) b),
+          sets-out (recordBytes t c) buffer n i (beside-record n i (length (recordBytes t c)) h (member-length t c (append-member buffer n t c z)) b),
       ap (λ (a : Appended). a .length) (append-told buffer n t c z),
     )

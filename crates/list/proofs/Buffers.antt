@@ -12,15 +12,16 @@ use Rattle.plane.specs.declared.Tensor.{Tensor}
 use Rattle.plane.specs.declared.Config.{Config}
 use Rattle.faults.specs.Faults.{when, _orElse_}
 use Rattle.faults.proofs.Faults.{status, or-clear, or-path, when-clear, spared}
-use Rattle.record.specs.Layout.{little, recordLength}
-use Rattle.record.specs.Records.{recordBytes, fieldsFault}
+use Rattle.plane.specs.Numbers.{little}
+use Rattle.record.specs.Layout.{recordLength}
+use Rattle.record.specs.Records.{recordBytes}
 use Rattle.record.proofs.Parts.{sets-next}
-use Rattle.record.proofs.Laying.{length-record}
 use Rattle.list.specs.declared.Appended.{Appended}
 use Rattle.list.specs.Layout.{listHeadLength, countPlace, most, listHead, listLength}
 use Rattle.list.specs.Lists.{listFault, recordCount}
-use Rattle.list.specs.Writers.{startFault, startedBuffer, appendFault, appendOf, appendedBuffer}
-use Rattle.list.proofs.Writing.{start-given, append-given, append-told, append-rest}
+use Rattle.list.specs.Writers.{startFault, startedBuffer, memberFault, appendFault, appendOf, appendedBuffer}
+use Rattle.list.proofs.Members.{member-length}
+use Rattle.list.proofs.Writing.{start-given, append-given, append-told, append-member, append-rest}
 use Rattle.list.proofs.Listing.{Sound, length-head, length-listed, listed-opens, listed-count}
 
 -- after is the buffer with a list of n records at its start, which ends at len
@@ -75,8 +76,8 @@ module _ (buffer : List ℕ) (n : ℕ) (body after : List ℕ) (len : ℕ) (s : 
   lies-count = ap recordCount lies-taken ∙ listed-count n body (s .sound)
 
   module _ (t : Tensor) (c : Config) where
-    -- what can be wrong with an append behind it: 37, 38, 1 and 28
-    lies-fault : appendFault after len t c ≡ (when 37 0 (eqb n most) orElse when 38 0 (ltb (length buffer - listLength n) recordLength) orElse fieldsFault t c)
+    -- what can be wrong with an append behind it: 37, 38, and what the fields have
+    lies-fault : appendFault after len t c ≡ (when 37 0 (eqb n most) orElse when 38 0 (ltb (length buffer - listLength n) recordLength) orElse memberFault t c)
     lies-fault =
         let e = s .ends in
         let l = lies-length in
@@ -86,7 +87,7 @@ module _ (buffer : List ℕ) (n : ℕ) (body after : List ℕ) (len : ℕ) (s : 
         (or-path (ap₂ (λ (k m : ℕ). when 38 0 (ltb (k - m) recordLength)) lies-length (s .ends)) refl)
 
     -- it is accepted where the count can grow, there is room and the fields are accepted
-    pub append-accepted : n < most → listLength (suc n) ≤ length buffer → fieldsFault t c .status ≡ 0 → appendFault after len t c .status ≡ 0
+    pub append-accepted : n < most → listLength (suc n) ≤ length buffer → memberFault t c .status ≡ 0 → appendFault after len t c .status ≡ 0
     append-accepted f r z =
         status (lies-fault ∙
         spared 37 0 _ _ (ne-eqb n most (λ e. omega arith)) ∙
@@ -94,14 +95,10 @@ module _ (buffer : List ℕ) (n : ℕ) (body after : List ℕ) (len : ℕ) (s : 
 
     module _ (z : appendFault after len t c .status ≡ 0) where
       -- none of these is wrong with an accepted one
-      clear : (when 37 0 (eqb n most) .status ≡ 0) × ((when 38 0 (ltb (length buffer - listLength n) recordLength) orElse fieldsFault t c) .status ≡ 0)
+      clear : (when 37 0 (eqb n most) .status ≡ 0) × ((when 38 0 (ltb (length buffer - listLength n) recordLength) orElse memberFault t c) .status ≡ 0)
       clear = or-clear _ _ (sym (status lies-fault) ∙ z)
 
-      -- so its fields are accepted
-      pub fields-accepted : fieldsFault t c .status ≡ 0
-      fields-accepted = or-clear _ _ (clear .1) .1
-
-      -- and it leaves one record more, behind the others
+      -- so it leaves one record more, behind the others
       pub append-lies : Lies buffer (suc n) (body ++ recordBytes t c) (appendedBuffer after len t c) (appendOf after len t c .length)
       append-lies = record { is = laid; ends = ended; sound = record { few = few; long = long }; room = room }
         where
@@ -115,7 +112,7 @@ module _ (buffer : List ℕ) (n : ℕ) (body after : List ℕ) (len : ℕ) (s : 
               omega arith
 
           long : length (body ++ recordBytes t c) ≡ recordLength * suc n
-          long = let a = length-append body (recordBytes t c) in let b = length-record t c in let l = s .sound .long in omega arith
+          long = let a = length-append body (recordBytes t c) in let b = member-length t c (append-member after len t c z) in let l = s .sound .long in omega arith
 
           ended : appendOf after len t c .length ≡ listLength (suc n)
           ended =

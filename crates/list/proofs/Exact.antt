@@ -17,13 +17,14 @@ use Rattle.plane.specs.declared.Tensor.{Tensor}
 use Rattle.plane.specs.declared.Config.{Config}
 use Rattle.record.specs.declared.Reading.{Reading}
 use Rattle.record.specs.Records.{readFault, noReading}
+use Rattle.record.specs.Orders.{fieldsRules}
 use Rattle.record.proofs.Answers.{read-status, read-given, read-refused}
 use Rattle.record.proofs.Exact.{fields-chain, read-chain, read-zeros}
 use Rattle.list.specs.declared.Appended.{Appended}
 use Rattle.list.specs.declared.Numbered.{Numbered}
 use Rattle.list.specs.Lists.{listFault, recordCount, recordIn, recordAt}
-use Rattle.list.specs.Writers.{startFault, appendFault, noAppend}
-use Rattle.list.specs.Orders.{listRules, recordRules, startRules, behindRules, appendRules}
+use Rattle.list.specs.Writers.{startFault, memberFault, appendFault, noAppend}
+use Rattle.list.specs.Orders.{listRules, recordRules, startRules, memberRules, behindRules, appendRules}
 use Rattle.list.specs.Claims.{ListExact, RecordExact, StartExact, AppendExact, RecordZeros, AppendZeros, StartKept, AppendKept}
 use Rattle.list.proofs.Answers.{in-or-past, when-plain, list-plain, at-past, at-in}
 use Rattle.list.proofs.Writing.{start-same, append-same, append-refused, append-told, append-status}
@@ -38,11 +39,15 @@ start-chain : (buffer : List ℕ) → startFault buffer ≡ chain (startRules bu
 unfolding startFault
 start-chain buffer = one-chain 38 _ (omega arith)
 
+member-chain : (t : Tensor) (c : Config) → memberFault t c ≡ chain (memberRules t c)
+unfolding memberFault
+member-chain t c = join (fieldsRules 1 t c) _ (fields-chain 1 t c) (one-chain 27 _ (omega arith))
+
 append-chain : (buffer : List ℕ) (n : ℕ) (t : Tensor) (c : Config) → appendFault buffer n t c ≡ chain (appendRules buffer n t c)
 unfolding appendFault chain
 append-chain buffer n t c =
     or-path (whole-is 25 _)
-    (join (listRules (take n buffer)) (behindRules buffer n t c) (list-chain (take n buffer)) (or-path (whole-is 37 _) (or-path (whole-is 38 _) (fields-chain t c))))
+    (join (listRules (take n buffer)) (behindRules buffer n t c) (list-chain (take n buffer)) (or-path (whole-is 37 _) (or-path (whole-is 38 _) (member-chain t c))))
 
 -- every number is above 0
 

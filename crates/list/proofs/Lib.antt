@@ -7,6 +7,7 @@ pub mod Alone
 pub mod RoundTrip
 -- Laws over plain values.
 pub mod Answers
+pub mod Members
 pub mod Writing
 pub mod Listing
 pub mod Buffers

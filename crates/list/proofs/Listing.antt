@@ -8,7 +8,8 @@ use borrow.Author.Tests.{le-ltb, eq-eqb}
 use lib.ListN.{length, drop, length-append, length-drop, take-append-drop}
 use Rattle.plane.specs.Arrays.{some}
 use Rattle.faults.proofs.Faults.{status, when-good, spared}
-use Rattle.record.specs.Layout.{little, number, part, recordLength}
+use Rattle.plane.specs.Numbers.{little, number}
+use Rattle.record.specs.Layout.{part, recordLength}
 use Rattle.record.specs.Records.{readOf}
 use Rattle.record.specs.RoundTrip.{Bytes}
 use Rattle.record.proofs.Parts.{length-part, part-append}
@@ -94,7 +95,7 @@ module _ (bs : List ℕ) (z : listFault bs .status ≡ 0) where
 
     -- their head says the count
     head-bytes : listHead (countIn bs) ≡ part 0 listHeadLength bs
-    head-bytes = head-is 82 77 76 bs _ b (good bs z .head) (good bs z .mark) (good bs z .version) count-bytes
+    head-bytes = head-is 82 77 76 1 bs _ b (good bs z .head) (good bs z .mark) (good bs z .version) count-bytes
 
     -- so they are a list
     pub opened-is : bs ≡ listHead (recordCount bs) ++ drop listHeadLength bs

@@ -12,27 +12,26 @@ use lib.ListN.{length, take, drop, length-append, length-drop, take-append-drop}
 use lib.Seq.{sets, sets-eq, length-take-le, take-all, take-at, drop-at, drop-drop, take-add, append-snoc}
 use Rattle.plane.specs.declared.Tensor.{Tensor}
 use Rattle.plane.specs.declared.Config.{Config}
-use Rattle.faults.proofs.Faults.{status}
 use Rattle.record.specs.declared.Reading.{Reading}
 use Rattle.record.specs.Layout.{part, recordLength}
-use Rattle.record.specs.Records.{recordBytes, fieldsFault, reading, readOf}
+use Rattle.record.specs.Records.{recordBytes, reading, readOf}
 use Rattle.record.specs.RoundTrip.{Fits, Bytes}
 use Rattle.record.proofs.Parts.{length-part, part-left, part-append}
 use Rattle.record.proofs.Digits.{bytes-part}
-use Rattle.record.proofs.Laying.{length-record}
-use Rattle.record.proofs.Answers.{write-fields, room-written}
+use Rattle.record.proofs.Answers.{room-written}
 use Rattle.record.proofs.RoundTrip.{record-back, write-back}
 use Rattle.list.specs.declared.Numbered.{Numbered}
 use Rattle.list.specs.Layout.{listHeadLength, most, listHead, listLength}
 use Rattle.list.specs.Lists.{listFault, recordCount, recordIn, recordAt}
-use Rattle.list.specs.Writers.{startFault, appendFault, appendOf, appendedBuffer}
+use Rattle.list.specs.Writers.{startFault, memberFault, appendFault, appendOf, appendedBuffer}
 use Rattle.list.specs.RoundTrip.{Move, moveAt, movesBytes, listBytes, numbered, movesFrom, movesIn}
 use Rattle.list.specs.RoundTrip.{Written, started, appended, appends, written}
 use Rattle.list.specs.RoundTrip.{WrittenReads, WrittenBytes, AcceptedWhere, ReadWrites, AppendReads}
 use Rattle.list.proofs.Answers.{at-in}
-use Rattle.list.proofs.Writing.{start-0, append-same, append-status, append-behind}
+use Rattle.list.proofs.Writing.{start-0, append-same, append-status, append-behind, append-member}
 use Rattle.list.proofs.Listing.{Sound, listed-opens, listed-count, listed-record, opened-ends, opened-is, opened-sound}
-use Rattle.list.proofs.Buffers.{Lies, start-lies, lies-taken, append-accepted, fields-accepted, append-lies}
+use Rattle.list.proofs.Buffers.{Lies, start-lies, lies-taken, append-accepted, append-lies}
+use Rattle.list.proofs.Members.{member-length, member-written, written-member}
 
 -- ---- moves
 
@@ -41,15 +40,22 @@ abbrev bytesOf : Move → List ℕ
 bytesOf m = recordBytes (m .tensor) (m .config)
 
 abbrev faultOf : Move → ℕ
-faultOf m = fieldsFault (m .tensor) (m .config) .status
+faultOf m = memberFault (m .tensor) (m .config) .status
 
 -- each of some moves is such
 abbrev Each : (Move → Type 0) → List Move → Type 0
 Each P ms = (k : ℕ) → k < length ms → P (moveAt ms k)
 
--- its record reads as the move
-abbrev Reads : Move → Type 0
-Reads m = readOf (bytesOf m) ≡ reading (m .tensor) (m .config)
+-- its record has 131 bytes, and reads as the move
+record Reads (m : Move) : Type 0 where
+  long : length (bytesOf m) ≡ recordLength
+  is : readOf (bytesOf m) ≡ reading (m .tensor) (m .config)
+
+reads : (m : Move) → Fits (m .tensor) (m .config) → faultOf m ≡ 0 → Reads m
+reads m f z = record {
+  long = member-length (m .tensor) (m .config) z;
+  is = record-back (m .tensor) (m .config) f (member-written (m .tensor) (m .config) z);
+}
 
 each-more : (P : Move → Type 0) (ms : List Move) (m : Move) → Each P ms → P m → Each P (ms ++ (m ∷ []))
 each-more P [] m h p zero q = p
@@ -67,15 +73,15 @@ bytes-more (x ∷ ms) m =
     ap (λ (bs : List ℕ). bytesOf x ++ bs) (bytes-more ms m) ∙ sym (append-assoc (bytesOf x) (movesBytes ms) (bytesOf m))
 
 -- each record is found where those before it end
-part-moves : (ms : List Move) (k : ℕ) → k < length ms → part (recordLength * k) recordLength (movesBytes ms) ≡ bytesOf (moveAt ms k)
+part-moves : (ms : List Move) (k : ℕ) → Each Reads ms → k < length ms → part (recordLength * k) recordLength (movesBytes ms) ≡ bytesOf (moveAt ms k)
 unfolding movesBytes
-part-moves [] k h = absurd (not-suc-le-zero h)
-part-moves (m ∷ ms) zero h = take-at (bytesOf m) (movesBytes ms) recordLength (length-record (m .tensor) (m .config))
-part-moves (m ∷ ms) (suc k) h =
-    let l = length-record (m .tensor) (m .config) in
+part-moves [] k r h = absurd (not-suc-le-zero h)
+part-moves (m ∷ ms) zero r h = take-at (bytesOf m) (movesBytes ms) recordLength (r 0 (omega arith) .long)
+part-moves (m ∷ ms) (suc k) r h =
+    let l = r 0 (omega arith) .long in
     let p : recordLength * suc k ≡ length (bytesOf m) + recordLength * k = omega arith in
     ap (λ (j : ℕ). part j recordLength (bytesOf m ++ movesBytes ms)) p ∙
-    part-append (bytesOf m) (movesBytes ms) (recordLength * k) recordLength ∙ part-moves ms k (omega arith)
+    part-append (bytesOf m) (movesBytes ms) (recordLength * k) recordLength ∙ part-moves ms k (λ j q. r (suc j) (omega arith)) (omega arith)
 
 -- ---- start and appends
 
@@ -117,7 +123,7 @@ module _ (w : Written) (m : Move) where
     appended-reads : Fits (m .tensor) (m .config) → Each Reads (w .moves) → Each Reads (appended w m .moves)
     appended-reads f r = elim (ℕ-discrete (refusal w m) 0) [
       | yes z ↦ subst (λ (v : Written). Each Reads (v .moves)) (sym (one-more z))
-          (each-more Reads (w .moves) m r (record-back (m .tensor) (m .config) f (fields-accepted buffer _ _ _ _ s (m .tensor) (m .config) z)))
+          (each-more Reads (w .moves) m r (reads m f (append-member (w .buffer) (w .length) (m .tensor) (m .config) z)))
       | no h ↦ subst (λ (v : Written). Each Reads (v .moves)) (sym (passed-over h)) r
     ]
 
@@ -158,7 +164,7 @@ written-reads buffer ms z f =
       ap (λ (bs : List ℕ). listFault bs .status) e ∙ listed-opens _ _ (s .sound),
       ap recordCount e ∙ listed-count _ _ (s .sound),
       λ k h. ap (λ (bs : List ℕ). recordAt bs k) e ∙ listed-record _ _ (s .sound) k h ∙
-          ap (λ (r : Reading). record { number = k; reading = r }) (ap readOf (part-moves (w .moves) k h) ∙ read k h),
+          ap (λ (r : Reading). record { number = k; reading = r }) (ap readOf (part-moves (w .moves) k read h) ∙ read k h .is),
     )
 
 -- the theorem: with room for all, and fields that are accepted, all calls are
@@ -176,17 +182,17 @@ length-from bs (suc n) k = ap suc (length-from bs n (k + 1))
 
 module _ (bs : List ℕ) (b : Bytes bs) (z : listFault bs .status ≡ 0) where
   -- the fields of a record that reads are accepted, and their bytes are the record
-  move-writes : (k : ℕ) → k < recordCount bs → recordAt bs k .reading .status ≡ 0 → let r = recordAt bs k .reading in (fieldsFault (r .tensor) (r .config) .status ≡ 0) × (recordBytes (r .tensor) (r .config) ≡ recordIn bs k)
+  move-writes : (k : ℕ) → k < recordCount bs → recordAt bs k .reading .status ≡ 0 → let r = recordAt bs k .reading in (memberFault (r .tensor) (r .config) .status ≡ 0) × (recordBytes (r .tensor) (r .config) ≡ recordIn bs k)
   move-writes k h y =
       let e = opened-ends bs z in
       let one = recordIn bs k in
       let l = length-part (listLength k) recordLength bs (omega arith) in
       let r : recordAt bs k .reading ≡ readOf one = ap (λ (n : Numbered). n .reading) (at-in bs k h) in
-      let w = write-back one one (bytes-part bs b (listLength k) recordLength) (ap (λ (n : Reading). n .status) (sym r) ∙ y) l in
+      let w = write-back one one (bytes-part bs b (listLength k) recordLength) (ap (λ (n : Reading). n .status) (sym r) ∙ y) refl in
       let t = readOf one .tensor in
       let c = readOf one .config in
-      subst (λ (n : Reading). (fieldsFault (n .tensor) (n .config) .status ≡ 0) × (recordBytes (n .tensor) (n .config) ≡ one)) (sym r)
-      (sym (status (write-fields t c (length one) l)) ∙ w .0, sym (room-written t c one (w .0)) ∙ w .1)
+      subst (λ (n : Reading). (memberFault (n .tensor) (n .config) .status ≡ 0) × (recordBytes (n .tensor) (n .config) ≡ one)) (sym r)
+      (written-member t c (length one) l (w .0), sym (room-written t c one (w .0)) ∙ w .1)
 
   module _ (good : (k : ℕ) → k < recordCount bs → recordAt bs k .reading .status ≡ 0) where
     -- where all read, the fields of each are accepted
@@ -240,13 +246,13 @@ module _ (n : ℕ) (body : List ℕ) (s : Sound n body) (t : Tensor) (c : Config
       sym (listed-record n body s k h)
 
   -- the last is the new one
-  last-reads : Fits t c → fieldsFault t c .status ≡ 0 → recordAt (listHead (suc n) ++ (body ++ recordBytes t c)) n ≡ numbered n (record { tensor = t; config = c })
-  last-reads f z =
-      let l = length-record t c in
+  last-reads : Reads (record { tensor = t; config = c }) → recordAt (listHead (suc n) ++ (body ++ recordBytes t c)) n ≡ numbered n (record { tensor = t; config = c })
+  last-reads r =
+      let l = r .long in
       listed-record (suc n) (body ++ recordBytes t c) s′ n (omega arith) ∙
       ap (λ (r : Reading). record { number = n; reading = r })
       (ap (λ (bs : List ℕ). readOf (take recordLength bs)) (drop-at body (recordBytes t c) (recordLength * n) (s .long)) ∙
-      ap readOf (take-all recordLength (recordBytes t c) (omega arith)) ∙ record-back t c f z)
+      ap readOf (take-all recordLength (recordBytes t c) (omega arith)) ∙ r .is)
 
 -- bytes at a buffer's start that open lie in it as a list
 old-lies : (buffer : List ℕ) (n : ℕ) → Bytes buffer → n ≤ length buffer → listFault (take n buffer) .status ≡ 0 → let old = take n buffer in Lies buffer (recordCount old) (drop listHeadLength old) buffer n
@@ -270,7 +276,7 @@ append-reads buffer n t c b f answer = (
   ap (λ (bs : List ℕ). listFault bs .status) is ∙ listed-opens (suc count) more (lies′ .sound),
   ap recordCount is ∙ listed-count (suc count) more (lies′ .sound) ∙ sym (add-one count),
   λ k h. ap (λ (bs : List ℕ). recordAt bs k) is ∙ before-same count body (lies .sound) t c (lies′ .sound) k h ∙ ap (λ (bs : List ℕ). recordAt bs k) (sym old-is),
-  ap (λ (bs : List ℕ). recordAt bs count) is ∙ last-reads count body (lies .sound) t c (lies′ .sound) f (fields-accepted buffer count body buffer n lies t c z),
+  ap (λ (bs : List ℕ). recordAt bs count) is ∙ last-reads count body (lies .sound) t c (lies′ .sound) (reads (record { tensor = t; config = c }) f (append-member buffer n t c z)),
 )
   where
     z : appendFault buffer n t c .status ≡ 0

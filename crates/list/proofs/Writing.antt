@@ -6,7 +6,7 @@ use mathlib.Core.Path.{_≡_, refl, sym, ap, _∙_}
 use mathlib.Core.Bool.{false}
 use mathlib.Core.List.{List, _++_, append-assoc}
 use borrow.Author.Tests.{ltb-false, lt-ltb, le-ltb, eq-eqb, ne-eqb}
-use borrow.Rule.Slice.PartMut.{midOf, putMid, put-same, post-is}
+use borrow.Rule.Slice.PartMut.{midOf, putMid, post-is}
 use lib.Dec.{ltb, eqb}
 use lib.ListN.{length, take, drop, length-drop}
 use lib.Seq.{sets, sets-eq, length-take-le}
@@ -15,16 +15,17 @@ use Rattle.faults.specs.Faults.{fault, when, _orElse_}
 use Rattle.faults.proofs.Faults.{status, is-fault, given, spared, passed, stopped, if-fault, if-none, or-clear, when-bad, when-good, when-clear}
 use Rattle.plane.specs.declared.Tensor.{Tensor}
 use Rattle.plane.specs.declared.Config.{Config}
-use Rattle.record.specs.Layout.{little, number, recordLength}
-use Rattle.record.specs.Records.{recordBytes, fieldsFault, writeFault, writtenRoom}
-use Rattle.record.proofs.Answers.{write-fields, room-kept, room-written}
+use Rattle.plane.specs.Numbers.{little, number}
+use Rattle.record.specs.Layout.{recordLength, lengthOf}
+use Rattle.record.specs.Records.{recordBytes, writeFault, writtenRoom}
+use Rattle.record.proofs.Answers.{write-fields, room-written}
 use Rattle.record.proofs.Parts.{part-part}
-use Rattle.record.proofs.Laying.{length-record}
 use Rattle.list.specs.declared.Appended.{Appended}
 use Rattle.list.specs.Layout.{listHeadLength, countPlace, most, listHead}
 use Rattle.list.specs.Lists.{countIn, listFault, recordCount}
-use Rattle.list.specs.Writers.{startFault, startedBuffer, appendFault, noAppend, appendOf, appendedBuffer}
+use Rattle.list.specs.Writers.{startFault, startedBuffer, memberFault, appendFault, noAppend, appendOf, appendedBuffer}
 use Rattle.list.proofs.Answers.{list-plain, good, count-given}
+use Rattle.list.proofs.Members.{version-one, member-length, member-written}
 
 -- ---- an empty list
 
@@ -79,6 +80,14 @@ module _ (buffer : List ℕ) (n : ℕ) (t : Tensor) (c : Config) where
       let x = or-clear (when 25 0 (ltb (length buffer) n)) _ z in
       (ltb-false (length buffer) n (when-clear 25 0 _ (omega arith) (x .0)), or-clear (listFault (take n buffer)) _ (x .1) .0)
 
+  -- and its fields are such as a list takes
+  pub append-member : appendFault buffer n t c .status ≡ 0 → memberFault t c .status ≡ 0
+  unfolding appendFault
+  append-member z =
+      let x = or-clear (when 25 0 (ltb (length buffer) n)) _ z .1 in
+      let y = or-clear (when 37 0 (eqb (recordCount (take n buffer)) most)) _ (or-clear (listFault (take n buffer)) _ x .1) .1 in
+      or-clear (when 38 0 (ltb (length buffer - n) recordLength)) _ y .1
+
   -- ---- as the code comes to it
 
   -- an answer, and the buffer after it
@@ -105,8 +114,8 @@ module _ (buffer : List ℕ) (n : ℕ) (t : Tensor) (c : Config) where
       pub head-within : listHeadLength ≤ n
       head-within = let g = good (take n buffer) listed .head in let l = length-take-le n buffer within in omega arith
 
-      -- what can be wrong behind it: 37, 38, 1 and 28
-      pub append-rest : appendFault buffer n t c ≡ (when 37 0 (eqb (recordCount (take n buffer)) most) orElse when 38 0 (ltb (length buffer - n) recordLength) orElse fieldsFault t c)
+      -- what can be wrong behind it: 37, 38, and what the fields have
+      pub append-rest : appendFault buffer n t c ≡ (when 37 0 (eqb (recordCount (take n buffer)) most) orElse when 38 0 (ltb (length buffer - n) recordLength) orElse memberFault t c)
       unfolding appendFault
       append-rest = spared 25 0 _ _ (le-ltb (length buffer) n within) ∙ passed _ refl listed
 
@@ -127,7 +136,7 @@ module _ (buffer : List ℕ) (n : ℕ) (t : Tensor) (c : Config) where
         append-38 h = append-rest ∙ spared 37 0 _ _ not-full ∙ given 38 0 _ _ (omega arith) (lt-ltb (length buffer - n) recordLength h)
 
         module _ (space : recordLength ≤ length buffer - n) where
-          append-fields : appendFault buffer n t c ≡ fieldsFault t c
+          pub append-fields : appendFault buffer n t c ≡ memberFault t c
           append-fields = append-rest ∙ spared 37 0 _ _ not-full ∙ spared 38 0 _ _ (le-ltb (length buffer - n) recordLength space)
 
           -- the part that is lent to the record's write
@@ -139,30 +148,23 @@ module _ (buffer : List ℕ) (n : ℕ) (t : Tensor) (c : Config) where
               let k : n + recordLength - n ≡ recordLength = omega arith in
               length-take-le (n + recordLength - n) (drop n buffer) (omega (arith, length-drop n buffer)) ∙ k
 
-          module _ {f : Fault} {l : List ℕ} (e : f ≡ writeFault t c (length Lent)) (w : l ≡ writtenRoom t c Lent) where
-            judged : appendFault buffer n t c ≡ f
-            judged = append-fields ∙ sym (write-fields t c (length Lent) lent-length) ∙ sym e
+          -- the write put the record behind the list
+          module _ (z : memberFault t c .status ≡ 0) {l : List ℕ} (w : l ≡ writtenRoom t c Lent) where
+            written : writeFault t c (length Lent) .status ≡ 0
+            written =
+                status (write-fields t c (length Lent) (lent-length ∙ sym (ap lengthOf (version-one t c z)))) ∙ member-written t c z
 
-            -- the write refused the fields: the buffer is as it was
-            pub fields-refused : {r : Appended} → (f .status ≡ 0 → ⊥) → r ≡ noAppend f → Answered r (putMid n (n + recordLength - n) buffer l)
-            fields-refused h q =
-                let a = stopped-at judged h q in
-                let same = w ∙ room-kept t c Lent (λ z. h (status e ∙ z)) in
-                (a .0, ap (putMid n (n + recordLength - n) buffer) same ∙ put-same n (n + recordLength - n) buffer ∙ a .1)
+            placed : putMid n (n + recordLength - n) buffer l ≡ sets buffer n (recordBytes t c)
+            placed =
+                let bs = recordBytes t c in
+                let long = member-length t c z in
+                let end : n + length bs ≡ n + recordLength = ap (λ (m : ℕ). n + m) long in
+                ap (putMid n (n + recordLength - n) buffer) (w ∙ room-written t c Lent written) ∙
+                ap (λ (rest : List ℕ). take n buffer ++ (bs ++ rest)) (post-is n (n + recordLength) buffer (omega arith) ∙ ap (λ (m : ℕ). drop m buffer) (sym end)) ∙
+                sym (append-assoc (take n buffer) bs (drop (n + length bs) buffer)) ∙
+                sym (sets-eq bs buffer n (omega arith))
 
-            -- the write put the record behind the list
-            module _ (z : f .status ≡ 0) where
-              placed : putMid n (n + recordLength - n) buffer l ≡ sets buffer n (recordBytes t c)
-              placed =
-                  let bs = recordBytes t c in
-                  let long = length-record t c in
-                  let end : n + length bs ≡ n + recordLength = ap (λ (m : ℕ). n + m) long in
-                  ap (putMid n (n + recordLength - n) buffer) (w ∙ room-written t c Lent (sym (status e) ∙ z)) ∙
-                  ap (λ (rest : List ℕ). take n buffer ++ (bs ++ rest)) (post-is n (n + recordLength) buffer (omega arith) ∙ ap (λ (m : ℕ). drop m buffer) (sym end)) ∙
-                  sym (append-assoc (take n buffer) bs (drop (n + length bs) buffer)) ∙
-                  sym (sets-eq bs buffer n (omega arith))
-
-              pub append-0 : {k : ℕ} {after : List ℕ} → k ≡ countIn buffer → after ≡ sets (putMid n (n + recordLength - n) buffer l) countPlace (little 2 (k + 1)) → Answered (record { status = 0; dim = 0; length = n + recordLength }) after
-              append-0 ke ae =
-                  let y = status judged ∙ z in
-                  (sym (append-told y), ae ∙ rw (placed, ke ∙ count-so-far) (sym (append-given y)))
+            pub append-0 : {k : ℕ} {after : List ℕ} → k ≡ countIn buffer → after ≡ sets (putMid n (n + recordLength - n) buffer l) countPlace (little 2 (k + 1)) → Answered (record { status = 0; dim = 0; length = n + recordLength }) after
+            append-0 ke ae =
+                let y = status append-fields ∙ z in
+                (sym (append-told y), ae ∙ rw (placed, ke ∙ count-so-far) (sym (append-given y)))

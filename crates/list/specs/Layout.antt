@@ -1,7 +1,8 @@
 -- The bytes of a list: a head of seven bytes, and then the records, one behind the other.
 use Prim.Native.Nat.{ℕ, _+_, _*_}
 use mathlib.Core.List.{List, [], _∷_, _++_}
-use Rattle.record.specs.Layout.{little, recordLength}
+use Rattle.plane.specs.Numbers.{little}
+use Rattle.record.specs.Layout.{recordLength}
 
 -- mark, version and count
 abbrev pub listHeadLength : ℕ

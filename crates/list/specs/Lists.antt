@@ -7,7 +7,8 @@ use lib.ListN.{length}
 use Rattle.faults.specs.declared.Fault.{Fault}
 use Rattle.faults.specs.Faults.{fault, when, _orElse_, ifFault}
 use Rattle.plane.specs.Arrays.{at, some}
-use Rattle.record.specs.Layout.{number, part, recordLength}
+use Rattle.plane.specs.Numbers.{number}
+use Rattle.record.specs.Layout.{part, recordLength}
 use Rattle.record.specs.Records.{noReading, readOf}
 use Rattle.list.specs.declared.Numbered.{Numbered}
 use Rattle.list.specs.Layout.{listHeadLength, listMark, listVersion, versionPlace, countPlace, listLength}

@@ -1,5 +1,6 @@
 -- The rules of each call on a list, in the paper's order.
 use Prim.Native.Nat.{ℕ, _-_}
+use mathlib.Core.Bool.{not}
 use mathlib.Core.List.{List, [], _∷_, _++_}
 use lib.Dec.{ltb, leb, eqb}
 use lib.ListN.{length, take}
@@ -23,12 +24,16 @@ recordRules bs k = whole 39 (leb (recordCount bs) k) ∷ readRules (recordIn bs 
 abbrev pub startRules : List ℕ → List Rule
 startRules buffer = whole 38 (ltb (length buffer) listHeadLength) ∷ []
 
--- behind a list that is not refused, in the first n bytes of a buffer: 37, 38, 1, 28
+-- the fields of a record that a list takes: 1 and 28, as of version 1, and last 27 for a fill
+abbrev pub memberRules : Tensor → Config → List Rule
+memberRules t c = fieldsRules 1 t c ++ (whole 27 (not (eqb (c .fill) 0)) ∷ [])
+
+-- behind a list that is not refused, in the first n bytes of a buffer: 37, 38, and those of the fields
 abbrev pub behindRules : List ℕ → ℕ → Tensor → Config → List Rule
 behindRules buffer n t c =
     whole 37 (eqb (recordCount (take n buffer)) most) ∷
     whole 38 (ltb (length buffer - n) recordLength) ∷
-    fieldsRules t c
+    memberRules t c
 
 -- append: 25 where the list is said to be longer than the buffer, those of the list, and then those behind it
 abbrev pub appendRules : List ℕ → ℕ → Tensor → Config → List Rule

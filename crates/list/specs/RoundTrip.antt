@@ -10,12 +10,12 @@ use Rattle.plane.specs.declared.Tensor.{Tensor}
 use Rattle.plane.specs.declared.Config.{Config}
 use Rattle.plane.specs.Planes.{zeroTensor}
 use Rattle.plane.specs.Settings.{zeroConfig}
-use Rattle.record.specs.Records.{recordBytes, fieldsFault, reading}
+use Rattle.record.specs.Records.{recordBytes, reading}
 use Rattle.record.specs.RoundTrip.{Fits, Bytes}
 use Rattle.list.specs.declared.Numbered.{Numbered}
 use Rattle.list.specs.Layout.{listHeadLength, most, listHead, listLength}
 use Rattle.list.specs.Lists.{listFault, recordCount, recordAt}
-use Rattle.list.specs.Writers.{startFault, startedBuffer, appendOf, appendedBuffer}
+use Rattle.list.specs.Writers.{startFault, startedBuffer, memberFault, appendOf, appendedBuffer}
 
 -- ---- Moves, and a list of them
 
@@ -104,7 +104,7 @@ WrittenBytes =
 abbrev pub AcceptedWhere : Type 0
 AcceptedWhere =
     (buffer : List ℕ) (ms : List Move) → length ms ≤ most → listLength (length ms) ≤ length buffer →
-    ((k : ℕ) → k < length ms → fieldsFault (moveAt ms k .tensor) (moveAt ms k .config) .status ≡ 0) →
+    ((k : ℕ) → k < length ms → memberFault (moveAt ms k .tensor) (moveAt ms k .config) .status ≡ 0) →
     (startFault buffer .status ≡ 0) × (written buffer ms .moves ≡ ms)
 
 -- bytes that open, and whose records all read, are what start and appends of those fields write, in any buffer that has room: every

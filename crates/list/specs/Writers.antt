@@ -1,5 +1,6 @@
 -- What start and append answer, and what they do to the buffer that is lent.
 use Prim.Native.Nat.{ℕ, _+_, _-_}
+use mathlib.Core.Bool.{not}
 use mathlib.Core.List.{List}
 use lib.Dec.{ltb, eqb}
 use lib.ListN.{length, take}
@@ -8,7 +9,8 @@ use Rattle.faults.specs.declared.Fault.{Fault}
 use Rattle.faults.specs.Faults.{when, _orElse_, ifFault}
 use Rattle.plane.specs.declared.Tensor.{Tensor}
 use Rattle.plane.specs.declared.Config.{Config}
-use Rattle.record.specs.Layout.{little, recordLength}
+use Rattle.plane.specs.Numbers.{little}
+use Rattle.record.specs.Layout.{recordLength}
 use Rattle.record.specs.Records.{recordBytes, fieldsFault}
 use Rattle.list.specs.declared.Appended.{Appended}
 use Rattle.list.specs.Layout.{listHeadLength, countPlace, most, listHead}
@@ -25,15 +27,19 @@ startedBuffer buffer = ifFault (startFault buffer) buffer (sets buffer 0 (listHe
 
 -- ---- One record more, behind the list that the first n bytes are
 
+-- the fields of a record that a list takes: 1 and 28, as of a record of version 1, and 27 for a fill, which version 1 does not have
+unfoldable pub memberFault : Tensor → Config → Fault
+memberFault t c = fieldsFault 1 t c orElse when 27 0 (not (eqb (c .fill) 0))
+
 -- 25 for a list said to be longer than the buffer, or for a list without a whole head; 26, 27, 30; 37 for a full list, 38 for no
--- room behind it; and then 1 and 28
+-- room behind it; and then those of the fields
 unfoldable pub appendFault : List ℕ → ℕ → Tensor → Config → Fault
 appendFault buffer n t c =
     when 25 0 (ltb (length buffer) n) orElse
     listFault (take n buffer) orElse
     when 37 0 (eqb (recordCount (take n buffer)) most) orElse
     when 38 0 (ltb (length buffer - n) recordLength) orElse
-    fieldsFault t c
+    memberFault t c
 
 -- a refused append tells no length
 abbrev pub noAppend : Fault → Appended

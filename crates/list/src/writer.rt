@@ -9,7 +9,7 @@ ghost use mathlib.Core.Path.{_≡_};
 ghost use Prim.Native.Nat.{_≤_};
 ghost use lib.ListN.{length};
 ghost use lib.Seq.{sets};
-ghost use Rattle.record.specs.Layout.{little};
+ghost use Rattle.plane.specs.Numbers.{little};
 ghost use Rattle.list.specs.Layout.{listHeadLength, countPlace};
 ghost use Rattle.list.specs.Writers.{startFault, startedBuffer, noAppend, appendOf, appendedBuffer};
 
@@ -50,8 +50,8 @@ fn refused(status: u8, dim: u8) -> Appended
     }
 }
 
-// One record more behind the list that the first length bytes of the buffer are, or 25 to 27, 30, 37, 38, 1 or 28 and the buffer
-// as it was. No record that the list has already is looked at.
+// One record more behind the list that the first length bytes of the buffer are, or 25 to 27, 30, 37, 38, 1, 28, or 27 for a fill,
+// and the buffer as it was. No record that the list has already is looked at.
 pub fn append(buffer: &mut [u8], length: usize, tensor: Tensor, config: Config) -> Appended
     ensures answered { λ r. ⌜ r ≡ appendOf (now (buffer .entry)) length tensor config ⌝ }
     ensures written { λ r. ⌜ now (buffer .exit) ≡ appendedBuffer (now (buffer .entry)) length tensor config ⌝ }
@@ -70,11 +70,15 @@ pub fn append(buffer: &mut [u8], length: usize, tensor: Tensor, config: Config) 
     if buffer.len() - length < record::LENGTH {
         return refused(38, 0);
     }
-    let end = length + record::LENGTH;
-    let f = record::write(tensor, config, &mut buffer[length..end]);
+    let f = record::fields_fault(layout::RECORDS, tensor, config);
     if f.status != 0 {
         return refused(f.status, f.dim);
     }
+    if config.fill != 0 {
+        return refused(27, 0);
+    }
+    let end = length + record::LENGTH;
+    record::write(tensor, config, &mut buffer[length..end]);
     put_count(buffer, count + 1);
     Appended {
         status: 0,

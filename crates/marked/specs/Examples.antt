@@ -3,7 +3,7 @@
 use Prim.Native.Nat.{ℕ, zero, suc}
 use mathlib.Core.Path.{_≡_}
 use mathlib.Core.List.{List, [], _∷_, _++_}
-use lib.ListN.{length, replicate}
+use lib.ListN.{length, set, replicate}
 use Rattle.plane.specs.declared.Tensor.{Tensor}
 use Rattle.plane.specs.declared.Config.{Config}
 use Rattle.plane.specs.declared.Answer.{Answer}
@@ -15,7 +15,7 @@ use Rattle.plane.specs.Arrays.{zeros}
 use Rattle.faults.specs.Faults.{fault}
 use Rattle.plane.specs.Moves.{refused, judgeOf, roomOf}
 use Rattle.ready_made.specs.ReadyMade.{defaults}
-use Rattle.plane.specs.Settings.{zeroConfig, withOffset, withSize, withStep, withDstOffset, withDstStride, withPerm, withPre, withPost}
+use Rattle.plane.specs.Settings.{zeroConfig, withOffset, withSize, withStep, withDstOffset, withDstStride, withPerm, withPre, withPost, withFill}
 use Rattle.plane.specs.Helpers.{noCount, countOf, subTensorOf}
 use Rattle.mover.specs.declared.Job.{Job}
 use Rattle.mover.specs.Moved.{moveMemory}
@@ -173,6 +173,15 @@ thinTransfer = record {
   config = thinConfig;
 }
 
+-- one byte, from byte 0 on, with a fill of 7 before and after it, to byte 1 on
+abbrev pub filledTransfer : Job
+filledTransfer = record {
+  source = record { start = 0; length = 1 };
+  destination = record { start = 1; length = 3 };
+  tensor = compact 1 1 (one 1);
+  config = withFill (withPost (withPre defaults (one 1)) (one 1)) 7;
+}
+
 -- the bytes 1..n
 abbrev pub upTo : ℕ → List ℕ
 upTo zero = []
@@ -194,7 +203,11 @@ turnRecord =
     (82 ∷ 77 ∷ 86 ∷ 1 ∷ 0 ∷ 2 ∷ 1 ∷ 2 ∷ 0 ∷ 0 ∷ 0 ∷ 3 ∷ []) ++ replicate 59 0 ++
     (1 ∷ 0 ∷ 0 ∷ 0 ∷ 1 ∷ []) ++ replicate 43 0 ++ (1 ∷ []) ++ replicate 11 0
 
--- that record as it is handed out under number k
+-- the same with 2 for its version
+abbrev pub filledRecord : List ℕ
+filledRecord = set turnRecord 3 2
+
+-- A's record as it is handed out under number k
 abbrev pub turnNumbered : ℕ → Numbered
 turnNumbered k = record { number = k; reading = reading turnTensor turnConfig }
 
@@ -354,12 +367,39 @@ table =
     poll 0 answers (0 ∷ 2 ∷ 4 ∷ []) ∷
     [])
     (upTo 10 ++ (0 ∷ 1 ∷ 3 ∷ 5 ∷ 0 ∷ 0 ∷ 99 ∷ 99 ∷ 99 ∷ 99 ∷ [])) ∷
+    -- ---- padding that isn't black. 67,305,985 is 4 x 2^24 + 3 x 2^16 + 2 x 2^8 + 1, so its bytes are 1 2 3 4, the lowest first
+    -- D with fill 128: 128 128 128 5 6 128
+    besides shows move (compact 2 1 (two 1 2)) (withFill (withPost (withPre defaults (two 1 0)) (two 0 1)) 128) (5 ∷ 6 ∷ []) (over 6)
+    (acceptedMove 2 1 (2 ∷ 3 ∷ 0 ∷ 0 ∷ []) (3 ∷ 1 ∷ 0 ∷ 0 ∷ []) 6) (128 ∷ 128 ∷ 128 ∷ 5 ∷ 6 ∷ 128 ∷ []) ∷
+    -- one element, one before it and one after: of the fill as many low bytes as the element size, and no move refuses the others
+    besides shows move (compact 1 1 (one 1)) (withFill (withPost (withPre defaults (one 1)) (one 1)) 67305985) (9 ∷ []) (over 3)
+    (acceptedMove 1 1 (3 ∷ 0 ∷ 0 ∷ 0 ∷ []) (1 ∷ 0 ∷ 0 ∷ 0 ∷ []) 3) (1 ∷ 9 ∷ 1 ∷ []) ∷
+    besides shows move (compact 1 2 (one 1)) (withFill (withPost (withPre defaults (one 1)) (one 1)) 67305985) (9 ∷ 8 ∷ []) (over 6)
+    (acceptedMove 1 2 (3 ∷ 0 ∷ 0 ∷ 0 ∷ []) (1 ∷ 0 ∷ 0 ∷ 0 ∷ []) 6) (1 ∷ 2 ∷ 9 ∷ 8 ∷ 1 ∷ 2 ∷ []) ∷
+    besides shows move (compact 1 4 (one 1)) (withFill (withPre defaults (one 1)) 67305985) (9 ∷ 8 ∷ 7 ∷ 6 ∷ []) (over 8)
+    (acceptedMove 1 4 (2 ∷ 0 ∷ 0 ∷ 0 ∷ []) (1 ∷ 0 ∷ 0 ∷ 0 ∷ []) 8) (1 ∷ 2 ∷ 3 ∷ 4 ∷ 9 ∷ 8 ∷ 7 ∷ 6 ∷ []) ∷
+    -- (2,1) 1 2 with a 7 after each row, by strides (3,1): the gap between the rows stays
+    besides shows move (compact 2 1 (two 2 1)) (withDstStride (withFill (withPost defaults (two 0 1)) 7) (two 3 1)) (1 ∷ 2 ∷ []) (over 5)
+    (acceptedMove 2 1 (2 ∷ 2 ∷ 0 ∷ 0 ∷ []) (3 ∷ 1 ∷ 0 ∷ 0 ∷ []) 5) (1 ∷ 7 ∷ 99 ∷ 2 ∷ 7 ∷ []) ∷
+    -- the same as a transfer, a step an element; released, the slot is all zero again, so that the table is sound and takes the next
+    besides shows transfers (5 ∷ over 3)
+    (prepare filledTransfer answers (0 ∷ 0 ∷ 0 ∷ []) ∷
+    start 0 answers (0 ∷ []) ∷
+    step 0 1 answers (0 ∷ 1 ∷ []) ∷
+    step 0 1 answers (0 ∷ 1 ∷ []) ∷
+    step 0 9 answers (0 ∷ 1 ∷ []) ∷
+    release 0 answers (0 ∷ []) ∷
+    prepare filledTransfer answers (0 ∷ 0 ∷ 0 ∷ []) ∷
+    [])
+    (5 ∷ 7 ∷ 5 ∷ 7 ∷ []) ∷
     -- ---- lists
     -- a list of no records; past the last it is 39, and 39 again
     besides shows list (headOf 0) 0 0 (noRecord ∷ noRecord ∷ []) ∷
     -- three records, the second all zeros, so without its mark: it has its number and 26, and the third is still read
     besides shows list (headOf 3 ++ turnRecord ++ replicate 131 0 ++ turnRecord) 0 3
     (turnNumbered 0 ∷ record { number = 1; reading = noReading (fault 26 0) } ∷ turnNumbered 2 ∷ noRecord ∷ noRecord ∷ []) ∷
+    -- a record whose version says 2: it has 131 bytes, which are not that version's length, so it is 27
+    besides shows list (headOf 1 ++ filledRecord) 0 1 (record { number = 0; reading = noReading (fault 27 0) } ∷ []) ∷
     -- a count that the bytes do not have, one more and one less: 30, and no records
     besides shows list (headOf 2 ++ turnRecord) 30 0 (noRecord ∷ []) ∷
     besides shows list (headOf 0 ++ turnRecord) 30 0 (noRecord ∷ []) ∷
@@ -381,4 +421,8 @@ table =
     (noAppend (fault 28 3)) (headOf 1 ++ over 262) ∷
     besides shows append (headOf 1 ++ over 262) 138 turnTensor turnConfig
     (record { status = 0; dim = 0; length = 269 }) (headOf 2 ++ over 131 ++ turnRecord) ∷
+    -- a fill, which a list does not hold: 27, after 28, and nothing changes
+    besides shows append (headOf 0 ++ over 131) 7 turnTensor (withFill turnConfig 128) (noAppend (fault 27 0)) (headOf 0 ++ over 131) ∷
+    besides shows append (headOf 0 ++ over 131) 7 turnTensor (withFill (withPre turnConfig (0 ∷ 0 ∷ 5 ∷ 0 ∷ [])) 128)
+    (noAppend (fault 28 2)) (headOf 0 ++ over 131) ∷
     []

@@ -13,7 +13,8 @@ use Rattle.mover.specs.Private.Elements.{sourceBytes}
 use Rattle.mover.specs.Private.Adding.{along}
 use Rattle.mover.specs.Private.Runs.{runStored, keptBytes, runCopied, Held, Readable, Writable}
 use Rattle.mover.proofs.Places.{apart-part}
-use Rattle.mover.proofs.Bytes.{copied-one, sized-some, sized-one, source-long, copy-more}
+use Rattle.plane.proofs.Sizes.{sized-some}
+use Rattle.mover.proofs.Bytes.{copied-one, sized-one, source-long, copy-more}
 use Rattle.mover.proofs.Adding.{along-none, along-next, along-on}
 
 -- ---- places
@@ -62,13 +63,13 @@ module _ (l a z : ℕ) (fa : a < 2 ^ 64) (fl : l < 2 ^ 64) where
 -- ---- bytes
 
 -- n elements of z bytes, side by side in source and destination
-abbrev sided : ℕ → ℕ → ℕ → ℕ → Course
-sided at to z n = record { at = at; jump = z; to = to; stride = z; size = z; n = n }
+abbrev sided : ℕ → ℕ → List ℕ → ℕ → ℕ → Course
+sided at to pad z n = record { at = at; jump = z; to = to; stride = z; size = z; pad = pad; n = n }
 
-module _ (s d : List ℕ) (at to : ℕ) (fs : length s < 2 ^ 64) where
+module _ (s d : List ℕ) (at to : ℕ) (pad : List ℕ) (fs : length s < 2 ^ 64) where
   -- the first m bytes stored
   abbrev stored : ℕ → List ℕ
-  stored m = runStored (keptBytes s (sided at to 1 m)) to 1 m d
+  stored m = runStored (keptBytes s (sided at to pad 1 m)) to 1 m d
 
   -- z bytes more are one element
   grow : (m z : ℕ) → along to 1 m + z < 2 ^ 64 → along at 1 m + z ≤ length s
@@ -83,7 +84,7 @@ module _ (s d : List ℕ) (at to : ℕ) (fs : length s < 2 ^ 64) where
       ∙ copy-more (stored m) s (along at 1 m) (along to 1 m) z (omega arith)
       ∙ rw add-one)
 
-  bytes-run : (l z n : ℕ) → l < 2 ^ 64 → Held (length s) at z z n → Held l to z z n → stored (n * z) ≡ runStored (keptBytes s (sided at to z n)) to z n d
+  bytes-run : (l z n : ℕ) → l < 2 ^ 64 → Held (length s) at z z n → Held l to z z n → stored (n * z) ≡ runStored (keptBytes s (sided at to pad z n)) to z n d
   unfolding runStored
   bytes-run l z zero fl h g = rw zero-mul
   bytes-run l z (suc n) fl h g =
@@ -94,7 +95,7 @@ module _ (s d : List ℕ) (at to : ℕ) (fs : length s < 2 ^ 64) where
 -- ---- a run side by side, as a run of bytes
 
 abbrev pub blockOf : Course → Course
-blockOf c = record { at = c .at; jump = 1; to = c .to; stride = 1; size = 1; n = c .n * c .size }
+blockOf c = record { at = c .at; jump = 1; to = c .to; stride = 1; size = 1; pad = c .pad; n = c .n * c .size }
 
 pub record Block (o : Origin) (s d : List ℕ) (c : Course) : Type 0 where
   pub fits : c .n * c .size < 2 ^ 64
@@ -103,9 +104,9 @@ pub record Block (o : Origin) (s d : List ℕ) (c : Course) : Type 0 where
   pub next : along (c .to) 1 (c .n * c .size) ≡ along (c .to) (c .stride) (c .n)
   pub copied : runCopied o s d (blockOf c) ≡ runCopied o s d c
 
-sided-block : (o : Origin) (s d : List ℕ) (at to z n : ℕ) → at < 2 ^ 64 → to < 2 ^ 64 → length s + length d < 2 ^ 64
-    → Writable d (sided at to z n) → Readable o s d (sided at to z n) → Block o s d (sided at to z n)
-sided-block o s d at to z n fa ft f w r =
+sided-block : (o : Origin) (s d : List ℕ) (at to : ℕ) (pad : List ℕ) (z n : ℕ) → at < 2 ^ 64 → to < 2 ^ 64 → length s + length d < 2 ^ 64
+    → Writable d (sided at to pad z n) → Readable o s d (sided at to pad z n) → Block o s d (sided at to pad z n)
+sided-block o s d at to pad z n fa ft f w r =
     let p = sized-some z (w .sized) in
     let v = sourceBytes o s d in
     let long : length v < 2 ^ 64 = omega (arith, source-long o s d) in
@@ -122,12 +123,12 @@ sided-block o s d at to z n fa ft f w r =
             (apart-part o (r .parted (i / z) (k / z) (div-lt-iff-lt-mul p .1 hi) (div-lt-iff-lt-mul p .1 hk)) (omega arith) (omega arith) (omega arith) (omega arith));
       };
       next = sym (along-unit to z n);
-      copied = bytes-run v d at to long (length d) z n room (r .held) (w .held);
+      copied = bytes-run v d at to pad long (length d) z n room (r .held) (w .held);
     }
 
 pub block : (o : Origin) (s d : List ℕ) (c : Course) → c .at < 2 ^ 64 → c .to < 2 ^ 64 → length s + length d < 2 ^ 64
     → Writable d c → Readable o s d c → c .jump ≡ c .size → c .stride ≡ c .size → Block o s d c
 block o s d c fa ft f w r e g =
-    let same : c ≡ sided (c .at) (c .to) (c .size) (c .n) = λ i. record { at = c .at; jump = e i; to = c .to; stride = g i; size = c .size; n = c .n } in
+    let same : c ≡ sided (c .at) (c .to) (c .pad) (c .size) (c .n) = λ i. record { at = c .at; jump = e i; to = c .to; stride = g i; size = c .size; pad = c .pad; n = c .n } in
     subst (λ (y : Course). Block o s d y) (sym same)
-    (sided-block o s d (c .at) (c .to) (c .size) (c .n) fa ft f (subst (λ (y : Course). Writable d y) same w) (subst (λ (y : Course). Readable o s d y) same r))
+    (sided-block o s d (c .at) (c .to) (c .pad) (c .size) (c .n) fa ft f (subst (λ (y : Course). Writable d y) same w) (subst (λ (y : Course). Readable o s d y) same r))

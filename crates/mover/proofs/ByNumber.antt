@@ -6,14 +6,14 @@ use Prim.Native.Nat.{ℕ, zero, suc, _+_, _-_, _*_, _/_, _≤_, _<_}
 use native.Mathlib.Nat.{add-zero, add-suc, add-assoc, div-add-mod', mod-lt, div-lt-iff-lt-mul}
 use native.Mathlib.Omega.{arith}
 use lib.Arith.{digits-lt, digits-div, digits-mod}
-use lib.ListN.{length, getD, drop, replicate}
+use lib.ListN.{length, getD, drop}
 use lib.Seq.{length-sets}
 use Rattle.mover.specs.declared.plan.Plan.{Plan}
 use Rattle.mover.specs.declared.elements.Origin.{Origin}
 use Rattle.mover.specs.declared.elements.Origin.the-variants.{Lent, Inside}
-use Rattle.mover.specs.Private.Elements.{sourceBytes, planKept, placeOf, homeOf, planBytes, putAt, co0, co1, co2, co3, putNumber, planTotal, movedBy}
+use Rattle.mover.specs.Private.Elements.{sourceBytes, planKept, placeOf, homeOf, padding, planBytes, putAt, co0, co1, co2, co3, putNumber, planTotal, movedBy}
 use Rattle.mover.specs.Private.Ready.{placeEnd, GoodAxes, Ready, InExtents}
-use Rattle.mover.proofs.Bytes.{getD-sets-out, length-cond, pick-same, bytes-same}
+use Rattle.mover.proofs.Bytes.{getD-sets-out, length-take-most, length-cond, pick-same, bytes-same}
 use Rattle.mover.proofs.Places.{place-least, place-most, home-least, home-most, axis-some}
 
 -- ---- movedBy
@@ -109,7 +109,7 @@ module _ (p : Plan) (g : GoodAxes p) where
 module _ (p : Plan) (s : List ℕ) where
   pub length-bytes : (c0 c1 c2 c3 : ℕ) → length (planBytes p s c0 c1 c2 c3) ≤ p .size
   unfolding planBytes
-  length-bytes c0 c1 c2 c3 = length-cond (planKept p c0 c1 c2 c3) (p .size) (drop (homeOf p c0 c1 c2 c3) s)
+  length-bytes c0 c1 c2 c3 = length-cond (planKept p c0 c1 c2 c3) (p .size) (drop (homeOf p c0 c1 c2 c3) s) _ (length-take-most (p .size) _)
 
   put-out : {c0 c1 c2 c3 : ℕ} (d : List ℕ) (k : ℕ) → InExtents p c0 c1 c2 c3 → (k < p .base) ⊎ (placeEnd p ≤ k)
       → getD (putAt p s c0 c1 c2 c3 d) k 0 ≡ getD d k 0
@@ -135,7 +135,7 @@ pub source-same : (o : Origin) (p : Plan) (s d : List ℕ) (from n c0 c1 c2 c3 :
 unfolding planBytes
 source-same Lent p s d from n c0 c1 c2 c3 r m = refl
 source-same Inside p s d from n c0 c1 c2 c3 r m =
-    pick-same (planKept p c0 c1 c2 c3) (replicate (p .size) 0)
+    pick-same (planKept p c0 c1 c2 c3) (padding (p .size) (p .pad))
     (λ t.
     let a = home-least p c0 c1 c2 c3 in
     let b = home-most p c0 c1 c2 c3 t in

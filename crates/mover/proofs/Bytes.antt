@@ -1,20 +1,17 @@
 -- Laws of bytes stored at a place, `sets`, and of an element's. Assumes nothing.
 use mathlib.Core.Path.{_≡_, refl, sym, _∙_}
 use mathlib.Core.Logic.{_⊎_, ⊎-elim, inl, inr}
-use mathlib.Core.Bool.{Bool, true, false, _||_, cond}
+use mathlib.Core.Bool.{Bool, true, false, cond}
 use mathlib.Core.List.{List, [], _∷_, _++_}
 use Prim.Native.Nat.{ℕ, suc, _+_, _≤_, _<_}
 use native.Mathlib.Nat.{min-le-left, add-zero, add-suc, suc-add}
 use native.Mathlib.Numerals.{add-one}
 use native.Mathlib.Omega.{arith}
-use borrow.Author.Tests.{eqb-true}
-use lib.Dec.{eqb}
-use lib.ListN.{length, getD, set, take, drop, replicate, length-take, length-drop, length-replicate}
+use lib.ListN.{length, getD, set, take, drop, length-take, length-drop}
 use lib.Seq.{sets, getD-set-other, ext-getD, length-take-le, getD-take, take-suc, getD-drop}
-use Rattle.faults.proofs.Bools.{either-cases}
 use Rattle.mover.specs.declared.elements.Origin.{Origin}
 use Rattle.mover.specs.declared.elements.Origin.the-variants.{Lent, Inside}
-use Rattle.mover.specs.Private.Elements.{sourceBytes}
+use Rattle.mover.specs.Private.Elements.{sourceBytes, padding}
 use Rattle.mover.specs.Private.Runs.{Sized}
 
 -- what is stored elsewhere leaves a byte as it was
@@ -23,28 +20,6 @@ getD-sets-out [] l i k h = refl
 getD-sets-out (v ∷ vs) l i k h =
     getD-sets-out vs (set l i v) (suc i) k (⊎-elim (λ a. inl (omega arith)) (λ b. inr (omega arith)) h)
     ∙ getD-set-other l i k v 0 (λ e. ⊎-elim {C = ⊥} (λ a. omega arith) (λ b. omega arith) h)
-
--- ---- the sizes of an element
-
-by-size : (z : ℕ) → Sized z → (z ≡ 1) ⊎ ((z ≡ 2) ⊎ (z ≡ 4))
-by-size z h = by-test (eqb z 1 || eqb z 2 || eqb z 4) refl
-  where
-    by-test : (b : Bool) → (eqb z 1 || eqb z 2 || eqb z 4) ≡ b → (z ≡ 1) ⊎ ((z ≡ 2) ⊎ (z ≡ 4))
-    by-test false e = absurd (h (simp e))
-    by-test true e =
-        ⊎-elim
-        (λ r. ⊎-elim (λ q. inl (eqb-true z 1 q)) (λ q. inr (inl (eqb-true z 2 q))) (either-cases _ _ r))
-        (λ q. inr (inr (eqb-true z 4 q)))
-        (either-cases _ _ e)
-
-pub sized-some : (z : ℕ) → Sized z → 1 ≤ z
-sized-some z h = ⊎-elim (λ a. omega arith) (λ r. ⊎-elim (λ b. omega arith) (λ c. omega arith) r) (by-size z h)
-
-pub sized-two : (z : ℕ) → Sized z → (z ≡ 1 → ⊥) → 2 ≤ z
-sized-two z h n = ⊎-elim (λ a. absurd (n a)) (λ r. ⊎-elim (λ b. omega arith) (λ c. omega arith) r) (by-size z h)
-
-pub sized-four : (z : ℕ) → Sized z → (z ≡ 1 → ⊥) → (z ≡ 2 → ⊥) → z ≡ 4
-sized-four z h n m = ⊎-elim (λ a. absurd (n a)) (λ r. ⊎-elim (λ b. absurd (m b)) (λ c. c) r) (by-size z h)
 
 pub sized-one : Sized 1
 sized-one e = omega arith
@@ -78,12 +53,13 @@ module _ (d s : List ℕ) (at to : ℕ) where
       → set (set (set (set d to (getD s at 0)) (to + 1) (getD s (at + 1) 0)) (to + 2) (getD s (at + 2) 0)) (to + 3) (getD s (at + 3) 0) ≡ sets d to (take 4 (drop at s))
   copied-four h = rw (copied-three (omega arith)) (copy-more d s at to 3 (omega arith))
 
-module _ (d : List ℕ) (to : ℕ) where
-  pub cleared-two : set (set d to 0) (to + 1) 0 ≡ sets d to (replicate 2 0)
-  cleared-two = rw add-one
+-- the first of four bytes
+module _ (d : List ℕ) (to : ℕ) (four : List ℕ) where
+  pub padded-two : set (set d to (getD four 0 0)) (to + 1) (getD four 1 0) ≡ sets d to (padding 2 four)
+  padded-two = rw add-one
 
-  pub cleared-four : set (set (set (set d to 0) (to + 1) 0) (to + 2) 0) (to + 3) 0 ≡ sets d to (replicate 4 0)
-  cleared-four =
+  pub padded-four : set (set (set (set d to (getD four 0 0)) (to + 1) (getD four 1 0)) (to + 2) (getD four 2 0)) (to + 3) (getD four 3 0) ≡ sets d to (padding 4 four)
+  padded-four =
       let p : to + 1 ≡ suc to = omega arith in
       let q : to + 2 ≡ suc (suc to) = omega arith in
       let r : to + 3 ≡ suc (suc (suc to)) = omega arith in
@@ -97,9 +73,9 @@ pub source-long : (o : Origin) (s d : List ℕ) → length (sourceBytes o s d) �
 source-long Lent s d = omega arith
 source-long Inside s d = omega arith
 
-pub length-cond : (b : Bool) (z : ℕ) (l : List ℕ) → length (cond b (take z l) (replicate z 0)) ≤ z
-length-cond true z l = length-take-most z l
-length-cond false z l = rw length-replicate (omega arith)
+pub length-cond : (b : Bool) (z : ℕ) (l m : List ℕ) → length m ≤ z → length (cond b (take z l) m) ≤ z
+length-cond true z l m h = length-take-most z l
+length-cond false z l m h = h
 
 -- lists of one length that agree over some bytes have them in common
 pub bytes-same : (l m : List ℕ) (at z : ℕ) → length l ≡ length m → ((k : ℕ) → at ≤ k → k < at + z → getD l k 0 ≡ getD m k 0)

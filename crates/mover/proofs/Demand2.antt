@@ -9,7 +9,7 @@ use mathlib.Core.Path.{_≡_, refl, sym, subst, _∙_}
 use mathlib.Core.Logic.{_⊎_, ⊎-elim, inl, inr}
 use mathlib.Core.Bool.{Bool, true, false, true≢false}
 use mathlib.Core.List.{List}
-use lib.ListN.{length, getD, take, drop, replicate, length-drop, length-replicate, getD-replicate}
+use lib.ListN.{length, getD, take, drop, length-drop}
 use lib.Seq.{ext-getD, getD-take, getD-drop, length-take-le}
 use Rattle.plane.specs.declared.Tensor.{Tensor}
 use Rattle.plane.specs.declared.Config.{Config}
@@ -18,14 +18,14 @@ use Rattle.plane.specs.Planes.{span}
 use Rattle.plane.specs.Moves.{count}
 use Rattle.plane.proofs.Arrays.{every-all, every-each, every-fails}
 use Rattle.plane.specs.Good.{GoodConfig, GoodMove}
-use Rattle.mover.specs.Element.{dimOf, kOf, isKept, areKept, sourcePlace, element}
+use Rattle.mover.specs.Element.{dimOf, kOf, isKept, areKept, sourcePlace, padded, element}
 use Rattle.mover.specs.Moved.{total, coordOf, moved, moveMemory}
 use Rattle.mover.specs.Demand2.{IsCoordinate, KeptAt, endAt, sourceByte, Spares, InPlaceAt, Meant, FirstsMeant, Accepted, AcceptedMeant, AcceptedOnly, AcceptedFirsts, AcceptedFirstsOnly, RefusedKept}
 use Rattle.mover.proofs.Laws.{judged, judged-good, moved-length, moved-whole, moved-refused}
 use Rattle.mover.proofs.Keeping.{range-test, test-range, place-same, source-same}
 use Rattle.mover.proofs.Fitting.{home-fits, place-fits}
 use Rattle.mover.proofs.Spacing.{numberAt, numberAt-lt, numberAt-coord, coord-below, bytes-rise, bytes-apart}
-use Rattle.mover.proofs.Stored.{byteOf, moved-elsewhere, moved-element}
+use Rattle.mover.proofs.Stored.{byteOf, length-padded, moved-elsewhere, moved-element}
 
 -- ---- the test of what is kept says what is claimed, and the bytes of an element
 
@@ -62,7 +62,7 @@ module _ (t : Tensor) (c : Config) (x : ℕ → ℕ) where
     unfolding element
     element-kept e = rw e
 
-    element-pad : areKept t c x ≡ false → element t c src x ≡ replicate (t .«element_size») 0
+    element-pad : areKept t c x ≡ false → element t c src x ≡ padded t c
     unfolding element
     element-pad e = rw e
 
@@ -74,13 +74,13 @@ module _ (t : Tensor) (c : Config) (x : ℕ → ℕ) where
         by-test true e =
             let w = source-within g (each-kept e) in
             rw (element-kept e) (length-take-le (t .«element_size») (drop (sourceByte t c x) src) (rw length-drop (omega arith)))
-        by-test false e = rw (element-pad e) (length-replicate (t .«element_size») 0)
+        by-test false e = rw (element-pad e) (length-padded t c)
 
     kept-byte : (b : ℕ) → b < t .«element_size» → areKept t c x ≡ true → getD (element t c src x) b 0 ≡ getD src (sourceByte t c x + b) 0
     kept-byte b h e = rw (element-kept e, getD-take, getD-drop)
 
-    pad-byte : (b : ℕ) → b < t .«element_size» → areKept t c x ≡ false → getD (element t c src x) b 0 ≡ 0
-    pad-byte b h e = rw (element-pad e, getD-replicate)
+    pad-byte : (b : ℕ) → areKept t c x ≡ false → getD (element t c src x) b 0 ≡ getD (padded t c) b 0
+    pad-byte b e = rw (element-pad e)
 
 -- coordinates that are the same below the rank have one element
 same-in-place : (t : Tensor) (c : Config) (src e : List ℕ) (y x : ℕ → ℕ) → ((i : ℕ) → i < t .rank → y i ≡ x i) → InPlaceAt t c src e y → InPlaceAt t c src e x
@@ -89,7 +89,7 @@ same-in-place t c src e y x same m =
     record {
       inside = rw p at (m .inside);
       source = λ k b h. rw (p, source-same t c y x same) at (m .source (λ i l. rw (same i l) (k i l)) b h);
-      zeros = λ i l a b h. rw p at (m .zeros i l (λ k. a (rw (same i l) at k)) b h);
+      filled = λ i l a b h. rw p at (m .filled i l (λ k. a (rw (same i l) at k)) b h);
     }
 
 -- ---- the first n elements of an accepted move
@@ -124,7 +124,7 @@ module _ (t : Tensor) (c : Config) (src dst : List ℕ) (g : GoodMove t c (lengt
                     let s = source-within t c x (g .config) a in
                     let m = g .long in
                     (omega arith, element-at q b k h ∙ kept-byte t c x src b h (all-kept t c x a));
-                zeros = λ i l a b h. element-at q b k h ∙ pad-byte t c x src b h (not-kept t c x i l a);
+                filled = λ i l a b h. element-at q b k h ∙ pad-byte t c x src b (not-kept t c x i l a);
               };
           apart = λ q r k m. bytes-rise (g .source) (g .config) (g .destination) q r k (omega arith);
           rest = λ k h. moved-elsewhere t c src 0 n dst k (λ q l. rw zero-add (h q l));
@@ -188,7 +188,7 @@ module _ (t : Tensor) (c : Config) (src dst : List ℕ) (n : ℕ) (e f : List �
     where
       by-test : (d : Bool) → areKept t c (coordOf t c q) ≡ d → getD e (byteOf t c q + b) 0 ≡ getD f (byteOf t c q + b) 0
       by-test true k = let a = each-kept t c (coordOf t c q) k in m .placed q l .source a b h .1 ∙ sym (o .placed q l .source a b h .1)
-      by-test false k = let a = one-not-kept t c (coordOf t c q) k in m .placed q l .zeros (a .0) (a .1) (a .2) b h ∙ sym (o .placed q l .zeros (a .0) (a .1) (a .2) b h)
+      by-test false k = let a = one-not-kept t c (coordOf t c q) k in m .placed q l .filled (a .0) (a .1) (a .2) b h ∙ sym (o .placed q l .filled (a .0) (a .1) (a .2) b h)
 
   same-byte : (k : ℕ) → getD e k 0 ≡ getD f k 0
   unfolding Owns

@@ -1,11 +1,11 @@
 -- A plan as the code makes it is the plan of the move: bounds of its numbers, what acceptance gives, and the axes. Assumes nothing.
-use Prim.Native.Nat.{ℕ, _+_, _-_, _*_, _^_, _≤_, _<_}
+use Prim.Native.Nat.{ℕ, _+_, _-_, _*_, _/_, _%_, _^_, _≤_, _<_}
 use native.Mathlib.Nat.{mul-le-mul}
 use native.Mathlib.Decide.{decLt}
 use native.Mathlib.Omega.{arith}
 use mathlib.Core.Path.{_≡_, sym, ap, ap₂, subst, _∙_}
 use mathlib.Core.Bool.{cond}
-use mathlib.Core.List.{List}
+use mathlib.Core.List.{List, [], _∷_}
 use borrow.Author.Tests.{lt-ltb, le-ltb}
 use lib.Dec.{ltb}
 use Rattle.plane.specs.declared.Tensor.{Tensor}
@@ -13,6 +13,7 @@ use Rattle.plane.specs.declared.Config.{Config}
 use Rattle.plane.specs.declared.Source.{Source}
 use Rattle.plane.specs.declared.Answer.{Answer}
 use Rattle.plane.specs.Arrays.{at, sum}
+use Rattle.plane.specs.Numbers.{little}
 use Rattle.plane.specs.Planes.{srcStrides, sourceOf}
 use Rattle.plane.specs.Moves.{count, extent, dstExtents, roomFault, accepted}
 use Rattle.plane.proofs.Arrays.{firsts-at}
@@ -24,6 +25,14 @@ use Rattle.plane.proofs.Rules.{dst-extent, its-fault, its-strides}
 use Rattle.mover.specs.declared.plan.Axis.{Axis}
 use Rattle.mover.specs.Element.{dimOf}
 use Rattle.mover.specs.Private.Plans.{axisOf, axisAt, planOf, lone, axisMade, Fit}
+
+-- four bytes divided out of a number that has no more are its low bytes
+pub bytes-little : (n : ℕ) → n < 2 ^ 32 → n % 256 ∷ n / 256 % 256 ∷ n / 65536 % 256 ∷ n / 16777216 ∷ [] ≡ little 4 n
+unfolding little
+bytes-little n h =
+    let a : n / 65536 ≡ n / 256 / 256 = omega arith in
+    let b : n / 16777216 ≡ n / 256 / 256 / 256 % 256 = omega arith in
+    λ i. n % 256 ∷ n / 256 % 256 ∷ a i % 256 ∷ b i ∷ []
 
 -- a sum of at most four offsets times strides, times an element size
 pub bytes-fit : (x n z : ℕ) → n ≤ 4 → z ≤ 4 → x ≤ n * (65535 * 4294967295) → x * z < 2 ^ 64
@@ -102,14 +111,15 @@ module _ (t : Tensor) (c : Config) (z : roomFault t c .status ≡ 0) where
           ap₂ (λ (a : Answer) (s : List ℕ). cond (ltb j (4 - a .rank)) lone (axisMade c a s (j - (4 - a .rank)))) ea es ∙
           at-made room-source room-config j l
 
-      pub plan-is : {h b : ℕ} {d0 d1 d2 d3 : Axis} →
+      pub plan-is : {pad : List ℕ} {h b : ℕ} {d0 d1 d2 d3 : Axis} →
+          pad ≡ little 4 (c .fill) →
           h ≡ sum (a .rank) (λ i. at (c .offset) (dimOf c i) * at strides (dimOf c i)) * a .«element_size» →
           b ≡ sum (a .rank) (λ i. at (c .«dst_offset») i * at (a .stride) i) * a .«element_size» →
           d0 ≡ axisAt t c 0 → d1 ≡ axisAt t c 1 → d2 ≡ axisAt t c 2 → d3 ≡ axisAt t c 3 →
-          record { size = a .«element_size»; home = h; base = b; d0 = d0; d1 = d1; d2 = d2; d3 = d3 } ≡ planOf t c
+          record { size = a .«element_size»; pad = pad; home = h; base = b; d0 = d0; d1 = d1; d2 = d2; d3 = d3 } ≡ planOf t c
       unfolding planOf
-      plan-is eh eb e0 e1 e2 e3 =
+      plan-is ep eh eb e0 e1 e2 e3 =
           let z = ap (λ (a : Answer). a .«element_size») ea in
           let h = eh ∙ ap₂ (λ (a : Answer) (s : List ℕ). sum (a .rank) (λ i. at (c .offset) (dimOf c i) * at s (dimOf c i)) * a .«element_size») ea es in
           let b = eb ∙ ap (λ (a : Answer). sum (a .rank) (λ i. at (c .«dst_offset») i * at (a .stride) i) * a .«element_size») ea in
-          λ x. record { size = z x; home = h x; base = b x; d0 = e0 x; d1 = e1 x; d2 = e2 x; d3 = e3 x }
+          λ x. record { size = z x; pad = ep x; home = h x; base = b x; d0 = e0 x; d1 = e1 x; d2 = e2 x; d3 = e3 x }

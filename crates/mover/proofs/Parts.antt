@@ -5,12 +5,12 @@ use mathlib.Core.List.{List, [], _∷_, _++_, append-assoc}
 use Prim.Native.Nat.{ℕ, zero, suc, _+_, _-_, _≤_, _<_, min}
 use native.Mathlib.Nat.{add-suc, suc-add, zero-add, add-assoc, min-le-right}
 use native.Mathlib.Omega.{arith}
-use lib.ListN.{length, set, getD, take, drop, replicate, length-set, length-drop, take-append-drop}
+use lib.ListN.{length, set, getD, take, drop, length-set, length-drop, take-append-drop}
 use mathlib.Core.Logic.{_⊎_, ⊎-elim, inl, inr}
 use Rattle.mover.specs.declared.elements.Origin.the-variants.{Lent, Inside}
 use lib.Seq.{sets-eq, set-set, set-comm, drop-at, take-append-seam, sets, length-sets, set-append-left, ext-getD, getD-take, getD-drop, length-take-le, drop-drop}
 use Rattle.mover.specs.declared.plan.Plan.{Plan}
-use Rattle.mover.specs.Private.Elements.{planKept, summed, placeOf, homeOf, planBytes, putAt, co0, co1, co2, co3, putNumber, planTotal, movedBy}
+use Rattle.mover.specs.Private.Elements.{planKept, summed, placeOf, homeOf, padding, planBytes, putAt, co0, co1, co2, co3, putNumber, planTotal, movedBy}
 use Rattle.mover.specs.Private.Runs.{BytesApart}
 use Rattle.mover.specs.Private.Ready.{homeEnd, placeEnd, placedAt, GoodAxes, InExtents, Ready}
 use Rattle.mover.proofs.Bytes.{length-take-most, getD-sets-out, pick-same, bytes-same}
@@ -61,7 +61,7 @@ module _ (p : Plan) (a b : ℕ) where
       → planBytes (placedAt a b p) m c0 c1 c2 c3 ≡ planBytes p (bytesAt m a l) c0 c1 c2 c3
   unfolding planBytes planKept placedAt
   placed-bytes m l c0 c1 c2 c3 w e =
-      pick-same (planKept p c0 c1 c2 c3) (replicate (p .size) 0)
+      pick-same (planKept p c0 c1 c2 c3) (padding (p .size) (p .pad))
       (λ k. rw (placed-home c0 c1 c2 c3) (bytes-within m a l (homeOf p c0 c1 c2 c3) (p .size) w (omega (arith, home-most p c0 c1 c2 c3 k))))
 
   placed-put : (m x d y : List ℕ) (l c0 c1 c2 c3 : ℕ) → a + l ≤ length m → homeEnd p ≤ l → length x ≡ b → placeEnd p ≤ length d → InExtents p c0 c1 c2 c3

@@ -13,17 +13,20 @@ use lib.ListN.{length}
 use Rattle.plane.specs.declared.Tensor.{Tensor}
 use Rattle.plane.specs.declared.Config.{Config}
 use Rattle.plane.specs.Arrays.{at, sum, product, every}
+use Rattle.plane.specs.Numbers.{little}
 use Rattle.plane.specs.Planes.{srcStrides, span}
 use Rattle.plane.specs.Moves.{count, dstStrides, need}
 use Rattle.plane.specs.Good.{GoodSource, GoodConfig}
 use Rattle.plane.proofs.Rules.{count-positive, dst-extent}
+use Rattle.plane.proofs.Numbers.{take-little}
+use Rattle.plane.proofs.Bounds.{element-small}
 use Rattle.mover.specs.declared.elements.Origin.the-variants.{Lent}
 use Rattle.mover.specs.declared.plan.Axis.{Axis}
 use Rattle.mover.specs.declared.plan.Plan.{Plan}
-use Rattle.mover.specs.Element.{dimOf, kOf, isKept, areKept, sourcePlace, place, element}
+use Rattle.mover.specs.Element.{dimOf, kOf, isKept, areKept, sourcePlace, place, padded, element}
 use Rattle.mover.specs.Moved.{extentAt, total, perStep, coordOf, stored, moved}
 use Rattle.mover.specs.Private.Plans.{axisOf, lone, planOf}
-use Rattle.mover.specs.Private.Elements.{axisKept, planKept, summed, placeOf, homeOf, planBytes, putAt, planTotal, co0, co1, co2, co3, putNumber, movedBy}
+use Rattle.mover.specs.Private.Elements.{axisKept, planKept, summed, placeOf, homeOf, padding, planBytes, putAt, planTotal, co0, co1, co2, co3, putNumber, movedBy}
 use Rattle.mover.specs.Private.Ready.{homeEnd, placeEnd, GoodAxis, Ready}
 use Rattle.mover.proofs.Numbers.{digit}
 use Rattle.mover.proofs.Sums.{sum-bytes}
@@ -44,9 +47,10 @@ wide-each P n z f j m l p h = elim (decLt j (4 - n)) [
   | no q ↦ rw (le-ltb j (4 - n) (omega arith)) (h (j - (4 - n)) (omega arith))
 ]
 
-abbrev widened : ℕ → ℕ → ℕ → (ℕ → Axis) → ℕ → Plan
-widened z h b x n = record {
+abbrev widened : ℕ → List ℕ → ℕ → ℕ → (ℕ → Axis) → ℕ → Plan
+widened z pad h b x n = record {
   size = z;
+  pad = pad;
   home = h;
   base = b;
   d0 = wide n lone x 0;
@@ -56,13 +60,13 @@ widened z h b x n = record {
 }
 
 -- what it comes to over n dimensions
-record Widened (z h b : ℕ) (x : ℕ → Axis) (n : ℕ) : Type 0 where
-  pub all : planTotal (widened z h b x n) ≡ product n (λ i. x i .extent)
-  pub place : (c : ℕ → ℕ) → placeOf (widened z h b x n) (wide n 0 c 0) (wide n 0 c 1) (wide n 0 c 2) (wide n 0 c 3) ≡ b + sum n (λ i. c i * x i .stride)
-  pub home : (c : ℕ → ℕ) → homeOf (widened z h b x n) (wide n 0 c 0) (wide n 0 c 1) (wide n 0 c 2) (wide n 0 c 3) ≡ h + sum n (λ i. (c i - x i .pre) * x i .jump)
-  pub kept : (c : ℕ → ℕ) → planKept (widened z h b x n) (wide n 0 c 0) (wide n 0 c 1) (wide n 0 c 2) (wide n 0 c 3) ≡ every n (λ i. axisKept (x i) (c i))
-  pub home-end : homeEnd (widened z h b x n) ≡ h + sum n (λ i. (x i .count - 1) * x i .jump) + z
-  pub place-end : placeEnd (widened z h b x n) ≡ b + sum n (λ i. (x i .extent - 1) * x i .stride) + z
+record Widened (z : ℕ) (pad : List ℕ) (h b : ℕ) (x : ℕ → Axis) (n : ℕ) : Type 0 where
+  pub all : planTotal (widened z pad h b x n) ≡ product n (λ i. x i .extent)
+  pub place : (c : ℕ → ℕ) → placeOf (widened z pad h b x n) (wide n 0 c 0) (wide n 0 c 1) (wide n 0 c 2) (wide n 0 c 3) ≡ b + sum n (λ i. c i * x i .stride)
+  pub home : (c : ℕ → ℕ) → homeOf (widened z pad h b x n) (wide n 0 c 0) (wide n 0 c 1) (wide n 0 c 2) (wide n 0 c 3) ≡ h + sum n (λ i. (c i - x i .pre) * x i .jump)
+  pub kept : (c : ℕ → ℕ) → planKept (widened z pad h b x n) (wide n 0 c 0) (wide n 0 c 1) (wide n 0 c 2) (wide n 0 c 3) ≡ every n (λ i. axisKept (x i) (c i))
+  pub home-end : homeEnd (widened z pad h b x n) ≡ h + sum n (λ i. (x i .count - 1) * x i .jump) + z
+  pub place-end : placeEnd (widened z pad h b x n) ≡ b + sum n (λ i. (x i .extent - 1) * x i .stride) + z
 
 by-rank : (P : ℕ → Type 0) → P 1 → P 2 → P 3 → P 4 → (n : ℕ) → 1 ≤ n → n ≤ 4 → P n
 by-rank P p1 p2 p3 p4 zero l m = absurd (not-suc-le-zero l)
@@ -77,11 +81,11 @@ by-three q a b c =
     rw (one-mul, div-div-eq-div-mul (q / c) b a, div-div-eq-div-mul q c (b * a))
     (ap (λ (y : ℕ). q / y) (mul-comm c (b * a) ∙ ap (λ (y : ℕ). y * c) (mul-comm b a)))
 
-module _ (z h b : ℕ) (x : ℕ → Axis) where
-  widens : (n : ℕ) → 1 ≤ n → n ≤ 4 → Widened z h b x n
+module _ (z : ℕ) (pad : List ℕ) (h b : ℕ) (x : ℕ → Axis) where
+  widens : (n : ℕ) → 1 ≤ n → n ≤ 4 → Widened z pad h b x n
   unfolding planTotal product placeOf homeOf summed sum planKept axisKept every homeEnd placeEnd
   widens =
-      by-rank (λ n. Widened z h b x n)
+      by-rank (λ n. Widened z pad h b x n)
       (record {
         all = simp one-mul;
         place = λ c. omega arith;
@@ -117,26 +121,26 @@ module _ (z h b : ℕ) (x : ℕ → Axis) where
 
   -- the plan's coordinates of a number are the paper's
   record Digits (q n : ℕ) : Type 0 where
-    pub at0 : co0 (widened z h b x n) q ≡ wide n 0 (digit n (λ i. x i .extent) q) 0
-    pub at1 : co1 (widened z h b x n) q ≡ wide n 0 (digit n (λ i. x i .extent) q) 1
-    pub at2 : co2 (widened z h b x n) q ≡ wide n 0 (digit n (λ i. x i .extent) q) 2
-    pub at3 : co3 (widened z h b x n) q ≡ wide n 0 (digit n (λ i. x i .extent) q) 3
+    pub at0 : co0 (widened z pad h b x n) q ≡ wide n 0 (digit n (λ i. x i .extent) q) 0
+    pub at1 : co1 (widened z pad h b x n) q ≡ wide n 0 (digit n (λ i. x i .extent) q) 1
+    pub at2 : co2 (widened z pad h b x n) q ≡ wide n 0 (digit n (λ i. x i .extent) q) 2
+    pub at3 : co3 (widened z pad h b x n) q ≡ wide n 0 (digit n (λ i. x i .extent) q) 3
 
   digits : (q n : ℕ) → 1 ≤ n → n ≤ 4 → ((i : ℕ) → i < n → 0 < x i .extent) → q < product n (λ i. x i .extent) → Digits q n
   unfolding planTotal product
   digits q =
       by-rank (λ n. ((i : ℕ) → i < n → 0 < x i .extent) → q < product n (λ i. x i .extent) → Digits q n)
       (λ p l.
-      let w = spread-within (widened z h b x 1) (omega arith) (omega arith) (p 0 (omega arith)) q (rw (widens 1 (omega arith) (omega arith) .all) l) in
+      let w = spread-within (widened z pad h b x 1) (omega arith) (omega arith) (p 0 (omega arith)) q (rw (widens 1 (omega arith) (omega arith) .all) l) in
       record { at0 = omega (arith, w .in0); at1 = simp (div-one, mod-one); at2 = simp (mod-one); at3 = simp (div-one) })
       (λ p l.
-      let w = spread-within (widened z h b x 2) (omega arith) (p 0 (omega arith)) (p 1 (omega arith)) q (rw (widens 2 (omega arith) (omega arith) .all) l) in
+      let w = spread-within (widened z pad h b x 2) (omega arith) (p 0 (omega arith)) (p 1 (omega arith)) q (rw (widens 2 (omega arith) (omega arith) .all) l) in
       record { at0 = omega (arith, w .in0); at1 = simp (mod-one); at2 = simp (one-mul); at3 = simp (div-one) })
       (λ p l.
-      let w = spread-within (widened z h b x 3) (p 0 (omega arith)) (p 1 (omega arith)) (p 2 (omega arith)) q (rw (widens 3 (omega arith) (omega arith) .all) l) in
+      let w = spread-within (widened z pad h b x 3) (p 0 (omega arith)) (p 1 (omega arith)) (p 2 (omega arith)) q (rw (widens 3 (omega arith) (omega arith) .all) l) in
       record { at0 = omega (arith, w .in0); at1 = simp (one-mul, div-div-eq-div-mul, mul-comm (x 2 .extent)); at2 = simp (one-mul); at3 = simp (div-one) })
       (λ p l.
-      let w = spread-within (widened z h b x 4) (p 1 (omega arith)) (p 2 (omega arith)) (p 3 (omega arith)) q (rw (widens 4 (omega arith) (omega arith) .all) l) in
+      let w = spread-within (widened z pad h b x 4) (p 1 (omega arith)) (p 2 (omega arith)) (p 3 (omega arith)) q (rw (widens 4 (omega arith) (omega arith) .all) l) in
       record { at0 = sym (mod-eq-of-lt (w .in0)) ∙ ap (λ (y : ℕ). y % x 0 .extent) (by-three q (x 1 .extent) (x 2 .extent) (x 3 .extent)); at1 = simp (one-mul, div-div-eq-div-mul, mul-comm (x 3 .extent)); at2 = simp (one-mul); at3 = simp (div-one) })
 
 -- ---- the plan of a move
@@ -164,39 +168,43 @@ step-joined : (o k m s z : ℕ) → o * s * z + k * (m * s * z) ≡ (o + k * m) 
 step-joined o k m s z = rw (add-mul o (k * m) s, add-mul (o * s) (k * m * s) z, mul-assoc k m s, mul-assoc k (m * s) z)
 
 module _ {t : Tensor} (c : Config) (g : GoodSource t) where
-  its : (z h b : ℕ) → Widened z h b (axisOf t c) (t .rank)
-  its z h b = widens z h b (axisOf t c) (t .rank) (g .rank .0) (g .rank .1)
+  its : (z : ℕ) (pad : List ℕ) (h b : ℕ) → Widened z pad h b (axisOf t c) (t .rank)
+  its z pad h b = widens z pad h b (axisOf t c) (t .rank) (g .rank .0) (g .rank .1)
 
   pub planned-size : planOf t c .size ≡ t .«element_size»
   unfolding planOf
   planned-size = refl
 
+  planned-pad : padding (t .«element_size») (planOf t c .pad) ≡ padded t c
+  unfolding planOf padded little
+  planned-pad = take-little (t .«element_size») 4 (c .fill) (element-small (t .«element_size») (g .element) .1)
+
   pub planned-total : planTotal (planOf t c) ≡ total t c
   unfolding planOf total
-  planned-total = its _ _ _ .all
+  planned-total = its _ _ _ _ .all
 
   module _ (x : ℕ → ℕ) where
     pub planned-place : placeOf (planOf t c) (front t x 0) (front t x 1) (front t x 2) (front t x 3) ≡ place t c x * t .«element_size»
     unfolding planOf place
-    planned-place = its _ _ _ .place x ∙ sum-bytes (t .rank) _ _ _ (t .«element_size») (λ i _. further (at (c .«dst_offset») i) (x i) (at (dstStrides t c) i) (t .«element_size»))
+    planned-place = its _ _ _ _ .place x ∙ sum-bytes (t .rank) _ _ _ (t .«element_size») (λ i _. further (at (c .«dst_offset») i) (x i) (at (dstStrides t c) i) (t .«element_size»))
 
     pub planned-home : homeOf (planOf t c) (front t x 0) (front t x 1) (front t x 2) (front t x 3) ≡ sourcePlace t c x * t .«element_size»
     unfolding planOf sourcePlace
-    planned-home = its _ _ _ .home x ∙ sum-bytes (t .rank) _ _ _ (t .«element_size») (λ i _. step-joined (at (c .offset) (dimOf c i)) (kOf c i (x i)) (at (c .step) (dimOf c i)) (at (srcStrides t) (dimOf c i)) (t .«element_size»))
+    planned-home = its _ _ _ _ .home x ∙ sum-bytes (t .rank) _ _ _ (t .«element_size») (λ i _. step-joined (at (c .offset) (dimOf c i)) (kOf c i (x i)) (at (c .step) (dimOf c i)) (at (srcStrides t) (dimOf c i)) (t .«element_size»))
 
     pub planned-kept : planKept (planOf t c) (front t x 0) (front t x 1) (front t x 2) (front t x 3) ≡ areKept t c x
     unfolding planOf areKept isKept axisKept
-    planned-kept = its _ _ _ .kept x
+    planned-kept = its _ _ _ _ .kept x
 
     pub planned-bytes : (src : List ℕ) → planBytes (planOf t c) src (front t x 0) (front t x 1) (front t x 2) (front t x 3) ≡ element t c src x
     unfolding planBytes element
-    planned-bytes src = rw (planned-kept, planned-home, planned-size)
+    planned-bytes src = rw (planned-kept, planned-home, planned-size, planned-pad)
 
   module _ (k : GoodConfig t c) where
     pub planned-coords : (q : ℕ) → q < total t c → Planned t c q
     unfolding planOf coordOf perStep total
     planned-coords q l =
-        let d = digits (t .«element_size») (planOf t c .home) (planOf t c .base) (axisOf t c) q (t .rank) (g .rank .0) (g .rank .1) (λ i h. dst-extent k i (g .rank .1) h .0) l in
+        let d = digits (t .«element_size») (planOf t c .pad) (planOf t c .home) (planOf t c .base) (axisOf t c) q (t .rank) (g .rank .0) (g .rank .1) (λ i h. dst-extent k i (g .rank .1) h .0) l in
         record { at0 = d .at0; at1 = d .at1; at2 = d .at2; at3 = d .at3 }
 
     pub stored-planned : (src : List ℕ) (q : ℕ) (dst : List ℕ) → q < total t c → stored t c src q dst ≡ putNumber (planOf t c) src q dst
@@ -219,7 +227,7 @@ module _ {t : Tensor} (c : Config) (g : GoodSource t) where
     planned-homeEnd =
         let l : ℕ → ℕ = λ i. count t c (dimOf c i) - 1 in
         let e : homeEnd (planOf t c) ≡ (1 + sum (t .rank) (λ i. (at (c .offset) (dimOf c i) + l i * at (c .step) (dimOf c i)) * at (srcStrides t) (dimOf c i))) * t .«element_size» =
-        its _ _ _ .home-end ∙ ended _ (t .«element_size») (sum-bytes (t .rank) _ _ _ (t .«element_size») (λ i _. step-joined (at (c .offset) (dimOf c i)) (l i) (at (c .step) (dimOf c i)) (at (srcStrides t) (dimOf c i)) (t .«element_size»))) in
+        its _ _ _ _ .home-end ∙ ended _ (t .«element_size») (sum-bytes (t .rank) _ _ _ (t .«element_size») (λ i _. step-joined (at (c .offset) (dimOf c i)) (l i) (at (c .step) (dimOf c i)) (at (srcStrides t) (dimOf c i)) (t .«element_size»))) in
         rw e (home-fits k l (λ i h. omega arith))
 
     pub planned-placeEnd : placeEnd (planOf t c) ≤ need t c
@@ -227,7 +235,7 @@ module _ {t : Tensor} (c : Config) (g : GoodSource t) where
     planned-placeEnd =
         let x : ℕ → ℕ = λ i. extentAt t c i - 1 in
         let e : placeEnd (planOf t c) ≡ (1 + place t c x) * t .«element_size» =
-        its _ _ _ .place-end ∙ ended _ (t .«element_size») (sum-bytes (t .rank) _ _ _ (t .«element_size») (λ i _. further (at (c .«dst_offset») i) (x i) (at (dstStrides t c) i) (t .«element_size»))) in
+        its _ _ _ _ .place-end ∙ ended _ (t .«element_size») (sum-bytes (t .rank) _ _ _ (t .«element_size») (λ i _. further (at (c .«dst_offset») i) (x i) (at (dstStrides t c) i) (t .«element_size»))) in
         rw e (place-fits k x (λ i h. omega (arith, dst-extent k i (g .rank .1) h .0)))
 
     -- between two lent slices

@@ -9,7 +9,8 @@ use lib.ListN.{length, getD, set, drop, length-set}
 use lib.Seq.{sets, getD-set-same}
 use Rattle.plane.specs.declared.Tensor.{Tensor}
 use Rattle.plane.specs.declared.Config.{Config}
-use Rattle.mover.specs.Element.{areKept, sourcePlace, element}
+use Rattle.plane.proofs.Numbers.{length-little}
+use Rattle.mover.specs.Element.{areKept, sourcePlace, padded, element}
 use Rattle.mover.specs.Moved.{total, coordOf, stored, moved}
 use Rattle.mover.specs.Demand2.{byteAt}
 use Rattle.mover.proofs.Bytes.{getD-sets-out, length-cond}
@@ -27,10 +28,14 @@ sets-inside (v ∷ vs) l at zero h m =
 sets-inside (v ∷ vs) l at (suc i) h m =
     rw (add-suc, ← suc-add) (sets-inside vs (set l at v) (suc at) i (le-of-suc-le-suc h) (rw length-set (omega arith)))
 
+pub length-padded : (t : Tensor) (c : Config) → length (padded t c) ≡ t .«element_size»
+unfolding padded
+length-padded t c = length-little (t .«element_size») (c .fill)
+
 module _ (t : Tensor) (c : Config) (src : List ℕ) where
   pub length-element : (x : ℕ → ℕ) → length (element t c src x) ≤ t .«element_size»
   unfolding element
-  length-element x = length-cond (areKept t c x) (t .«element_size») (drop (sourcePlace t c x * t .«element_size») src)
+  length-element x = length-cond (areKept t c x) (t .«element_size») (drop (sourcePlace t c x * t .«element_size») src) (padded t c) (rw length-padded (omega arith))
 
   -- a byte that belongs to none of the elements is as it was
   pub moved-elsewhere : (from n : ℕ) (dst : List ℕ) (k : ℕ) → ((q : ℕ) → q < n → (k < byteOf t c (from + q)) ⊎ (byteOf t c (from + q) + t .«element_size» ≤ k)) → getD (moved t c src from n dst) k 0 ≡ getD dst k 0

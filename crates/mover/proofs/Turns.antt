@@ -164,7 +164,7 @@ module _ {o : Origin} {p : Plan} {s d₀ : List ℕ} {from budget : ℕ} {d : Li
         let v = sourceBytes o s d in
         sym (source-same o p s d₀ from (budget - left) c0 c1 c2 (c3 + k) (at-was-ready r) (a .most))
         ∙ ap (λ (y : List ℕ). planBytes p (sourceBytes o s y) c0 c1 c2 (c3 + k)) (sym (a .bytes))
-        ∙ rw (its-kept k h) (pick-same (run .kept) (padding (p .size)) (λ t. rw (its-home t k h)))
+        ∙ rw (its-kept k h) (pick-same (run .kept) (padding (p .size) (p .pad)) (λ t. rw (its-home t k h)))
 
     pub turn : {d' : List ℕ} {u' : Spots}
         → (u' ≡ afterRun u (p .d3) (run .n)) × (d' ≡ runMoved o p s d (u .here) run)

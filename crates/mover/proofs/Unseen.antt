@@ -1,5 +1,5 @@
--- Entries at or past the rank are not looked at: with records and configurations that agree below the rank, moves leave the same
--- memory and answer the same. Assumes nothing.
+-- Entries at or past the rank are not looked at, nor are bytes of the fill past the element size: with records and configurations that
+-- agree in the rest, moves leave the same memory and answer the same. Assumes nothing.
 use Prim.Native.Nat.{ℕ, zero, suc, _+_, _-_, _*_, _/_, _%_, _<_, min}
 use native.Mathlib.Decide.{ℕ-discrete}
 use native.Mathlib.Omega.{arith}
@@ -7,13 +7,14 @@ use mathlib.Core.Path.{_≡_, refl, sym, ap, ap₂, _∙_}
 use mathlib.Core.Bool.{cond, _||_, _&&_}
 use mathlib.Core.List.{List}
 use lib.Dec.{leb, ltb}
-use lib.ListN.{length, take, drop, replicate}
+use lib.ListN.{length, take, drop}
 use lib.Seq.{sets}
 use Rattle.plane.specs.declared.Tensor.{Tensor}
 use Rattle.plane.specs.declared.Config.{Config}
 use Rattle.plane.specs.declared.SubTensor.{SubTensor}
 use Rattle.faults.specs.declared.Fault.{Fault}
 use Rattle.plane.specs.Arrays.{at, sum, product, every}
+use Rattle.plane.specs.Numbers.{little}
 use Rattle.faults.specs.Faults.{when, ifFault}
 use Rattle.plane.specs.Planes.{srcStrides}
 use Rattle.plane.specs.Moves.{count, dstStrides, moveFault}
@@ -25,7 +26,7 @@ use Rattle.plane.specs.Unseen.{SameTensor, SameConfig, UnseenConfig, UnseenSub}
 use Rattle.plane.proofs.Unseen.{fault-unseen, strides-unseen, kept-unseen, extents-unseen, dst-strides-unseen, sub-unseen}
 use Rattle.mover.specs.declared.Job.{Job}
 use Rattle.mover.specs.Claims.{SameJob, UnseenJob, MovesUnseen}
-use Rattle.mover.specs.Element.{dimOf, kOf, isKept, areKept, sourcePlace, place, element}
+use Rattle.mover.specs.Element.{dimOf, kOf, isKept, areKept, sourcePlace, place, padded, element}
 use Rattle.mover.specs.Moved.{total, perStep, coordOf, stored, moved, moveMemory}
 use Rattle.mover.specs.Within.{leaves, meets, jobFault, totalOf, verdictOf, bytesOf, advancedBy, further, advanceOf, advanceMemory}
 use Rattle.mover.specs.SubPart.{subPart}
@@ -41,7 +42,7 @@ same-ifFault f f′ y x x′ e h = elim (ℕ-discrete (f .status) 0) [
 
 -- ---- the move
 
-module _ (t t′ : Tensor) (c c′ : Config) (a : SameTensor t t′) (b : SameConfig (t .rank) c c′) where
+module _ (t t′ : Tensor) (c c′ : Config) (a : SameTensor t t′) (b : SameConfig (t .rank) (t .«element_size») c c′) where
   -- a configuration whose permutation is refused names dimensions past the rank; such a move is refused
   module _ (g : GoodConfig t c) where
     -- what is read at the source dimension of destination dimension i
@@ -70,10 +71,14 @@ module _ (t t′ : Tensor) (c c′ : Config) (a : SameTensor t t′) (b : SameCo
         λ k. (o k + (x i - p k) * s k) * w k) ∙
         ap (λ (n : ℕ). sum n (λ i. (at (c′ .offset) (dimOf c′ i) + kOf c′ i (x i) * at (c′ .step) (dimOf c′ i)) * at (srcStrides t′) (dimOf c′ i))) (a .rank)
 
+    same-padded : padded t c ≡ padded t′ c′
+    unfolding padded
+    same-padded = b .fill ∙ ap (λ (z : ℕ). little z (c′ .fill)) (a .element)
+
     same-element : (src : List ℕ) (x : ℕ → ℕ) → element t c src x ≡ element t′ c′ src x
     unfolding element
     same-element src x =
-        λ i. cond (same-kept x i) (take (a .element i) (drop (same-source x i * a .element i) src)) (replicate (a .element i) 0)
+        λ i. cond (same-kept x i) (take (a .element i) (drop (same-source x i * a .element i) src)) (same-padded i)
 
     -- it goes to the same place
     same-place : (x : ℕ → ℕ) → place t c x ≡ place t′ c′ x

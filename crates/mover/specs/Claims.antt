@@ -90,14 +90,14 @@ ByteLeaves = (n : ℕ) (p : Part) (i : ℕ) → Has p i → n ≤ i → leaves n
 abbrev pub EmptyLeaves : Type 0
 EmptyLeaves = (n : ℕ) (p : Part) → p .length ≡ 0 → leaves n p ≡ ltb n (p .start)
 
--- ---- Entries past the rank
+-- ---- Entries past the rank, and bytes of the fill past the element size
 
--- jobs with the same parts, whose records and configurations agree below the rank
+-- jobs with the same parts, whose records and configurations agree but for such
 pub record SameJob (j j′ : Job) : Type 0 where
   pub source : j .source ≡ j′ .source
   pub destination : j .destination ≡ j′ .destination
   pub tensor : SameTensor (j .tensor) (j′ .tensor)
-  pub config : SameConfig (j .tensor .rank) (j .config) (j′ .config)
+  pub config : SameConfig (j .tensor .rank) (j .tensor .«element_size») (j .config) (j′ .config)
 
 -- whatever f works out of a job comes to the same
 abbrev pub UnseenJob : {A : Type 0} → (Job → A) → Type 0

@@ -8,7 +8,7 @@ use Rattle.plane.specs.declared.Tensor.{Tensor}
 use Rattle.plane.specs.declared.Config.{Config}
 use Rattle.plane.specs.Arrays.{at}
 use Rattle.plane.specs.Moves.{count, judgeOf}
-use Rattle.mover.specs.Element.{dimOf, kOf, sourcePlace, place}
+use Rattle.mover.specs.Element.{dimOf, kOf, sourcePlace, place, padded}
 use Rattle.mover.specs.Moved.{extentAt, total, coordOf, moved, moveMemory}
 
 -- ---- one element, at the coordinates x
@@ -42,8 +42,9 @@ pub record InPlaceAt (t : Tensor) (c : Config) (src e : List ℕ) (x : ℕ → �
   -- if every k is from 0 to count - 1, each byte is the source element's, which lies in the source
   pub source : ((i : ℕ) → i < t .rank → KeptAt t c x i) → (b : ℕ) → b < t .«element_size» →
       (sourceByte t c x + b < length src) × (getD e (byteAt t c x + b) 0 ≡ getD src (sourceByte t c x + b) 0)
-  -- if some k is not, each byte is 0
-  pub zeros : (i : ℕ) → i < t .rank → (KeptAt t c x i → ⊥) → (b : ℕ) → b < t .«element_size» → getD e (byteAt t c x + b) 0 ≡ 0
+  -- if some k is not, each byte is a padded element's
+  pub filled : (i : ℕ) → i < t .rank → (KeptAt t c x i → ⊥) → (b : ℕ) → b < t .«element_size» →
+      getD e (byteAt t c x + b) 0 ≡ getD (padded t c) b 0
 
 -- ---- the whole move: the destination dst has become e
 

@@ -3,10 +3,11 @@ use Prim.Native.Nat.{ℕ, _+_, _-_, _*_}
 use mathlib.Core.Bool.{Bool, cond, _&&_}
 use mathlib.Core.List.{List}
 use lib.Dec.{leb, ltb}
-use lib.ListN.{take, drop, replicate}
+use lib.ListN.{take, drop}
 use Rattle.plane.specs.declared.Tensor.{Tensor}
 use Rattle.plane.specs.declared.Config.{Config}
 use Rattle.plane.specs.Arrays.{at, sum, every}
+use Rattle.plane.specs.Numbers.{little}
 use Rattle.plane.specs.Planes.{sourceAt}
 use Rattle.plane.specs.Moves.{count, dstStrides}
 
@@ -34,7 +35,11 @@ sourcePlace t c x =
 unfoldable pub place : Tensor → Config → (ℕ → ℕ) → ℕ
 place t c x = sum (t .rank) (λ i. (at (c .«dst_offset») i + x i) * at (dstStrides t c) i)
 
--- its bytes: the source element's if every k is from 0 to count - 1, else all 0
+-- the bytes of a padded element: the low bytes of the fill, as many as the element size, the lowest first
+unfoldable pub padded : Tensor → Config → List ℕ
+padded t c = little (t .«element_size») (c .fill)
+
+-- its bytes: the source element's if every k is from 0 to count - 1, else those of a padded element
 unfoldable pub element : Tensor → Config → List ℕ → (ℕ → ℕ) → List ℕ
 element t c src x =
-    cond (areKept t c x) (take (t .«element_size») (drop (sourcePlace t c x * t .«element_size») src)) (replicate (t .«element_size») 0)
+    cond (areKept t c x) (take (t .«element_size») (drop (sourcePlace t c x * t .«element_size») src)) (padded t c)

@@ -6,7 +6,7 @@ ghost use lib.ListN.{length, getD};
 ghost use lib.Seq.{sets};
 ghost use Rattle.mover.specs.Private.Elements.{sourceBytes, padding};
 ghost use Rattle.mover.specs.Private.Adding.{along};
-ghost use Rattle.mover.specs.Private.Runs.{elementCopied, runCopied, runCleared, Sized, Readable, Writable};
+ghost use Rattle.mover.specs.Private.Runs.{elementCopied, runCopied, runPadded, Sized, Readable, Writable};
 
 // Where the source's bytes stand: in the slice lent for reading, or in the destination's own.
 pub(crate) enum Origin {
@@ -14,13 +14,15 @@ pub(crate) enum Origin {
     Inside,
 }
 
-// A run as the leaves take it: n elements of `size` bytes, the first from `at` to `to`, each a jump and a stride further, in bytes.
+// A run as the leaves take it: n elements of `size` bytes, the first from `at` to `to`, each a jump and a stride further, in bytes. An
+// element of padding is the first bytes of `pad`.
 pub(crate) struct Course {
     pub(crate) at: usize,
     pub(crate) jump: usize,
     pub(crate) to: usize,
     pub(crate) stride: usize,
     pub(crate) size: usize,
+    pub(crate) pad: [u8; 4],
     pub(crate) n: usize,
 }
 
@@ -118,34 +120,35 @@ pub(crate) fn copy_run(src: &[u8], dst: &mut [u8], origin: Origin, c: Course) ->
     copy_each(src, dst, origin, c)
 }
 
-// An element of padding at `to`: zeros.
-fn clear(dst: &mut [u8], to: usize, size: usize)
+// An element of padding at `to`: the first of the four bytes.
+fn pad(dst: &mut [u8], to: usize, size: usize, four: [u8; 4])
     requires { ⌜ Sized size ⌝ }
     requires { ⌜ to + size ≤ length (now dst) ⌝ }
-    ensures { λ _. ⌜ now (dst .exit) ≡ sets (now (dst .entry)) to (padding size) ⌝ }
+    ensures { λ _. ⌜ now (dst .exit) ≡ sets (now (dst .entry)) to (padding size four) ⌝ }
 {
-    dst[to] = 0;
+    dst[to] = four[0];
     if size == 1 {
         return;
     }
-    dst[to + 1] = 0;
+    dst[to + 1] = four[1];
     if size == 2 {
         return;
     }
-    dst[to + 2] = 0;
-    dst[to + 3] = 0;
+    dst[to + 2] = four[2];
+    dst[to + 3] = four[3];
 }
 
 // A run of padding; tells where the next element is stored. The source's place is not looked at.
-pub(crate) fn clear_run(dst: &mut [u8], c: Course) -> usize
+pub(crate) fn pad_run(dst: &mut [u8], c: Course) -> usize
     requires { ⌜ Writable (now dst) c ⌝ }
     ensures next { λ r. ⌜ r ≡ along (c .to) (c .stride) (c .n) ⌝ }
-    ensures written { λ _. ⌜ now (dst .exit) ≡ runCleared (now (dst .entry)) c ⌝ }
+    ensures written { λ _. ⌜ now (dst .exit) ≡ runPadded (now (dst .entry)) c ⌝ }
 {
+    let four = c.pad;
     let mut to = c.to;
     let mut k = 0;
     while k < c.n {
-        clear(dst, to, c.size);
+        pad(dst, to, c.size, four);
         to = wrapping_add_usize(to, c.stride);
         k += 1;
     }

@@ -4,8 +4,8 @@
 use crate::Part;
 use crate::elements::Course;
 use crate::elements::Origin;
-use crate::elements::clear_run;
 use crate::elements::copy_run;
+use crate::elements::pad_run;
 use crate::plan::Axis;
 use crate::plan::Plan;
 use crate::spots::Spot;
@@ -83,12 +83,14 @@ fn move_run(src: &[u8], dst: &mut [u8], origin: Origin, plan: Plan, s: Spots, ru
     ensures written { λ _. ⌜ now (dst .exit) ≡ runMoved origin plan (now (src .entry)) (now (dst .entry)) (s .here) run ⌝ }
 {
     let at = s.here.at;
+    let pad = plan.pad;
     let course = Course {
         at,
         jump: plan.d3.jump,
         to: s.here.to,
         stride: plan.d3.stride,
         size: plan.size,
+        pad,
         n: run.n,
     };
     if run.kept {
@@ -96,7 +98,7 @@ fn move_run(src: &[u8], dst: &mut [u8], origin: Origin, plan: Plan, s: Spots, ru
         let here = Spot { to, at };
         return Spots { here, ..s };
     }
-    let to = clear_run(dst, course);
+    let to = pad_run(dst, course);
     let here = Spot { to, at };
     Spots { here, ..s }
 }

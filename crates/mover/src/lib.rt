@@ -1,4 +1,4 @@
-// The mover: an accepted move puts into each destination element the source element or the padding zero that the record names,
+// The mover: an accepted move puts into each destination element the source element, or the fill in padding, that the record names,
 // and changes no other byte. Between two lent slices, or between two parts of one memory, from any element on.
 
 mod plan; // an accepted move as the engine wants it

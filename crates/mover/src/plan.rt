@@ -7,6 +7,7 @@ ghost use mathlib.Core.Bool.{cond};
 ghost use Prim.Native.Nat.{ℕ, _-_, _*_, _≤_, _<_};
 ghost use lib.Dec.{ltb};
 ghost use Rattle.plane.specs.Arrays.{at, sum, product};
+ghost use Rattle.plane.specs.Numbers.{little};
 ghost use Rattle.plane.specs.Moves.{roomFault, accepted};
 ghost use Rattle.mover.specs.Element.{dimOf};
 ghost use Rattle.mover.specs.Private.Plans.{planOf, axisMade, lone, Fit};
@@ -23,6 +24,7 @@ pub(crate) struct Axis {
 // The move, widened to four destination dimensions: those that the rank lacks stand first, with extent and count 1.
 pub(crate) struct Plan {
     pub(crate) size: usize, // bytes of an element
+    pub(crate) pad: [u8; 4], // the bytes of the fill, the lowest first: an element of padding has the first of them
     pub(crate) home: usize, // byte of the first kept element in the source
     pub(crate) base: usize, // byte of the first element in the destination
     pub(crate) d0: Axis,
@@ -62,6 +64,18 @@ fn base_of(c: Config, a: Answer) -> usize
         total += times(c.dst_offset[k], a.stride[k]);
     }
     total * (a.element_size as usize)
+}
+
+// The bytes of a fill, the lowest first.
+fn bytes_of(fill: u32) -> [u8; 4]
+    ensures { λ r. ⌜ r ≡ little 4 fill ⌝ }
+{
+    [
+        (fill % 256) as u8,
+        (fill / 256 % 256) as u8,
+        (fill / 65536 % 256) as u8,
+        (fill / 16777216) as u8,
+    ]
 }
 
 // Destination dimension i. What the padding leaves of its extent is kept.
@@ -121,6 +135,7 @@ pub(crate) fn plan_of(t: Tensor, c: Config, a: Answer) -> Plan
     let strides = s.stride;
     Plan {
         size: a.element_size as usize,
+        pad: bytes_of(c.fill),
         home: home_of(c, a, strides),
         base: base_of(c, a),
         d0: axis_at(c, a, strides, 0),

@@ -21,6 +21,7 @@ use Rattle.plane.proofs.Config.with_dst_stride.Reads as with-dst-stride
 use Rattle.plane.proofs.Config.with_perm.Reads as with-perm
 use Rattle.plane.proofs.Config.with_pre.Reads as with-pre
 use Rattle.plane.proofs.Config.with_post.Reads as with-post
+use Rattle.plane.proofs.Config.with_fill.Reads as with-fill
 
 pub room-decided : Decided room.Pre room.Post
 room-decided = by-equation
@@ -75,3 +76,6 @@ with-pre-decided = by-equation
 
 pub with-post-decided : Decided with-post.Pre with-post.Post
 with-post-decided = by-equation
+
+pub with-fill-decided : Decided with-fill.Pre with-fill.Post
+with-fill-decided = by-equation

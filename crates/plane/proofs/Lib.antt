@@ -9,6 +9,8 @@ pub mod SubTensors
 -- Laws over plain values, which the functions' proofs cite.
 pub mod Arrays
 pub mod Configs
+pub mod Numbers
+pub mod Sizes
 pub mod Resolving
 pub mod Falling
 pub mod Rules

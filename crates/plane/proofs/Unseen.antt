@@ -1,5 +1,5 @@
--- Entries at or past the rank are not looked at: records and configurations that agree below the rank have the same answers.
--- Assumes nothing.
+-- Entries at or past the rank are not looked at, nor are bytes of the fill past the element size: records and configurations that agree
+-- in the rest have the same answers. Assumes nothing.
 use Prim.Native.Nat.{ℕ, zero, suc, _+_, _-_, _*_, _≤_, _<_}
 use native.Mathlib.Decide.{ℕ-discrete}
 use native.Mathlib.Omega.{arith}
@@ -83,7 +83,7 @@ module _ (n z : ℕ) (s s′ p p′ : List ℕ) (a : SameTensor (tensor n z s p)
 
   -- ---- the move
 
-  module _ (c c′ : Config) (b : SameConfig n c c′) where
+  module _ (c c′ : Config) (b : SameConfig n z c c′) where
     extent-same : (d : ℕ) → d < n → extent T c d ≡ extent T′ c′ d
     unfolding extent count
     extent-same d h =
@@ -266,13 +266,13 @@ module _ (t t′ : Tensor) (a : SameTensor t t′) where
   agrees = record { rank = refl; element = refl; shape = a .shape; stride = a .stride }
 
   -- for the layers above: the fault of a move, and what an accepted move looks at
-  pub fault-unseen : (c c′ : Config) → SameConfig (t .rank) c c′ → (srcLen dstLen : ℕ) → moveFault t c srcLen dstLen ≡ moveFault t′ c′ srcLen dstLen
+  pub fault-unseen : (c c′ : Config) → SameConfig (t .rank) (t .«element_size») c c′ → (srcLen dstLen : ℕ) → moveFault t c srcLen dstLen ≡ moveFault t′ c′ srcLen dstLen
   fault-unseen c c′ b sl dl = move-same _ _ _ _ _ _ agrees c c′ b sl dl ∙ across (λ (x : Tensor). moveFault x c′ sl dl)
 
   pub strides-unseen : srcStrides t ≡ srcStrides t′
   strides-unseen = src-strides-same _ _ _ _ _ _ agrees ∙ across (λ (x : Tensor). srcStrides x)
 
-  module _ (c c′ : Config) (b : SameConfig (t .rank) c c′) where
+  module _ (c c′ : Config) (b : SameConfig (t .rank) (t .«element_size») c c′) where
     pub kept-unseen : (d : ℕ) → d < t .rank → count t c d ≡ count t′ c′ d
     unfolding count
     kept-unseen d h =

@@ -4,6 +4,7 @@ pub mod Arrays
 pub mod Planes
 pub mod Moves
 pub mod Settings
+pub mod Numbers
 pub mod Helpers
 pub mod Good
 pub mod Orders

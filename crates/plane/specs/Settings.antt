@@ -1,4 +1,4 @@
--- A configuration by its arrays, and the settings: one array is set to the four entries given, and the others are kept.
+-- A configuration by its arrays and its fill, and the settings: one field is set to what is given, and the others are kept.
 use Prim.Native.Nat.{ℕ}
 use mathlib.Core.Bool.{cond}
 use mathlib.Core.List.{List, [], _∷_}
@@ -18,9 +18,9 @@ arrays c = c .offset ∷ c .size ∷ c .step ∷ c .«dst_offset» ∷ c .«dst_
 abbrev pub arrayOf : Config → ℕ → List ℕ
 arrayOf c k = getD (arrays c) k []
 
--- the configuration whose array number k is f k
-abbrev pub configOf : (ℕ → List ℕ) → Config
-configOf f = record {
+-- the configuration whose array number k is f k, with that fill
+abbrev pub configOf : (ℕ → List ℕ) → ℕ → Config
+configOf f fill = record {
   offset = f 0;
   size = f 1;
   step = f 2;
@@ -29,16 +29,17 @@ configOf f = record {
   perm = f 5;
   pre = f 6;
   post = f 7;
+  fill = fill;
 }
 
 abbrev pub zeroConfig : Config
-zeroConfig = configOf (λ k. zeros)
+zeroConfig = configOf (λ k. zeros) 0
 
 -- ---- The settings
 
 -- array number k set to x
 abbrev pub withArray : ℕ → Config → List ℕ → Config
-withArray k c x = configOf (λ j. cond (eqb j k) x (arrayOf c j))
+withArray k c x = configOf (λ j. cond (eqb j k) x (arrayOf c j)) (c .fill)
 
 abbrev pub withOffset : Config → List ℕ → Config
 withOffset c x = withArray 0 c x
@@ -63,3 +64,6 @@ withPre c x = withArray 6 c x
 
 abbrev pub withPost : Config → List ℕ → Config
 withPost c x = withArray 7 c x
+
+abbrev pub withFill : Config → ℕ → Config
+withFill c n = configOf (arrayOf c) n

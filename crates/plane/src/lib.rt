@@ -31,7 +31,7 @@ pub struct Tensor {
 }
 
 // How a plane is to be laid out. By source dimension: offset, size, step, pre and post. By destination dimension:
-// dst_offset, dst_stride and perm, which names the source dimension.
+// dst_offset, dst_stride and perm, which names the source dimension. Of fill, a padded element holds the low bytes.
 pub struct Config {
     pub offset: [u32; 4],
     pub size: [u32; 4],
@@ -41,6 +41,7 @@ pub struct Config {
     pub perm: [u8; 4],
     pub pre: [u8; 4],
     pub post: [u8; 4],
+    pub fill: u32,
 }
 
 // What a tensor record by itself comes to: its resolved strides, and the bytes that it spans; zeros besides a fault.

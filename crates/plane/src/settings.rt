@@ -1,7 +1,7 @@
-// The settings: each hands the configuration back with one field set to the four entries given, so that they chain.
+// The settings: each hands the configuration back with one field set to what is given, so that they chain.
 use crate::Config;
 ghost use mathlib.Core.Path.{_≡_};
-ghost use Rattle.plane.specs.Settings.{withOffset, withSize, withStep, withDstOffset, withDstStride, withPerm, withPre, withPost};
+ghost use Rattle.plane.specs.Settings.{withOffset, withSize, withStep, withDstOffset, withDstStride, withPerm, withPre, withPost, withFill};
 
 impl Config {
     // The first coordinate taken, by source dimension.
@@ -46,17 +46,24 @@ impl Config {
         Config { perm, ..self }
     }
 
-    // Zeros before, by source dimension.
+    // Padding before, by source dimension.
     pub fn with_pre(self, pre: [u8; 4]) -> Config
         ensures { λ r. ⌜ r ≡ withPre self pre ⌝ }
     {
         Config { pre, ..self }
     }
 
-    // Zeros after, by source dimension.
+    // Padding after, by source dimension.
     pub fn with_post(self, post: [u8; 4]) -> Config
         ensures { λ r. ⌜ r ≡ withPost self post ⌝ }
     {
         Config { post, ..self }
+    }
+
+    // What a padded element holds: the low bytes, as many as the element size, the lowest first.
+    pub fn with_fill(self, fill: u32) -> Config
+        ensures { λ r. ⌜ r ≡ withFill self fill ⌝ }
+    {
+        Config { fill, ..self }
     }
 }

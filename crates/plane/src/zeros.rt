@@ -43,6 +43,7 @@ impl Config {
             perm: [0u8; 4],
             pre: [0u8; 4],
             post: [0u8; 4],
+            fill: 0,
         }
     }
 }

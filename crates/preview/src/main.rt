@@ -1,9 +1,10 @@
 // preview: a small picture becomes a thumbnail and a turned picture, and colour and alpha become one plane. A program to copy from:
 // first a whole move between two lent slices, then two planes joined by two moves, then two transfers that take turns over one memory,
-// and at last the same two moves as a list of records, written and gone through.
+// then the same two moves as a list of records, written and gone through, and at last a record by itself, of a thumbnail in a frame.
 use libc::STDOUT_FILENO;
 use plane::Config;
 use plane::Tensor;
+use record::Reading;
 use transfers::Job;
 use transfers::Part;
 use transfers::Poll;
@@ -29,6 +30,8 @@ const BUDGET: u64 = 4; // elements that one step may move
 // The bytes of the picture: their digits are row and column.
 const PIXELS: [u8; PICTURE] =
     *b"\x11\x12\x13\x14\x15\x16\x21\x22\x23\x24\x25\x26\x31\x32\x33\x34\x35\x36\x41\x42\x43\x44\x45\x46";
+
+const ZERO_POINT: u32 = 0x80; // the byte that stands for 0 in the picture
 
 const LISTED: usize = list::HEAD + 2 * record::LENGTH; // bytes of a list of two records
 
@@ -237,14 +240,19 @@ fn append_both(buffer: &mut [u8]) {
     print_status(b"appended", large.status);
 }
 
-// Makes the move of record k. A bad record has its number of refusal, and those behind it are still read.
-fn move_record(bytes: &[u8], k: usize, source: &[u8], buffer: &mut [u8]) {
-    let r = list::record_at(bytes, k);
-    if r.reading.status != 0 {
-        print_status(b"bad record", r.reading.status);
+// Makes the move of a record that was read. A bad one has its number of refusal.
+fn move_read(r: Reading, source: &[u8], buffer: &mut [u8]) {
+    if r.status != 0 {
+        print_status(b"bad record", r.status);
         return;
     }
-    move_into(r.reading.tensor, r.reading.config, source, buffer);
+    move_into(r.tensor, r.config, source, buffer);
+}
+
+// The same of record k of a list. Those behind a bad one are still read.
+fn move_record(bytes: &[u8], k: usize, source: &[u8], buffer: &mut [u8]) {
+    let r = list::record_at(bytes, k);
+    move_read(r.reading, source, buffer);
 }
 
 // Makes the move of each record. A refused list has none.
@@ -252,6 +260,24 @@ fn move_listed(bytes: &[u8], source: &[u8], buffer: &mut [u8]) {
     for k in 0..list::record_count(bytes) {
         move_record(bytes, k, source, buffer);
     }
+}
+
+// The thumbnail in a frame of one pixel, of the picture's zero point and not of zeros.
+fn framed() -> Config {
+    let small = thumbnail().with_fill(ZERO_POINT);
+    small.with_pre([1, 1, 0, 0]).with_post([1, 1, 0, 0])
+}
+
+// Writes the record of the framed thumbnail into the room, which has to be as long as the record is, reads it, and makes its move.
+fn write_and_move(room: &mut [u8], source: &[u8], buffer: &mut [u8]) {
+    let n = record::length_for(framed());
+    if room.len() < n {
+        print_status(b"refused", 25);
+        return;
+    }
+    let f = record::write(picture(), framed(), &mut room[0..n]);
+    print_status(b"written", f.status);
+    move_read(record::read(&room[0..n]), source, buffer);
 }
 
 fn main() {
@@ -270,4 +296,6 @@ fn main() {
     print_status(b"started", list::start(&mut burst));
     append_both(&mut burst);
     move_listed(&burst, &pixels, &mut mem);
+    let mut alone = [0u8; record::FILLED_LENGTH];
+    write_and_move(&mut alone, &pixels, &mut mem);
 }

@@ -15,9 +15,9 @@ use Rattle.ready_made.specs.declared.Made.{Made}
 abbrev pub defaults : Config
 defaults = withPerm (withStep zeroConfig (1 ∷ 1 ∷ 1 ∷ 1 ∷ [])) (0 ∷ 1 ∷ 2 ∷ 3 ∷ [])
 
--- the configuration with 0 in every entry at or past the rank n
+-- the configuration with 0 in every entry at or past the rank n; its fill is kept
 unfoldable pub cutTo : ℕ → Config → Config
-cutTo n c = configOf (λ k. firsts n (at (arrayOf c k)))
+cutTo n c = configOf (λ k. firsts n (at (arrayOf c k))) (c .fill)
 
 -- a wrong rank is answered by 1 and all fields 0
 unfoldable pub madeFor : ℕ → Config → Made
@@ -50,6 +50,7 @@ abbrev pub padHwcOf : ℕ → ℕ → ℕ → ℕ → List ℕ → Config
 padHwcOf left right top bottom dstStride =
     cutTo 3 (withDstStride (withPost (withPre defaults (top ∷ left ∷ 0 ∷ 0 ∷ [])) (bottom ∷ right ∷ 0 ∷ 0 ∷ [])) dstStride)
 
+-- every array as given, and fill 0
 abbrev pub allOf : ℕ → List ℕ → List ℕ → List ℕ → List ℕ → List ℕ → List ℕ → List ℕ → List ℕ → Made
 allOf n offset size step dstOffset dstStride perm pre post =
-    madeFor n (configOf (λ k. getD (offset ∷ size ∷ step ∷ dstOffset ∷ dstStride ∷ perm ∷ pre ∷ post ∷ []) k []))
+    madeFor n (configOf (λ k. getD (offset ∷ size ∷ step ∷ dstOffset ∷ dstStride ∷ perm ∷ pre ∷ post ∷ []) k []) 0)

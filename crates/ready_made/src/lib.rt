@@ -1,5 +1,5 @@
 // The ready-made configurations, with the arguments of the MLI text. All but the pads are made for a rank, and refuse a wrong
-// one; no call here asks anything of its caller.
+// one; all have fill 0, which a setting changes. No call here asks anything of its caller.
 use plane::Config;
 use plane::rank_is_bad;
 ghost use mathlib.Core.Path.{_≡_};
@@ -68,6 +68,7 @@ fn cut_to(n: u8, c: Config) -> Config
         perm: cut_bytes(n, perm),
         pre: cut_bytes(n, pre),
         post: cut_bytes(n, post),
+        fill: c.fill,
     }
 }
 
@@ -124,7 +125,7 @@ pub fn permute(rank: u8, perm: [u8; 4]) -> Made
     made_for(rank, defaults().with_perm(perm))
 }
 
-// Zeros around H and W of a plane in CHW order, of rank 3.
+// Padding around H and W of a plane in CHW order, of rank 3.
 pub fn pad_chw(left: u8, right: u8, top: u8, bottom: u8, dst_stride: [u32; 4]) -> Config
     ensures { λ r. ⌜ r ≡ padChwOf left right top bottom «dst_stride» ⌝ }
 {
@@ -134,7 +135,7 @@ pub fn pad_chw(left: u8, right: u8, top: u8, bottom: u8, dst_stride: [u32; 4]) -
     cut_to(3, c.with_dst_stride(dst_stride))
 }
 
-// Zeros around H and W of a plane in HWC order, of rank 3.
+// Padding around H and W of a plane in HWC order, of rank 3.
 pub fn pad_hwc(left: u8, right: u8, top: u8, bottom: u8, dst_stride: [u32; 4]) -> Config
     ensures { λ r. ⌜ r ≡ padHwcOf left right top bottom «dst_stride» ⌝ }
 {
@@ -144,7 +145,7 @@ pub fn pad_hwc(left: u8, right: u8, top: u8, bottom: u8, dst_stride: [u32; 4]) -
     cut_to(3, c.with_dst_stride(dst_stride))
 }
 
-// Every field as given.
+// Every array as given.
 pub fn all(
     rank: u8,
     offset: [u32; 4],
@@ -169,6 +170,7 @@ pub fn all(
             perm,
             pre,
             post,
+            fill: 0,
         },
     )
 }

@@ -14,35 +14,30 @@ use Rattle.faults.specs.declared.Fault.{Fault}
 use Rattle.faults.specs.Faults.{fault}
 use Rattle.faults.proofs.Faults.{status, is-fault, given, spared, if-fault, if-none}
 use Rattle.record.specs.declared.Reading.{Reading}
-use Rattle.record.specs.Layout.{recordLength}
-use Rattle.record.specs.Records.{tensorIn, configIn, recordBytes, badLength, badMark, badVersion, fieldsFault, readFault, writeFault, noReading, reading, readOf, writtenRoom}
+use Rattle.plane.specs.Numbers.{little}
+use Rattle.record.specs.Layout.{recordLength, fillWidth, lengthOf, versionAt, versionOf}
+use Rattle.record.specs.Records.{tensorIn, configIn, recordBytes, badLength, badRoom, badMark, badVersion, fieldsFault, readFault, writeFault, noReading, reading, readOf, writtenRoom}
 use Rattle.record.specs.Private.{tensorBytes, configAt, configBytes}
 use Rattle.record.proofs.Laying.{record-laid}
-
-pub length-bad : (n : ℕ) → (n ≡ recordLength → ⊥) → badLength n ≡ true
-length-bad n h = ap not (ne-eqb n recordLength h)
-
-pub length-good : (n : ℕ) → n ≡ recordLength → badLength n ≡ false
-length-good n h = ap not (eq-eqb n recordLength h)
 
 -- ---- read
 
 module _ (bs : List ℕ) where
-  pub read-25 : (length bs ≡ recordLength → ⊥) → readFault bs ≡ fault 25 0
+  pub read-25 : badLength (length bs) ≡ true → readFault bs ≡ fault 25 0
   unfolding readFault
-  read-25 l = given 25 0 _ _ (omega arith) (length-bad _ l)
+  read-25 l = given 25 0 _ _ (omega arith) l
 
-  pub read-26 : length bs ≡ recordLength → badMark bs ≡ true → readFault bs ≡ fault 26 0
+  pub read-26 : badLength (length bs) ≡ false → badMark bs ≡ true → readFault bs ≡ fault 26 0
   unfolding readFault
-  read-26 l m = spared 25 0 _ _ (length-good _ l) ∙ given 26 0 _ _ (omega arith) m
+  read-26 l m = spared 25 0 _ _ l ∙ given 26 0 _ _ (omega arith) m
 
-  pub read-27 : length bs ≡ recordLength → badMark bs ≡ false → badVersion bs ≡ true → readFault bs ≡ fault 27 0
+  pub read-27 : badLength (length bs) ≡ false → badMark bs ≡ false → badVersion bs ≡ true → readFault bs ≡ fault 27 0
   unfolding readFault
-  read-27 l m v = spared 25 0 _ _ (length-good _ l) ∙ spared 26 0 _ _ m ∙ given 27 0 _ _ (omega arith) v
+  read-27 l m v = spared 25 0 _ _ l ∙ spared 26 0 _ _ m ∙ given 27 0 _ _ (omega arith) v
 
-  pub read-fields : length bs ≡ recordLength → badMark bs ≡ false → badVersion bs ≡ false → readFault bs ≡ fieldsFault (tensorIn bs) (configIn bs)
+  pub read-fields : badLength (length bs) ≡ false → badMark bs ≡ false → badVersion bs ≡ false → readFault bs ≡ fieldsFault (versionAt (length bs)) (tensorIn bs) (configIn bs)
   unfolding readFault
-  read-fields l m v = spared 25 0 _ _ (length-good _ l) ∙ spared 26 0 _ _ m ∙ spared 27 0 _ _ v
+  read-fields l m v = spared 25 0 _ _ l ∙ spared 26 0 _ _ m ∙ spared 27 0 _ _ v
 
   pub read-refused : {f : Fault} {r : Reading} → readFault bs ≡ f → (f .status ≡ 0 → ⊥) → r ≡ noReading f → r ≡ readOf bs
   unfolding readOf
@@ -62,9 +57,9 @@ module _ (bs : List ℕ) where
   ]
 
   -- as the code comes to it: the fields read, and then judged
-  module _ {t : Tensor} {c : Config} {f : Fault} (te : t ≡ tensorIn bs) (ce : c ≡ configIn bs) (fe : f ≡ fieldsFault t c) (l : length bs ≡ recordLength) (m : badMark bs ≡ false) (v : badVersion bs ≡ false) where
+  module _ {t : Tensor} {c : Config} {v : ℕ} {f : Fault} (te : t ≡ tensorIn bs) (ce : c ≡ configIn bs) (ve : v ≡ versionAt (length bs)) (fe : f ≡ fieldsFault v t c) (l : badLength (length bs) ≡ false) (m : badMark bs ≡ false) (w : badVersion bs ≡ false) where
     read-judged : readFault bs ≡ f
-    read-judged = read-fields l m v ∙ ap₂ fieldsFault (sym te) (sym ce) ∙ sym fe
+    read-judged = read-fields l m w ∙ sym (λ i. fieldsFault (ve i) (te i) (ce i)) ∙ sym fe
 
     pub fields-refused : {r : Reading} → (f .status ≡ 0 → ⊥) → r ≡ noReading f → r ≡ readOf bs
     fields-refused h q = read-refused read-judged h q
@@ -75,13 +70,12 @@ module _ (bs : List ℕ) where
 -- ---- write
 
 module _ (t : Tensor) (c : Config) where
-  pub write-25 : (n : ℕ) → (n ≡ recordLength → ⊥) → writeFault t c n ≡ fault 25 0
-  unfolding writeFault
-  write-25 n l = given 25 0 _ _ (omega arith) (length-bad n l)
+  room-bad : (n : ℕ) → (n ≡ lengthOf (versionOf c) → ⊥) → badRoom c n ≡ true
+  room-bad n h = ap not (ne-eqb n (lengthOf (versionOf c)) h)
 
-  pub write-fields : (n : ℕ) → n ≡ recordLength → writeFault t c n ≡ fieldsFault t c
+  pub write-fields : (n : ℕ) → n ≡ lengthOf (versionOf c) → writeFault t c n ≡ fieldsFault (versionOf c) t c
   unfolding writeFault
-  write-fields n l = spared 25 0 _ _ (length-good n l)
+  write-fields n l = spared 25 0 _ _ (ap not (eq-eqb n (lengthOf (versionOf c)) l))
 
   module _ (room : List ℕ) where
     pub room-kept : (writeFault t c (length room) .status ≡ 0 → ⊥) → writtenRoom t c room ≡ room
@@ -93,15 +87,20 @@ module _ (t : Tensor) (c : Config) where
     room-written z = if-none (writeFault t c (length room)) room (recordBytes t c) z
 
     -- as the code comes to it
-    pub write-short : (length room ≡ recordLength → ⊥) → (fault 25 0 ≡ writeFault t c (length room)) × (room ≡ writtenRoom t c room)
-    write-short l = let e = write-25 (length room) l in (sym e, sym (room-kept (is-fault 25 0 (omega arith) e)))
+    pub write-short : (length room ≡ lengthOf (versionOf c) → ⊥) → (fault 25 0 ≡ writeFault t c (length room)) × (room ≡ writtenRoom t c room)
+    unfolding writeFault
+    write-short l =
+        let e : writeFault t c (length room) ≡ fault 25 0 = given 25 0 _ _ (omega arith) (room-bad (length room) l) in
+        (sym e, sym (room-kept (is-fault 25 0 (omega arith) e)))
 
-    module _ {f : Fault} (l : length room ≡ recordLength) (fe : f ≡ fieldsFault t c) where
+    module _ {v : ℕ} {f : Fault} (l : length room ≡ lengthOf (versionOf c)) (ve : v ≡ versionOf c) (fe : f ≡ fieldsFault v t c) where
       write-judged : f ≡ writeFault t c (length room)
-      write-judged = fe ∙ sym (write-fields (length room) l)
+      write-judged = fe ∙ ap (λ (v : ℕ). fieldsFault v t c) ve ∙ sym (write-fields (length room) l)
 
       pub write-refused : (f .status ≡ 0 → ⊥) → (f ≡ writeFault t c (length room)) × (room ≡ writtenRoom t c room)
       write-refused h = (write-judged, sym (room-kept (λ z. h (status write-judged ∙ z))))
 
-      pub write-given : {a b : List ℕ} → f .status ≡ 0 → a ≡ sets room 0 (tensorBytes t) → b ≡ sets a configAt (configBytes c) → (f ≡ writeFault t c (length room)) × (b ≡ writtenRoom t c room)
-      write-given z ea eb = (write-judged, record-laid t c room l ea eb ∙ sym (room-written (sym (status write-judged) ∙ z)))
+      pub write-given : {a b d : List ℕ} → f .status ≡ 0 → a ≡ sets room 0 (tensorBytes v t) → b ≡ sets a configAt (configBytes c) → d ≡ sets b recordLength (little (fillWidth (versionOf c)) (c .fill)) → (f ≡ writeFault t c (length room)) × (d ≡ writtenRoom t c room)
+      write-given z ea eb ed =
+          let e = ea ∙ ap (λ (v : ℕ). sets room 0 (tensorBytes v t)) ve in
+          (write-judged, record-laid t c room l e eb ed ∙ sym (room-written (sym (status write-judged) ∙ z)))

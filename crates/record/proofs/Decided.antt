@@ -6,9 +6,21 @@ use Rattle.faults.specs.Decided.{Decided, OneLeft}
 use Rattle.faults.proofs.Deciding.{by-equation, by-first}
 use Rattle.record.proofs.reader.read.Reads as read
 use Rattle.record.proofs.writer.write.Reads as write
+use Rattle.record.proofs.checks.fields_fault.Reads as fields-fault
+use Rattle.record.proofs.versions.length_in.Reads as length-in
+use Rattle.record.proofs.versions.length_for.Reads as length-for
 
 pub read-decided : Decided read.Pre read.Post
 read-decided = by-equation
+
+pub fields-fault-decided : Decided fields-fault.Pre fields-fault.Post
+fields-fault-decided = by-equation
+
+pub length-in-decided : Decided length-in.Pre length-in.Post
+length-in-decided = by-equation
+
+pub length-for-decided : Decided length-for.Pre length-for.Post
+length-for-decided = by-equation
 
 pub write-decided : Decided write.Pre write.Post
 write-decided = by-first

@@ -11,8 +11,10 @@ use lib.Dec.{eqb}
 use lib.ListN.{length, take, drop}
 use lib.Seq.{sets, getD-drop}
 use Rattle.plane.specs.Arrays.{at, some}
+use Rattle.plane.proofs.Numbers.{length-little}
 use Rattle.faults.proofs.Bools.{either-clear}
-use Rattle.record.specs.Layout.{little, number, part, joined, fourIn, fourBytes}
+use Rattle.plane.specs.Numbers.{little, number}
+use Rattle.record.specs.Layout.{part, joined, fourIn, fourBytes}
 use Rattle.record.specs.RoundTrip.{Bytes}
 use Rattle.record.proofs.Parts.{part-cons, length-joined, sum-const, stored-next}
 
@@ -24,11 +26,6 @@ bytes-take (suc n) (b ∷ bs) h (suc i) = bytes-take n bs (λ j. h (suc j)) i
 
 pub bytes-part : (bs : List ℕ) → Bytes bs → (p n : ℕ) → Bytes (part p n bs)
 bytes-part bs h p n = bytes-take n (drop p bs) (λ i. rw (getD-drop p bs i 0) (h (p + i)))
-
-pub length-little : (w n : ℕ) → length (little w n) ≡ w
-unfolding little
-length-little zero n = refl
-length-little (suc w) n = ap suc (length-little w (n / 256))
 
 -- a number that fits its bytes comes back
 pub number-little : (w n : ℕ) → n < 256 ^ w → number (little w n) ≡ n
@@ -104,23 +101,23 @@ four-stored l p w xs ea eb ec ed =
     let two = stored-next l p (n 0 ++ n 1) (n 2) w one (long 2) ec in
     stored-next l p (n 0 ++ n 1 ++ n 2) (n 3) w two (long 3) ed .is
 
--- ---- a head: a mark of three bytes, version 1 in two, and two bytes more
+-- ---- a head: a mark of three bytes, a version in two, and two bytes more
 
 -- bytes that have this mark and this version start with them
-pub head-is : (x y z : ℕ) (bs rest : List ℕ) → Bytes bs → 7 ≤ length bs → some 3 (λ k. not (eqb (at bs k) (at (x ∷ y ∷ z ∷ []) k))) ≡ false → not (eqb (number (part 3 2 bs)) 1) ≡ false → rest ≡ part 5 2 bs → (x ∷ y ∷ z ∷ []) ++ little 2 1 ++ rest ≡ part 0 7 bs
+pub head-is : (x y z v : ℕ) (bs rest : List ℕ) → Bytes bs → 7 ≤ length bs → some 3 (λ k. not (eqb (at bs k) (at (x ∷ y ∷ z ∷ []) k))) ≡ false → not (eqb (number (part 3 2 bs)) v) ≡ false → rest ≡ part 5 2 bs → (x ∷ y ∷ z ∷ []) ++ little 2 v ++ rest ≡ part 0 7 bs
 unfolding some little
-head-is x y z bs rest b l m v r =
+head-is x y z v bs rest b l m same r =
     let last = either-clear _ _ m in
     let first = either-clear _ _ (last .0) in
     let n = number-two 3 bs (omega arith) in
-    let e : number (part 3 2 bs) ≡ 1 = eqb-true _ _ (not-false _ v) in
+    let e : number (part 3 2 bs) ≡ v = eqb-true _ _ (not-false _ same) in
     let low = b 3 in
     let high = b 4 in
     next 0 6 x _ (omega arith) (sym (eqb-true _ _ (not-false _ (first .0))))
     (next 1 5 y _ (omega arith) (sym (eqb-true _ _ (not-false _ (first .1))))
     (next 2 4 z _ (omega arith) (sym (eqb-true _ _ (not-false _ (last .1))))
-    (next 3 3 1 _ (omega arith) (omega arith)
-    (next 4 2 0 _ (omega arith) (omega arith) r))))
+    (next 3 3 (v % 256) _ (omega arith) (omega arith)
+    (next 4 2 (v / 256 % 256) _ (omega arith) (omega arith) r))))
   where
     next : (p n byte : ℕ) (after : List ℕ) → p < length bs → byte ≡ at bs p → after ≡ part (p + 1) n bs → byte ∷ after ≡ part p (suc n) bs
     next p n byte after h e q = (λ i. e i ∷ q i) ∙ sym (part-cons p n bs h)

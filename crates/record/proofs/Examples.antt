@@ -1,4 +1,4 @@
--- Records written out: the bytes of example A, there and back, and a refusal of each kind. Assumes nothing.
+-- Records written out: the bytes of example A, there and back, without and with a fill, and a refusal of each kind. Assumes nothing.
 use Prim.Native.Nat.{ℕ}
 use mathlib.Core.Path.{_≡_, refl}
 use mathlib.Core.List.{List, [], _∷_, _++_}
@@ -7,8 +7,9 @@ use Rattle.plane.specs.declared.Tensor.{Tensor}
 use Rattle.plane.specs.declared.Config.{Config}
 use Rattle.plane.specs.Arrays.{zeros, sum, some}
 use Rattle.faults.specs.Faults.{fault, when, _orElse_, first, lowest}
-use Rattle.plane.specs.Settings.{zeroConfig, withStep, withPerm, withPost}
-use Rattle.record.specs.Layout.{little, number, joined, start}
+use Rattle.plane.specs.Settings.{zeroConfig, withStep, withPerm, withPost, withFill}
+use Rattle.plane.specs.Numbers.{little, number}
+use Rattle.record.specs.Layout.{joined, start}
 use Rattle.record.specs.Records.{tensorIn, configIn, recordBytes, stray, fieldsFault, readFault, writeFault, noReading, reading, readOf, writtenRoom}
 
 -- example A: shape (2,3), permutation (1,0)
@@ -30,6 +31,54 @@ written-a = refl
 pub read-a : readOf bytesA ≡ reading tensorA configA
 unfolding readOf readFault tensorIn configIn start sum number fieldsFault stray when _orElse_ lowest first some
 read-a = refl
+
+-- the same with a fill of 128: version 2, and the four bytes of the fill behind
+abbrev pub bytesFilled : List ℕ
+bytesFilled = set bytesA 3 2 ++ (128 ∷ 0 ∷ 0 ∷ 0 ∷ [])
+
+pub written-filled : writtenRoom tensorA (withFill configA 128) (replicate 135 9) ≡ bytesFilled
+unfolding writtenRoom writeFault fieldsFault stray recordBytes joined little when _orElse_ lowest first some
+written-filled = refl
+
+pub read-filled : readOf bytesFilled ≡ reading tensorA (withFill configA 128)
+unfolding readOf readFault tensorIn configIn start sum number fieldsFault stray when _orElse_ lowest first some
+read-filled = refl
+
+-- 28 at dimension 0: a fill of 0, and one with a byte past the one of an element
+pub fill-0 : readOf (set bytesFilled 131 0) ≡ noReading (fault 28 0)
+unfolding readOf readFault tensorIn configIn start sum number fieldsFault stray when _orElse_ lowest first some
+fill-0 = refl
+
+pub fill-wide : readOf (set bytesFilled 132 1) ≡ noReading (fault 28 0)
+unfolding readOf readFault tensorIn configIn start sum number fieldsFault stray when _orElse_ lowest first some
+fill-wide = refl
+
+-- 2: version 2 looks at the element size, version 1 does not
+pub size-3 : readOf (set bytesFilled 6 3) ≡ noReading (fault 2 0)
+unfolding readOf readFault tensorIn configIn start sum number fieldsFault stray when _orElse_ lowest first some
+size-3 = refl
+
+pub size-3-plain : readOf (set bytesA 6 3) .status ≡ 0
+unfolding readOf readFault tensorIn configIn start sum number fieldsFault stray when _orElse_ lowest first some
+size-3-plain = refl
+
+-- 27: version 1 with the length of version 2, and the other way round; 25: between the two lengths
+pub plain-long : readOf (set bytesFilled 3 1) ≡ noReading (fault 27 0)
+unfolding readOf readFault number when _orElse_ some
+plain-long = refl
+
+pub filled-short : readOf (take 131 bytesFilled) ≡ noReading (fault 27 0)
+unfolding readOf readFault number when _orElse_ some
+filled-short = refl
+
+pub between : readOf (take 134 bytesFilled) ≡ noReading (fault 25 0)
+unfolding readOf readFault when _orElse_
+between = refl
+
+-- 25: a room of the other version's length
+pub rooms : (writeFault tensorA configA 135 ≡ fault 25 0) × (writeFault tensorA (withFill configA 128) 131 ≡ fault 25 0)
+unfolding writeFault when _orElse_
+rooms = (refl, refl)
 
 -- 25: cut short
 pub short : readOf (take 130 bytesA) ≡ noReading (fault 25 0)

@@ -7,6 +7,8 @@ pub mod Examples
 -- Laws over plain values, which the functions' proofs cite.
 pub mod Parts
 pub mod Digits
+pub mod Lengths
 pub mod Strays
+pub mod Fields
 pub mod Laying
 pub mod Answers

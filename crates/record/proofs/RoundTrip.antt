@@ -1,15 +1,16 @@
 -- What is written reads back to the same fields, and what is read and accepted writes back to the same bytes. So equal fields and
 -- equal bytes go together, and accepted bytes are the writing of exactly one tensor record and configuration. Assumes nothing.
 use Prim.Native.Nat.{ℕ, zero, suc, _+_, _*_, _^_, _≤_, _<_}
-use native.Mathlib.Nat.{not-suc-le-zero}
+use native.Mathlib.Nat.{not-suc-le-zero, pow-le-pow-right}
 use native.Mathlib.Decide.{ℕ-discrete}
 use native.Mathlib.Omega.{arith}
 use mathlib.Core.Path.{_≡_, refl, sym, ap, ap₂, subst, _∙_}
-use mathlib.Core.Logic.{inl, inr}
-use mathlib.Core.Bool.{false}
+use mathlib.Core.Logic.{inl, inr, ⊎-elim}
+use mathlib.Core.Bool.{Bool, true, false, cond, not}
 use mathlib.Core.List.{List, [], _∷_, _++_}
-use borrow.Author.Tests.{eqb-true, not-false}
-use lib.ListN.{length, getD}
+use borrow.Author.Tests.{eqb-true, eq-eqb, le-ltb, not-false}
+use lib.Dec.{eqb}
+use lib.ListN.{length, getD, take, drop, length-take, length-drop, drop-of-length-le, take-append-drop}
 use lib.Seq.{take-all, take-add}
 use Rattle.plane.specs.declared.Tensor.{Tensor}
 use Rattle.plane.specs.declared.Config.{Config}
@@ -17,15 +18,20 @@ use Rattle.plane.specs.Arrays.{at, sum, some}
 use Rattle.faults.specs.Faults.{when}
 use Rattle.plane.specs.Settings.{arrayOf}
 use Rattle.plane.proofs.Arrays.{table-at, is-table}
-use Rattle.plane.proofs.Configs.{same-arrays}
+use Rattle.plane.proofs.Configs.{same-config}
+use Rattle.plane.proofs.Numbers.{length-little}
+use Rattle.faults.proofs.Bools.{either-clear}
 use Rattle.faults.proofs.Faults.{status, or-clear, when-clear}
 use Rattle.record.specs.declared.Reading.{Reading}
-use Rattle.record.specs.Layout.{little, number, part, joined, recordLength, rankIn, sizeIn, headBytes, groupCount, group, width, start, fourBytes}
-use Rattle.record.specs.Records.{groupIn, tensorIn, configIn, recordBytes, badLength, badMark, badVersion, fieldsFault, readFault, writeFault, reading, readOf, writtenRoom}
-use Rattle.record.specs.RoundTrip.{Fits, Bytes, OneWriting, ReadBack, WriteBack, SameFieldsSameBytes, AcceptedOnce, RefusedOrOnce}
-use Rattle.record.proofs.Parts.{part-cons, length-part, part-append, part-part, sum-step, sum-const, joined-same, part-joined, joined-parts}
-use Rattle.record.proofs.Digits.{bytes-part, length-little, number-little, little-number, number-fits, length-four, head-is}
-use Rattle.record.proofs.Laying.{length-record}
+use Rattle.plane.specs.Numbers.{little, number}
+use Rattle.record.specs.Layout.{part, joined, recordLength, fillWidth, lengthOf, versionAt, versionOf, versionIn, rankIn, sizeIn, fillIn, headBytes, groupCount, group, width, start, fourBytes}
+use Rattle.record.specs.Records.{groupIn, tensorIn, configIn, recordBytes, lengthIn, badLength, badMark, badVersion, fieldsFault, readFault, writeFault, reading, readOf, writtenRoom}
+use Rattle.record.specs.RoundTrip.{Fits, Bytes, OneWriting, ReadBack, WriteBack, ReadLength, SameFieldsSameBytes, AcceptedOnce, RefusedOrOnce}
+use Rattle.record.proofs.Parts.{part-cons, length-part, part-append, part-left, part-part, sum-step, sum-const, joined-same, part-joined, joined-parts}
+use Rattle.record.proofs.Digits.{bytes-part, number-little, little-number, number-fits, length-four, head-is}
+use Rattle.record.proofs.Laying.{length-before, length-record}
+use Rattle.record.proofs.Lengths.{two-lengths, fill-none, long-enough, length-again, by-version, version-again, length-right}
+use Rattle.record.proofs.Fields.{fill-passed}
 use Rattle.record.proofs.Answers.{read-fields, read-given, read-status, write-fields, room-written}
 
 -- the bytes of group k
@@ -40,6 +46,11 @@ within d w h =
     let q = sum-const 4 w in
     omega arith
 
+-- group k ends where the groups end, or before
+group-end : (k : ℕ) → k < groupCount → start k + 4 * width k ≤ recordLength
+unfolding start sum four
+group-end k h = let e = sum-step groupCount k four h in omega arith
+
 -- ---- a. Fields written come back
 
 module _ (t : Tensor) (c : Config) (f : Fits t c) where
@@ -49,12 +60,16 @@ module _ (t : Tensor) (c : Config) (f : Fits t c) where
       let w = width k in
       let xs = group t c k in
       let s = sum k four in
-      let heads = headBytes (t .rank) (t .«element_size») in
+      let heads = headBytes (versionOf c) (t .rank) (t .«element_size») in
       let all = joined groupCount (λ j. fourBytes (width j) (group t c j)) in
       let place : start k + d * w ≡ length heads + (s + d * w) = omega arith in
       let same : d * w ≡ sum d (λ _. w) = sym (sum-const d w) in
+      let ends = group-end k h in
+      let i = within d w q in
+      let long = length-before t c in
       ap number
-      (ap (λ (p : ℕ). part p w (heads ++ all)) place ∙
+      (part-left (heads ++ all) (little (fillWidth (versionOf c)) (c .fill)) (start k + d * w) w (omega arith) ∙
+      ap (λ (p : ℕ). part p w (heads ++ all)) place ∙
       part-append heads all (s + d * w) w ∙
       sym (part-part s (4 * w) (d * w) w all (within d w q)) ∙
       ap (part (d * w) w) (part-joined groupCount (λ j. fourBytes (width j) (group t c j)) four k (λ j _. length-four (width j) (group t c j)) h) ∙
@@ -71,26 +86,56 @@ module _ (t : Tensor) (c : Config) (f : Fits t c) where
   tensor-back =
       λ i. record { rank = t .rank; «element_size» = t .«element_size»; shape = group-back 0 (omega arith) i; stride = group-back 1 (omega arith) i }
 
+  fill-fits : c .fill < 256 ^ fillWidth (versionOf c)
+  fill-fits = by-test (eqb (c .fill) 0) refl
+    where
+      by-test : (b : Bool) → eqb (c .fill) 0 ≡ b → c .fill < 256 ^ fillWidth (cond b 1 2)
+      by-test true e = let z = eqb-true (c .fill) 0 e in omega arith
+      by-test false e = f .fill
+
+  fill-back : fillIn (recordBytes t c) ≡ c .fill
+  unfolding recordBytes
+  fill-back =
+      let w = fillWidth (versionOf c) in
+      let before = headBytes (versionOf c) (t .rank) (t .«element_size») ++ joined groupCount (λ j. fourBytes (width j) (group t c j)) in
+      let place : recordLength ≡ length before + 0 = let long = length-before t c in omega arith in
+      let short : w ≤ 4 = by-version c (λ v. fillWidth v ≤ 4) (omega arith) (omega arith) in
+      ap number
+      (ap (λ (p : ℕ). part p 4 (before ++ little w (c .fill))) place ∙
+      part-append before (little w (c .fill)) 0 4 ∙
+      take-all 4 (little w (c .fill)) (let long = length-little w (c .fill) in omega arith)) ∙
+      number-little w (c .fill) fill-fits
+
   config-back : configIn (recordBytes t c) ≡ c
   unfolding configIn
   config-back =
-      same-arrays _ (arrayOf c)
+      same-config _ (arrayOf c)
       (λ k h. group-back (2 + k) (omega arith) ∙ ap (group t c) (let z : 2 + k ≡ suc (suc k) = omega arith in z))
+      fill-back
 
   mark-back : badMark (recordBytes t c) ≡ false
   unfolding recordBytes some
   mark-back = refl
 
+  -- the version that is written is that of the length
+  version-is : versionAt (length (recordBytes t c)) ≡ versionOf c
+  version-is = ap versionAt (length-record t c) ∙ version-again c
+
+  version-in : versionIn (recordBytes t c) ≡ versionOf c
+  unfolding recordBytes little
+  version-in = number-little 2 (versionOf c) (by-version c (λ v. v < 256 ^ 2) (omega arith) (omega arith))
+
   version-back : badVersion (recordBytes t c) ≡ false
-  unfolding recordBytes little number
-  version-back = refl
+  version-back = ap not (eq-eqb _ _ (version-in ∙ sym version-is))
 
   -- a record is judged as its fields are
-  fault-back : readFault (recordBytes t c) ≡ fieldsFault t c
-  fault-back = read-fields (recordBytes t c) (length-record t c) mark-back version-back ∙ ap₂ fieldsFault tensor-back config-back
+  fault-back : readFault (recordBytes t c) ≡ fieldsFault (versionOf c) t c
+  fault-back =
+      read-fields (recordBytes t c) (ap badLength (length-record t c) ∙ length-right c) mark-back version-back ∙
+      (λ i. fieldsFault (version-is i) (tensor-back i) (config-back i))
 
   -- and that of accepted fields reads as they are
-  pub record-back : fieldsFault t c .status ≡ 0 → readOf (recordBytes t c) ≡ reading t c
+  pub record-back : fieldsFault (versionOf c) t c .status ≡ 0 → readOf (recordBytes t c) ≡ reading t c
   record-back z = read-given (recordBytes t c) (status fault-back ∙ z) ∙ ap₂ reading tensor-back config-back
 
 -- the theorem: what is written reads back
@@ -118,10 +163,9 @@ module _ (bs : List ℕ) (b : Bytes bs) where
   unfolding tensorIn configIn
   group-in k h = ten-at (groupIn bs) [] k h
 
-  module _ (l : length bs ≡ recordLength) where
+  module _ (l : recordLength ≤ length bs) where
     group-ends : (k : ℕ) → k < groupCount → start k + 4 * width k ≤ length bs
-    unfolding start sum four
-    group-ends k h = let e = sum-step groupCount k four h in omega arith
+    group-ends k h = let e = group-end k h in omega arith
 
     -- a group's bytes are where it was read
     entry-bytes : (k d : ℕ) → k < groupCount → d < 4 → little (width k) (at (groupIn bs k) d) ≡ part (start k + d * width k) (width k) bs
@@ -148,24 +192,22 @@ module _ (bs : List ℕ) (b : Bytes bs) where
         (λ k h. ap (fourBytes (width k)) (group-in k h) ∙ group-bytes k h) ∙
         joined-parts groupCount 7 four bs
 
-    head-bytes : badMark bs ≡ false → badVersion bs ≡ false → headBytes (rankIn bs) (sizeIn bs) ≡ part 0 7 bs
+    head-bytes : badMark bs ≡ false → badVersion bs ≡ false → headBytes (versionAt (length bs)) (rankIn bs) (sizeIn bs) ≡ part 0 7 bs
     head-bytes m v =
-        head-is 82 77 86 bs _ b (omega arith) m v
+        head-is 82 77 86 (versionAt (length bs)) bs _ b (omega arith) m v
         (sym (part-cons 5 1 bs (omega arith) ∙ ap (λ (l : List ℕ). rankIn bs ∷ l) (part-cons 6 0 bs (omega arith))))
 
-    pub bytes-back : badMark bs ≡ false → badVersion bs ≡ false → recordBytes (tensorIn bs) (configIn bs) ≡ bs
-    unfolding recordBytes tensorIn
-    bytes-back m v =
-        ap₂ (λ (x y : List ℕ). x ++ y) (head-bytes m v) groups-bytes ∙
-        sym (take-add 7 124 bs) ∙ take-all recordLength bs (omega arith)
+    before-bytes : badMark bs ≡ false → badVersion bs ≡ false → headBytes (versionAt (length bs)) (rankIn bs) (sizeIn bs) ++ joined groupCount (λ k. fourBytes (width k) (group (tensorIn bs) (configIn bs) k)) ≡ take recordLength bs
+    before-bytes m v = ap₂ (λ (x y : List ℕ). x ++ y) (head-bytes m v) groups-bytes ∙ sym (take-add 7 124 bs)
 
     fits-read : Fits (tensorIn bs) (configIn bs)
-    unfolding tensorIn
+    unfolding tensorIn configIn
     fits-read = record {
       rank = b 5;
       element = b 6;
       long = λ k h. ap length (group-in k h);
       small = λ k d h q. small k d h q;
+      fill = fill;
     }
       where
         small : (k d : ℕ) → k < groupCount → d < 4 → at (group (tensorIn bs) (configIn bs) k) d < 256 ^ width k
@@ -180,12 +222,35 @@ module _ (bs : List ℕ) (b : Bytes bs) where
             let y : number (part p w bs) < 256 ^ w = subst (λ (m : ℕ). number (part p w bs) < 256 ^ m) n (number-fits (part p w bs) (bytes-part bs b p w)) in
             rw z y
 
+        fill : configIn bs .fill < 256 ^ 4
+        fill =
+            let p = part recordLength 4 bs in
+            let n : length p ≤ 4 = simp length-take (omega arith) in
+            let m = number-fits p (bytes-part bs b recordLength 4) in
+            let y : 256 ^ length p ≤ 256 ^ 4 = pow-le-pow-right (omega arith) n in
+            omega arith
+
+-- the bytes of the fill are where it was read
+fill-bytes : (bs : List ℕ) → Bytes bs → badLength (length bs) ≡ false → little (fillWidth (versionAt (length bs))) (fillIn bs) ≡ drop recordLength bs
+unfolding little
+fill-bytes bs b h =
+    ⊎-elim
+    (λ n. ap (λ (m : ℕ). little (fillWidth (versionAt m)) (fillIn bs)) n ∙ sym (drop-of-length-le bs {i = recordLength} (omega arith)))
+    (λ n.
+    let p = part recordLength 4 bs in
+    let l = length-part recordLength 4 bs (omega arith) in
+    let r = length-drop recordLength bs in
+    ap (λ (m : ℕ). little (fillWidth (versionAt m)) (fillIn bs)) n ∙
+    ap (λ (m : ℕ). little m (number p)) (sym l) ∙ little-number p (bytes-part bs b recordLength 4) ∙
+    take-all 4 (drop recordLength bs) (omega arith))
+    (two-lengths (length bs) h)
+
 -- what an accepted reading has passed
 record Passed (bs : List ℕ) : Type 0 where
-  long : length bs ≡ recordLength
+  long : badLength (length bs) ≡ false
   mark : badMark bs ≡ false
   version : badVersion bs ≡ false
-  fields : fieldsFault (tensorIn bs) (configIn bs) .status ≡ 0
+  fields : fieldsFault (versionAt (length bs)) (tensorIn bs) (configIn bs) .status ≡ 0
 
 passed : (bs : List ℕ) → readFault bs .status ≡ 0 → Passed bs
 unfolding readFault
@@ -193,22 +258,53 @@ passed bs z =
     let x = or-clear (when 25 0 (badLength (length bs))) _ z in
     let y = or-clear (when 26 0 (badMark bs)) _ (x .1) in
     let w = or-clear (when 27 0 (badVersion bs)) _ (y .1) in record {
-      long = eqb-true _ _ (not-false _ (when-clear 25 0 (badLength (length bs)) (omega arith) (x .0)));
+      long = when-clear 25 0 (badLength (length bs)) (omega arith) (x .0);
       mark = when-clear 26 0 (badMark bs) (omega arith) (y .0);
       version = when-clear 27 0 (badVersion bs) (omega arith) (w .0);
       fields = w .1;
     }
 
--- the theorem: what is read and accepted is accepted by a write too, and written over any room of 131 bytes gives the bytes
+-- the version that is written of what was read is the one that was read
+version-same : (bs : List ℕ) → Passed bs → versionOf (configIn bs) ≡ versionAt (length bs)
+unfolding configIn
+version-same bs p =
+    ⊎-elim
+    (λ n. ap (λ (m : ℕ). cond (eqb m 0) 1 2) (fill-none bs n) ∙ sym (ap versionAt n))
+    (λ n.
+    let z = sym (status (ap (λ (m : ℕ). fieldsFault (versionAt m) (tensorIn bs) (configIn bs)) n)) ∙ p .fields in
+    let e = either-clear (eqb (fillIn bs) 0) _ (fill-passed (tensorIn bs) (configIn bs) z) .0 in
+    ap (λ (b : Bool). cond b 1 2) e ∙ sym (ap versionAt n))
+    (two-lengths (length bs) (p .long))
+
+-- the bytes that were read are the record of their fields
+bytes-back : (bs : List ℕ) → Bytes bs → Passed bs → recordBytes (tensorIn bs) (configIn bs) ≡ bs
+unfolding recordBytes tensorIn configIn
+bytes-back bs b p =
+    ap (λ (v : ℕ). headBytes v (rankIn bs) (sizeIn bs) ++ joined groupCount (λ k. fourBytes (width k) (group (tensorIn bs) (configIn bs) k)) ++ little (fillWidth v) (fillIn bs)) (version-same bs p) ∙
+    ap₂ (λ (x y : List ℕ). x ++ y) (before-bytes bs b (long-enough (length bs) (p .long)) (p .mark) (p .version)) (fill-bytes bs b (p .long)) ∙
+    take-append-drop recordLength bs
+
+-- the theorem: what is read and accepted is accepted by a write too, and written over any room that is as long gives the bytes
 pub write-back : WriteBack
 write-back bs room b z l =
     let y = sym (read-status bs) ∙ z in
     let p = passed bs y in
     let g = sym (read-given bs y) in
-    let e = write-fields (tensorIn bs) (configIn bs) (length room) l in
-    let a = status e ∙ p .fields in
+    let v = version-same bs p in
+    let e = write-fields (tensorIn bs) (configIn bs) (length room) (l ∙ sym (ap lengthOf v ∙ length-again (length bs) (p .long))) in
+    let a = status (e ∙ ap (λ (v : ℕ). fieldsFault v (tensorIn bs) (configIn bs)) v) ∙ p .fields in
     subst (λ (r : Reading). (writeFault (r .tensor) (r .config) (length room) .status ≡ 0) × (writtenRoom (r .tensor) (r .config) room ≡ bs)) g
-    (a, room-written (tensorIn bs) (configIn bs) room a ∙ bytes-back bs b (p .long) (p .mark) (p .version))
+    (a, room-written (tensorIn bs) (configIn bs) room a ∙ bytes-back bs b p)
+
+-- the theorem: its first bytes tell how long it is
+pub read-length : ReadLength
+unfolding lengthIn
+read-length bs n h z =
+    let p = passed bs (sym (read-status bs) ∙ z) in
+    let l = long-enough (length bs) (p .long) in
+    let m : 5 ≤ length (take n bs) = simp length-take (omega arith) in
+    let v : versionIn bs ≡ versionAt (length bs) = eqb-true _ _ (not-false _ (p .version)) in
+    rw (le-ltb (length (take n bs)) 5 m, part-part 0 n 3 2 bs h, v) (length-again (length bs) (p .long))
 
 -- ---- c. Equal fields and equal bytes go together
 
@@ -228,12 +324,12 @@ accepted-once bs b = (
     once : readFault bs .status ≡ 0 → OneWriting bs
     once y =
         let p = passed bs y in
-        let f = fits-read bs b (p .long) in
-        let e = bytes-back bs b (p .long) (p .mark) (p .version) in record {
+        let f = fits-read bs b (long-enough (length bs) (p .long)) in
+        let e = bytes-back bs b p in record {
           tensor = tensorIn bs;
           config = configIn bs;
           fits = f;
-          accepts = p .fields;
+          accepts = status (ap (λ (v : ℕ). fieldsFault v (tensorIn bs) (configIn bs)) (version-same bs p)) ∙ p .fields;
           is = e;
           only = λ t c g q. same-fields-same-bytes t c (tensorIn bs) (configIn bs) g f .0 (q ∙ sym e);
         }

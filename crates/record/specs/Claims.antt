@@ -7,12 +7,16 @@ use Rattle.faults.specs.Faults.{fault}
 use Rattle.faults.specs.Exactness.{Exact}
 use Rattle.plane.specs.declared.Tensor.{Tensor}
 use Rattle.plane.specs.declared.Config.{Config}
-use Rattle.record.specs.Records.{writeFault, noReading, readOf, writtenRoom}
-use Rattle.record.specs.Orders.{readRules, writeRules}
+use Rattle.record.specs.Records.{fieldsFault, writeFault, noReading, readOf, writtenRoom}
+use Rattle.record.specs.Orders.{fieldsRules, readRules, writeRules}
 
 -- every answer is exact for the rules of its call
 abbrev pub ReadExact : Type 0
 ReadExact = (bs : List ℕ) → let a = readOf bs in Exact (readRules bs) (a .status) (a .dim)
+
+abbrev pub FieldsExact : Type 0
+FieldsExact =
+    (v : ℕ) (t : Tensor) (c : Config) → let f = fieldsFault v t c in Exact (fieldsRules v t c) (f .status) (f .dim)
 
 abbrev pub WriteExact : Type 0
 WriteExact = (t : Tensor) (c : Config) (n : ℕ) → let f = writeFault t c n in Exact (writeRules t c n) (f .status) (f .dim)

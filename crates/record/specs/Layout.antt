@@ -1,25 +1,16 @@
 -- The bytes of a move record: which field stands where. What read and write have to agree on is here, and nowhere else.
-use Prim.Native.Nat.{ℕ, zero, suc, _+_, _-_, _*_, _/_, _%_}
+use Prim.Native.Nat.{ℕ, zero, suc, _+_, _-_, _*_}
 use mathlib.Core.Bool.{cond}
 use mathlib.Core.List.{List, [], _∷_, _++_}
-use lib.Dec.{ltb}
+use lib.Dec.{ltb, eqb}
 use lib.ListN.{getD, take, drop}
 use Rattle.plane.specs.declared.Tensor.{Tensor}
 use Rattle.plane.specs.declared.Config.{Config}
 use Rattle.plane.specs.Arrays.{at, table, sum}
 use Rattle.plane.specs.Settings.{arrays}
+use Rattle.plane.specs.Numbers.{little, number}
 
--- ---- Numbers as bytes, the lowest byte first
-
--- the w lowest bytes of n
-unfoldable pub little : ℕ → ℕ → List ℕ
-little zero n = []
-little (suc w) n = n % 256 ∷ little w (n / 256)
-
--- the number that these bytes are
-unfoldable pub number : List ℕ → ℕ
-number [] = 0
-number (b ∷ bs) = b + 256 * number bs
+-- ---- Parts of lists, and lists one after the other
 
 -- the n bytes from byte p on
 abbrev pub part : ℕ → ℕ → List ℕ → List ℕ
@@ -30,7 +21,7 @@ unfoldable pub joined : ℕ → (ℕ → List ℕ) → List ℕ
 joined zero f = []
 joined (suc k) f = joined k f ++ f k
 
--- ---- The table: seven bytes, and then ten groups of four numbers
+-- ---- The table: seven bytes, ten groups of four numbers, and in version 2 the fill
 
 -- mark, version, rank and element size
 abbrev pub headLength : ℕ
@@ -43,18 +34,31 @@ groupCount = 10
 abbrev pub wideGroups : ℕ
 wideGroups = 7
 
--- 131
+-- where the groups end: 131
 abbrev pub recordLength : ℕ
 recordLength = headLength + wideGroups * (4 * 4) + (groupCount - wideGroups) * (4 * 1)
+
+-- the bytes of the fill that stand there: none in version 1, four in version 2
+abbrev pub fillWidth : ℕ → ℕ
+fillWidth v = cond (eqb v 2) 4 0
+
+-- the bytes of a record of version v: 131 or 135
+abbrev pub lengthOf : ℕ → ℕ
+lengthOf v = recordLength + fillWidth v
+
+-- the version of a record of n bytes
+abbrev pub versionAt : ℕ → ℕ
+versionAt n = cond (eqb n (lengthOf 2)) 2 1
+
+-- the version that a configuration is written as: a fill of 0 as version 1
+abbrev pub versionOf : Config → ℕ
+versionOf c = cond (eqb (c .fill) 0) 1 2
 
 -- R, M, V
 abbrev pub mark : List ℕ
 mark = 82 ∷ 77 ∷ 86 ∷ []
 
 -- the version, in two bytes from byte 3 on
-abbrev pub theVersion : ℕ
-theVersion = 1
-
 abbrev pub versionIn : List ℕ → ℕ
 versionIn bs = number (part 3 2 bs)
 
@@ -65,8 +69,12 @@ abbrev pub sizeIn : List ℕ → ℕ
 sizeIn bs = at bs 6
 
 -- mark, version, rank and element size
-abbrev pub headBytes : ℕ → ℕ → List ℕ
-headBytes rank size = mark ++ little 2 theVersion ++ rank ∷ size ∷ []
+abbrev pub headBytes : ℕ → ℕ → ℕ → List ℕ
+headBytes version rank size = mark ++ little 2 version ++ rank ∷ size ∷ []
+
+-- the fill, in four bytes from byte 131 on; of version 1, which ends there, it is 0
+abbrev pub fillIn : List ℕ → ℕ
+fillIn bs = number (part recordLength 4 bs)
 
 -- the groups, in the record's order: the tensor record's two arrays, and the configuration's in their order
 abbrev pub groups : Tensor → Config → List (List ℕ)

@@ -6,14 +6,14 @@ use Rattle.plane.specs.declared.Config.{Config}
 use Rattle.plane.specs.Settings.{arrayCount, arrayOf}
 use Rattle.record.specs.Layout.{joined, headLength, headBytes, width, fourBytes}
 
--- the record's bytes up to the end of the strides
-unfoldable pub tensorBytes : Tensor → List ℕ
-tensorBytes t = headBytes (t .rank) (t .«element_size») ++ fourBytes 4 (t .shape) ++ fourBytes 4 (t .stride)
+-- the bytes of a record of version v up to the end of the strides
+unfoldable pub tensorBytes : ℕ → Tensor → List ℕ
+tensorBytes v t = headBytes v (t .rank) (t .«element_size») ++ fourBytes 4 (t .shape) ++ fourBytes 4 (t .stride)
 
 -- where they end: past two groups
 abbrev pub configAt : ℕ
 configAt = headLength + 2 * (4 * 4)
 
--- the bytes from there on
+-- the bytes from there to the end of the groups
 unfoldable pub configBytes : Config → List ℕ
 configBytes c = joined arrayCount (λ k. fourBytes (width (2 + k)) (arrayOf c k))

@@ -1,19 +1,20 @@
 -- The move record: what reading bytes answers, and what writing a tensor record and a configuration does.
-use Prim.Native.Nat.{ℕ, _+_}
-use mathlib.Core.Bool.{Bool, not, _&&_}
+use Prim.Native.Nat.{ℕ, _+_, _^_}
+use mathlib.Core.Bool.{Bool, cond, not, _&&_, _||_}
 use mathlib.Core.List.{List, _++_}
-use lib.Dec.{leb, eqb}
+use lib.Dec.{leb, ltb, eqb}
 use lib.ListN.{length}
 use Rattle.plane.specs.declared.Tensor.{Tensor}
 use Rattle.plane.specs.declared.Config.{Config}
 use Rattle.faults.specs.declared.Fault.{Fault}
 use Rattle.plane.specs.Arrays.{at, some}
 use Rattle.faults.specs.Faults.{when, _orElse_, lowest, ifFault}
-use Rattle.plane.specs.Planes.{badRank}
+use Rattle.plane.specs.Planes.{badRank, badElement}
+use Rattle.plane.specs.Numbers.{little}
 use Rattle.plane.specs.Settings.{configOf, zeroConfig}
 use Rattle.plane.specs.Planes.{zeroTensor}
 use Rattle.record.specs.declared.Reading.{Reading}
-use Rattle.record.specs.Layout.{joined, recordLength, mark, theVersion, versionIn, rankIn, sizeIn}
+use Rattle.record.specs.Layout.{joined, fillWidth, lengthOf, versionAt, versionOf, mark, versionIn, rankIn, sizeIn, fillIn}
 use Rattle.record.specs.Layout.{headBytes, groupCount, group, width, start, fourIn, fourBytes}
 
 -- ---- The fields that bytes hold, and the bytes of fields
@@ -25,44 +26,63 @@ unfoldable pub tensorIn : List ℕ → Tensor
 tensorIn bs = record { rank = rankIn bs; «element_size» = sizeIn bs; shape = groupIn bs 0; stride = groupIn bs 1 }
 
 unfoldable pub configIn : List ℕ → Config
-configIn bs = configOf (λ k. groupIn bs (2 + k))
+configIn bs = configOf (λ k. groupIn bs (2 + k)) (fillIn bs)
 
--- the first seven bytes, and then the groups
+-- the first seven bytes, the groups, and in version 2 the fill
 unfoldable pub recordBytes : Tensor → Config → List ℕ
-recordBytes t c = headBytes (t .rank) (t .«element_size») ++ joined groupCount (λ k. fourBytes (width k) (group t c k))
+recordBytes t c =
+    headBytes (versionOf c) (t .rank) (t .«element_size») ++
+    joined groupCount (λ k. fourBytes (width k) (group t c k)) ++
+    little (fillWidth (versionOf c)) (c .fill)
+
+-- how long a record is that begins with these bytes, by its version; too few to have one count as version 1
+unfoldable pub lengthIn : List ℕ → ℕ
+lengthIn bs = lengthOf (cond (ltb (length bs) 5) 1 (versionIn bs))
 
 -- ---- The numbers of refusal
 
--- 25: not 131 bytes
+-- 25: neither 131 nor 135 bytes
 abbrev pub badLength : ℕ → Bool
-badLength n = not (eqb n recordLength)
+badLength n = not (eqb n (lengthOf 1)) && not (eqb n (lengthOf 2))
+
+-- and of a room: not of the version that is written
+abbrev pub badRoom : Config → ℕ → Bool
+badRoom c n = not (eqb n (lengthOf (versionOf c)))
 
 -- 26: another mark
 abbrev pub badMark : List ℕ → Bool
 badMark bs = some 3 (λ k. not (eqb (at bs k) (at mark k)))
 
--- 27: another version
+-- 27: not the version of that length
 abbrev pub badVersion : List ℕ → Bool
-badVersion bs = not (eqb (versionIn bs) theVersion)
+badVersion bs = not (eqb (versionIn bs) (versionAt (length bs)))
 
 -- 28: d is at or past the rank, and some group has an entry there that is not 0
 unfoldable pub stray : Tensor → Config → ℕ → Bool
 stray t c d = leb (t .rank) d && some groupCount (λ k. not (eqb (at (group t c k) d) 0))
 
--- 1 and 28, which read and write share
-unfoldable pub fieldsFault : Tensor → Config → Fault
-fieldsFault t c = when 1 0 (badRank (t .rank)) orElse lowest 28 4 (stray t c)
+-- 28 of version 2 besides: a fill of 0, or one with a byte past the z bytes of an element that is not 0
+abbrev pub badFill : ℕ → ℕ → Bool
+badFill z n = eqb n 0 || leb (256 ^ z) n
+
+-- what read and write share: 1, for version 2 also 2, 28, and for version 2 also 28 at dimension 0
+unfoldable pub fieldsFault : ℕ → Tensor → Config → Fault
+fieldsFault v t c =
+    when 1 0 (badRank (t .rank)) orElse
+    when 2 0 (eqb v 2 && badElement (t .«element_size»)) orElse
+    lowest 28 4 (stray t c) orElse
+    when 28 0 (eqb v 2 && badFill (t .«element_size») (c .fill))
 
 unfoldable pub readFault : List ℕ → Fault
 readFault bs =
     when 25 0 (badLength (length bs)) orElse
     when 26 0 (badMark bs) orElse
     when 27 0 (badVersion bs) orElse
-    fieldsFault (tensorIn bs) (configIn bs)
+    fieldsFault (versionAt (length bs)) (tensorIn bs) (configIn bs)
 
 -- for a room of n bytes
 unfoldable pub writeFault : Tensor → Config → ℕ → Fault
-writeFault t c n = when 25 0 (badLength n) orElse fieldsFault t c
+writeFault t c n = when 25 0 (badRoom c n) orElse fieldsFault (versionOf c) t c
 
 -- ---- The answers
 

@@ -1,16 +1,19 @@
-// What is asked of the fields of a record: 1 and 28.
+// What is asked of the fields of a record: 1, 2 and 28.
+use crate::layout;
 use plane::Config;
 use plane::Fault;
 use plane::Tensor;
+use plane::element_size;
 use plane::rank_is_bad;
 ghost use mathlib.Core.Path.{_≡_};
 ghost use mathlib.Core.Bool.{not};
 ghost use Prim.Native.Nat.{_≤_, _<_};
 ghost use lib.Dec.{eqb};
 ghost use Rattle.plane.specs.Arrays.{at, some};
+ghost use Rattle.plane.specs.Planes.{elementSize};
 ghost use Rattle.faults.specs.Faults.{lowest};
 ghost use Rattle.record.specs.Layout.{groupCount, group};
-ghost use Rattle.record.specs.Records.{stray, fieldsFault};
+ghost use Rattle.record.specs.Records.{stray, badFill, fieldsFault};
 
 // Whether some group has an entry d that is not 0.
 fn has_entry(t: Tensor, c: Config, d: usize) -> bool
@@ -43,12 +46,40 @@ fn stray_fault(t: Tensor, c: Config) -> Fault
     Fault { status: 0, dim: 0 }
 }
 
-// 1, and then 28.
-pub(crate) fn fields_fault(t: Tensor, c: Config) -> Fault
-    ensures { λ r. ⌜ r ≡ fieldsFault t c ⌝ }
+// 28 of version 2: a fill of 0, or one with a byte past the element size that is not 0.
+fn fill_is_bad(size: u8, fill: u32) -> bool
+    requires { ⌜ (elementSize size ≡ 0 → ⊥) ⌝ }
+    ensures { λ r. ⌜ r ≡ badFill size fill ⌝ }
 {
-    if rank_is_bad(t.rank) {
+    if size == 1 {
+        return (fill == 0) | (256 <= fill);
+    }
+    if size == 2 {
+        return (fill == 0) | (65536 <= fill);
+    }
+    fill == 0
+}
+
+// What a record of that version refuses of its fields: 1, for version 2 also 2, 28, and for version 2 also 28 at dimension 0. Any
+// version but 2 is judged as 1 is.
+pub fn fields_fault(version: u16, tensor: Tensor, config: Config) -> Fault
+    ensures { λ r. ⌜ r ≡ fieldsFault version tensor config ⌝ }
+{
+    if rank_is_bad(tensor.rank) {
         return Fault { status: 1, dim: 0 };
     }
-    stray_fault(t, c)
+    if version != layout::VERSION_2 {
+        return stray_fault(tensor, config);
+    }
+    if element_size(tensor.element_size) == 0 {
+        return Fault { status: 2, dim: 0 };
+    }
+    let f = stray_fault(tensor, config);
+    if f.status != 0 {
+        return f;
+    }
+    if fill_is_bad(tensor.element_size, config.fill) {
+        return Fault { status: 28, dim: 0 };
+    }
+    f
 }

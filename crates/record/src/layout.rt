@@ -1,11 +1,14 @@
-// The bytes of a record: mark, version, rank and element size, and then ten groups of four numbers. The numbers of the first
-// seven groups have four bytes each, those of the last three one. The lowest byte comes first. Each field starts where the one
-// before it ends.
+// The bytes of a record: mark, version, rank and element size, ten groups of four numbers, and in version 2 the fill. The numbers of
+// the first seven groups have four bytes each, those of the last three one, and the fill has four. The lowest byte comes first. Each
+// field starts where the one before it ends.
 
 // R, M, V
 pub(crate) const MARK: [u8; 3] = [82, 77, 86];
 
-pub(crate) const VERSION: u32 = 1;
+// Without a fill, and with one.
+pub(crate) const VERSION_1: u16 = 1;
+
+pub(crate) const VERSION_2: u16 = 2;
 
 // The bytes of a group of four-byte numbers, and of a group of single bytes.
 const WORDS: usize = 16;
@@ -40,5 +43,11 @@ pub(crate) const PRE: usize = PERM + SINGLES;
 
 pub(crate) const POST: usize = PRE + SINGLES;
 
-// The bytes of a record: 131.
-pub const LENGTH: usize = POST + SINGLES;
+// Where the fill stands, in four bytes.
+pub(crate) const FILL: usize = POST + SINGLES;
+
+// The bytes of a record of version 1: 131.
+pub const LENGTH: usize = FILL;
+
+// The bytes of a record of version 2: 135.
+pub const FILLED_LENGTH: usize = FILL + 4;

@@ -3,7 +3,8 @@ ghost use mathlib.Core.Path.{_≡_};
 ghost use Prim.Native.Nat.{_+_, _≤_, _<_};
 ghost use lib.ListN.{length};
 ghost use lib.Seq.{sets};
-ghost use Rattle.record.specs.Layout.{little, number, part, fourIn, fourBytes};
+ghost use Rattle.plane.specs.Numbers.{little, number};
+ghost use Rattle.record.specs.Layout.{part, fourIn, fourBytes};
 
 // A byte as a 32-bit number, so that sums of bytes fit.
 fn wide(x: u8) -> u32
@@ -23,7 +24,7 @@ pub(crate) fn half(bytes: &[u8], p: usize) -> u32
 }
 
 // The number of the four bytes from byte p on.
-fn word(bytes: &[u8], p: usize) -> u32
+pub(crate) fn word(bytes: &[u8], p: usize) -> u32
     requires { ⌜ p + 4 ≤ length (now bytes) ⌝ }
     ensures { λ r. ⌜ r ≡ number (part p 4 (now (bytes .entry))) ⌝ }
 {
@@ -71,7 +72,7 @@ pub(crate) fn put_half(room: &mut [u8], p: usize, x: u32)
 }
 
 // Sets the four bytes from byte p on to those of x.
-fn put_word(room: &mut [u8], p: usize, x: u32)
+pub(crate) fn put_word(room: &mut [u8], p: usize, x: u32)
     requires { ⌜ p + 4 ≤ length (now room) ⌝ }
     ensures { λ _. ⌜ now (room .exit) ≡ sets (now (room .entry)) p (little 4 x) ⌝ }
 {

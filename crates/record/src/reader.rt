@@ -4,18 +4,22 @@ use crate::checks::fields_fault;
 use crate::layout;
 use crate::numbers::half;
 use crate::numbers::singles;
+use crate::numbers::word;
 use crate::numbers::words;
+use crate::versions::version_at;
 use plane::Config;
 use plane::Fault;
 use plane::Tensor;
 ghost use mathlib.Core.Path.{_≡_};
+ghost use mathlib.Core.Bool.{false};
+ghost use Prim.Native.Nat.{_≤_};
 ghost use lib.ListN.{length};
-ghost use Rattle.record.specs.Layout.{recordLength};
-ghost use Rattle.record.specs.Records.{badMark, badVersion, tensorIn, configIn, noReading, readOf};
+ghost use Rattle.record.specs.Layout.{recordLength, fillIn};
+ghost use Rattle.record.specs.Records.{badLength, badMark, badVersion, tensorIn, configIn, noReading, readOf};
 
 // 26
 fn mark_is_bad(bytes: &[u8]) -> bool
-    requires { ⌜ length (now bytes) ≡ recordLength ⌝ }
+    requires { ⌜ recordLength ≤ length (now bytes) ⌝ }
     ensures { λ r. ⌜ r ≡ badMark (now (bytes .entry)) ⌝ }
 {
     (bytes[0] != layout::MARK[0]) | (bytes[1] != layout::MARK[1]) | (bytes[2] != layout::MARK[2])
@@ -23,15 +27,15 @@ fn mark_is_bad(bytes: &[u8]) -> bool
 
 // 27
 fn version_is_bad(bytes: &[u8]) -> bool
-    requires { ⌜ length (now bytes) ≡ recordLength ⌝ }
+    requires { ⌜ recordLength ≤ length (now bytes) ⌝ }
     ensures { λ r. ⌜ r ≡ badVersion (now (bytes .entry)) ⌝ }
 {
-    half(bytes, layout::VERSION_AT) != layout::VERSION
+    half(bytes, layout::VERSION_AT) != version_at(bytes.len()) as u32
 }
 
 // The tensor record, unjudged.
 fn tensor_in(bytes: &[u8]) -> Tensor
-    requires { ⌜ length (now bytes) ≡ recordLength ⌝ }
+    requires { ⌜ recordLength ≤ length (now bytes) ⌝ }
     ensures { λ r. ⌜ r ≡ tensorIn (now (bytes .entry)) ⌝ }
 {
     Tensor {
@@ -42,9 +46,21 @@ fn tensor_in(bytes: &[u8]) -> Tensor
     }
 }
 
+// The fill: 0 in version 1, which has none.
+fn fill_in(bytes: &[u8]) -> u32
+    requires { ⌜ badLength (length (now bytes)) ≡ false ⌝ }
+    ensures { λ r. ⌜ r ≡ fillIn (now (bytes .entry)) ⌝ }
+{
+    if bytes.len() == layout::LENGTH {
+        return 0;
+    }
+    word(bytes, layout::FILL)
+}
+
 // The configuration, unjudged.
 fn config_in(bytes: &[u8]) -> Config
-    requires { ⌜ length (now bytes) ≡ recordLength ⌝ }
+    requires { ⌜ badLength (length (now bytes)) ≡ false ⌝ }
+    requires { ⌜ recordLength ≤ length (now bytes) ⌝ }
     ensures { λ r. ⌜ r ≡ configIn (now (bytes .entry)) ⌝ }
 {
     Config {
@@ -56,6 +72,7 @@ fn config_in(bytes: &[u8]) -> Config
         perm: singles(bytes, layout::PERM),
         pre: singles(bytes, layout::PRE),
         post: singles(bytes, layout::POST),
+        fill: fill_in(bytes),
     }
 }
 
@@ -71,11 +88,11 @@ fn refused(f: Fault) -> Reading
     }
 }
 
-// The fields that any bytes hold, or 25 to 27, 1 or 28. The element size is not looked at.
+// The fields that any bytes hold, or 25 to 27, 1, 2 or 28. In version 1 the element size is not looked at.
 pub fn read(bytes: &[u8]) -> Reading
     ensures { λ r. ⌜ r ≡ readOf (now (bytes .entry)) ⌝ }
 {
-    if bytes.len() != layout::LENGTH {
+    if (bytes.len() != layout::LENGTH) & (bytes.len() != layout::FILLED_LENGTH) {
         return refused(Fault { status: 25, dim: 0 });
     }
     if mark_is_bad(bytes) {
@@ -86,7 +103,7 @@ pub fn read(bytes: &[u8]) -> Reading
     }
     let t = tensor_in(bytes);
     let c = config_in(bytes);
-    let f = fields_fault(t, c);
+    let f = fields_fault(version_at(bytes.len()), t, c);
     if f.status != 0 {
         return refused(f);
     }

@@ -96,7 +96,8 @@ pub(crate) fn config(out: &mut Out, p: usize, c: Config) -> usize {
     let p5 = words(out, p4, dst_stride);
     let p6 = bytes(out, p5, perm);
     let p7 = bytes(out, p6, pre);
-    bytes(out, p7, post)
+    let p8 = bytes(out, p7, post);
+    word(out, p8, c.fill)
 }
 
 pub(crate) fn answer(out: &mut Out, p: usize, a: Answer) -> usize {

@@ -31,6 +31,12 @@ pub(crate) fn rest(bytes: &[u8], p: usize, end: usize) -> &[u8] {
     &bytes[p..end]
 }
 
+pub(crate) fn half(b: &Body, p: usize) -> u16
+    requires { ⌜ p ≤ 4000 ⌝ }
+{
+    (byte(b, p) as u16) | ((byte(b, p + 1) as u16) << 8)
+}
+
 pub(crate) fn word(b: &Body, p: usize) -> u32
     requires { ⌜ p ≤ 4000 ⌝ }
 {
@@ -98,6 +104,7 @@ pub(crate) fn config(b: &Body, p: usize) -> Config
         perm: bytes(b, p + layout::PERM),
         pre: bytes(b, p + layout::PRE),
         post: bytes(b, p + layout::POST),
+        fill: word(b, p + layout::FILL),
     }
 }
 

@@ -10,6 +10,7 @@ use crate::layout::BYTES;
 use crate::layout::CONFIG;
 use crate::layout::FAULT;
 use crate::layout::FIRST;
+use crate::layout::HALF;
 use crate::layout::JOB;
 use crate::layout::LONG;
 use crate::layout::NO_CALL;
@@ -29,6 +30,7 @@ use crate::mover_calls::move_plane;
 use crate::mover_calls::mover_call;
 use crate::plane_calls::plane_call;
 use crate::record_calls::read;
+use crate::record_calls::record_call;
 use crate::record_calls::write;
 use crate::table_calls::step;
 use crate::table_calls::table_call;
@@ -64,9 +66,15 @@ const PAD: usize = FIRST + 4 * BYTE + WORDS;
 
 const ALL: usize = OF_BYTE + CONFIG;
 
-const SET_WORDS: usize = FIRST + CONFIG + WORDS;
+const OF_CONFIG: usize = FIRST + CONFIG;
 
-const SET_BYTES: usize = FIRST + CONFIG + BYTES;
+const SET_WORDS: usize = OF_CONFIG + WORDS;
+
+const SET_BYTES: usize = OF_CONFIG + BYTES;
+
+const SET_FILL: usize = OF_CONFIG + WORD;
+
+const FIELDS: usize = OF_MOVE + HALF;
 
 const MOVE: usize = OF_MOVE + WORD;
 
@@ -87,7 +95,7 @@ const STEP: usize = OF_HANDLE + LONG;
 // The bytes of the call with this number; 0 where no call has it.
 fn fixed(number: u8) -> usize {
     match number {
-        0x00 | 0x08 | 0x09 | 0x30 | 0x32 | 0x33 | 0x36 | 0x37 => FIRST,
+        0x00 | 0x08 | 0x09 | 0x30 | 0x32 | 0x33 | 0x36 | 0x37 | 0x39 => FIRST,
         0x01 => OF_TENSOR,
         0x02 | 0x31 => OF_MOVE,
         0x03 => JUDGE,
@@ -95,6 +103,7 @@ fn fixed(number: u8) -> usize {
         0x05 => COUNT,
         0x06 => SUB_TENSOR,
         0x0a => OF_FAULT,
+        0x0b => SET_FILL,
         0x11 => SLICE,
         0x12 | 0x13 => TWO_GROUPS,
         0x14 => PERMUTE,
@@ -109,6 +118,8 @@ fn fixed(number: u8) -> usize {
         0x24 | 0x25 => OF_SUB,
         0x34 | 0x35 | 0x40 => OF_LONG,
         0x38 => APPEND,
+        0x3a => OF_CONFIG,
+        0x3b => FIELDS,
         0x41 => PREPARE,
         0x42 | 0x44 | 0x45 => OF_HANDLE,
         0x43 => STEP,
@@ -119,7 +130,7 @@ fn fixed(number: u8) -> usize {
 // Whether bytes of any number may follow: in all calls on memories, sources, records and lists.
 fn has_rest(number: u8) -> bool {
     match number {
-        0x21 | 0x23 | 0x40 | 0x45 => false,
+        0x21 | 0x23 | 0x3a | 0x3b | 0x40 | 0x45 => false,
         _ => 0x20 <= number,
     }
 }
@@ -147,7 +158,7 @@ pub(crate) fn no_call(out: &mut Out, reason: u8) -> usize {
 
 // The version of docs/CALLS.md.
 fn version(out: &mut Out) -> usize {
-    let p = byte(out, FIRST, 2);
+    let p = byte(out, FIRST, 3);
     byte(out, p, 0)
 }
 
@@ -227,6 +238,7 @@ fn call(number: u8, body: &Body, rest: &[u8], out: &mut Out) -> usize {
         0x00 => version(out),
         0x20 => move_lent(body, rest, out),
         0x30 => read(rest, out),
+        0x39 | 0x3a | 0x3b => record_call(number, body, rest, out),
         0x22 | 0x31 | 0x37 | 0x38 | 0x43 => change_lent(number, body, rest, rest, out),
         _ => ask(number, body, rest, out),
     }

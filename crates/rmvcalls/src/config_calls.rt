@@ -41,7 +41,7 @@ const PAD_STRIDE: usize = BOTTOM + BYTE;
 // The four entries of a setting, after the configuration.
 const SETTING: usize = FIRST + layout::CONFIG;
 
-// 17: every field as given.
+// 17: every array as given; the fill that follows them is dropped.
 fn all(b: &Body) -> Made {
     ready_made::all(
         byte(b, FIRST),

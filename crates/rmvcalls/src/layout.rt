@@ -3,6 +3,8 @@
 
 pub(crate) const BYTE: usize = 1; // u8
 
+pub(crate) const HALF: usize = 2; // u16
+
 pub(crate) const WORD: usize = 4; // u32
 
 pub(crate) const LONG: usize = 8; // u64
@@ -41,7 +43,9 @@ pub(crate) const PRE: usize = PERM + BYTES;
 
 pub(crate) const POST: usize = PRE + BYTES;
 
-pub(crate) const CONFIG: usize = POST + BYTES;
+pub(crate) const FILL: usize = POST + BYTES;
+
+pub(crate) const CONFIG: usize = FILL + WORD;
 
 // SubConfig: after offset and size
 pub(crate) const SUB_RANK: usize = SIZE + WORDS;

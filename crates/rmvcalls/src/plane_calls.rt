@@ -1,4 +1,4 @@
-// 01 to 0a: planes by their numbers. Every answer starts after the call's number.
+// 01 to 0b: planes by their numbers. Every answer starts after the call's number.
 use crate::answers;
 use crate::answers::Out;
 use crate::args;
@@ -69,6 +69,12 @@ fn sub_tensor(b: &Body) -> SubTensor {
     )
 }
 
+// 0b
+fn with_fill(b: &Body) -> Config {
+    let c = args::config(b, FIRST);
+    c.with_fill(args::word(b, FIRST + CONFIG))
+}
+
 pub(crate) fn plane_call(number: u8, b: &Body, out: &mut Out) -> usize {
     match number {
         0x01 => put_source(out, plane::source_of(args::tensor(b, FIRST))),
@@ -80,6 +86,7 @@ pub(crate) fn plane_call(number: u8, b: &Body, out: &mut Out) -> usize {
         0x07 => answers::byte(out, FIRST, plane::rank_is_bad(args::byte(b, FIRST)) as u8),
         0x08 => answers::tensor(out, FIRST, Tensor::zero()),
         0x09 => answers::config(out, FIRST, Config::zero()),
-        _ => answers::answer(out, FIRST, Answer::refused(args::fault(b, FIRST))),
+        0x0a => answers::answer(out, FIRST, Answer::refused(args::fault(b, FIRST))),
+        _ => answers::config(out, FIRST, with_fill(b)),
     }
 }

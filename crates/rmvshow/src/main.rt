@@ -3,6 +3,9 @@ use libc::STDIN_FILENO;
 use libc::STDOUT_FILENO;
 use plane::Answer;
 use plane::Fault;
+ghost use mathlib.Core.Path.{_≡_};
+ghost use Prim.Native.Nat.{_≤_};
+ghost use lib.ListN.{length};
 
 mod lines; // what is printed
 
@@ -24,15 +27,34 @@ fn moved(bytes: &[u8], source: &[u8], room: &mut [u8]) -> Answer {
     mover::move_plane(t, c, source, room)
 }
 
+// Reads a record, as long as its version says, and tells how much of it there was.
+fn read_record(bytes: &mut [u8]) -> usize
+    requires { ⌜ length (now bytes) ≡ 135 ⌝ }
+    ensures { λ r. ⌜ r ≤ 135 ⌝ }
+{
+    let n = io::read_full(STDIN_FILENO, &mut bytes[0..record::LENGTH]);
+    if n < record::LENGTH {
+        return n;
+    }
+    if record::length_in(bytes) == record::LENGTH {
+        return n;
+    }
+    let more = io::read_full(
+        STDIN_FILENO,
+        &mut bytes[record::LENGTH..record::FILLED_LENGTH],
+    );
+    record::LENGTH + more
+}
+
 // What follows the record is the source, up to SOURCE bytes; the rest is not read. An input that ends within the record is
 // refused as a record.
 fn main() {
-    let mut bytes = [0u8; record::LENGTH];
+    let mut bytes = [0u8; record::FILLED_LENGTH];
     let mut source = [0u8; SOURCE];
     let mut room = [0u8; ROOM];
-    let n = io::read_full(STDIN_FILENO, &mut bytes);
+    let n = read_record(&mut bytes);
     let m = io::read_full(STDIN_FILENO, &mut source);
-    let a = moved(&bytes[..n], &source[..m], &mut room);
+    let a = moved(&bytes[0..n], &source[..m], &mut room);
     lines::answer(STDOUT_FILENO, a);
     if a.status == 0 {
         lines::bytes(STDOUT_FILENO, &room, a.need);

@@ -176,7 +176,7 @@ module _ {t : Tensor} {s : SubConfig} {srcLen : ℕ} (g : GoodSub t s srcLen) wh
                 rw length-drop (omega (arith, u .0)),
                 rw (places x) (u .1 ∙ ap (λ (j : ℕ). getD src j 0) (ap (λ (j : ℕ). j + b) (sym f) ∙ add-assoc _ _ b) ∙ sym (getD-drop (subByte t s) src _ 0)),
               );
-          zeros = λ i h n b l. absurd (n (boxed-kept copy-boxed few-stay x w i h));
+          filled = λ i h n b l. absurd (n (boxed-kept copy-boxed few-stay x w i h));
         };
     apart = λ x y v w i h n.
         rw (places x, places y)

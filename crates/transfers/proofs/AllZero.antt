@@ -3,15 +3,15 @@
 use Prim.Native.Nat.{ℕ}
 use native.Mathlib.Omega.{arith}
 use mathlib.Core.Path.{_≡_, _∙_}
-use mathlib.Core.Bool.{true, _&&_}
+use mathlib.Core.Bool.{Bool, true, _&&_}
 use mathlib.Core.List.{List, [], _∷_}
 use borrow.Author.Tests.{eqb-true}
 use lib.Dec.{eqb}
 use lib.ListN.{length}
-use Rattle.plane.specs.Arrays.{at, zeros}
+use Rattle.plane.specs.Arrays.{at, zeros, every}
 use Rattle.faults.proofs.Bools.{both-first, both-second}
 use Rattle.plane.proofs.Arrays.{every-each}
-use Rattle.plane.proofs.Configs.{same-arrays}
+use Rattle.plane.proofs.Configs.{same-config}
 use Rattle.mover.specs.declared.Part.{Part}
 use Rattle.mover.specs.declared.Job.{Job}
 use Rattle.transfers.specs.declared.Slot.{Slot}
@@ -54,8 +54,11 @@ module _ (j : Job) (f : FourEntries j) where
   no-config : isZeroConfig (j .config) ≡ true → j .config ≡ zeroConfig
   unfolding isZeroConfig
   no-config e =
-      same-arrays (arrayOf (j .config)) (λ k. zeros)
-      (λ k h. no-entry _ (f .arrays k h) (every-each (λ (k : ℕ). isZeroArray (arrayOf (j .config) k)) arrayCount e k h))
+      let none : ℕ → Bool = λ k. isZeroArray (arrayOf (j .config) k) in
+      let x = both-first (every arrayCount none) (eqb (j .config .fill) 0) e in
+      same-config (arrayOf (j .config)) (λ k. zeros)
+      (λ k h. no-entry _ (f .arrays k h) (every-each none arrayCount x k h))
+      (eqb-true (j .config .fill) 0 (both-second (every arrayCount none) (eqb (j .config .fill) 0) e))
 
   pub no-job : isZeroJob j ≡ true → j ≡ zeroJob
   unfolding isZeroJob

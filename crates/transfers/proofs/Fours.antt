@@ -23,7 +23,7 @@ past = record {
     source = record { start = 0; length = 0 };
     destination = record { start = 0; length = 0 };
     tensor = record { rank = 0; «element_size» = 0; shape = []; stride = [] };
-    config = record { offset = []; size = []; step = []; «dst_offset» = []; «dst_stride» = []; perm = []; pre = []; post = [] };
+    config = record { offset = []; size = []; step = []; «dst_offset» = []; «dst_stride» = []; perm = []; pre = []; post = []; fill = 0 };
   };
   moved = 0;
 }

@@ -1,5 +1,5 @@
--- Entries at or past the rank are not looked at by the calls on a table: tables and jobs that agree but for such entries have the same
--- answers and the same memory, and the tables handed back agree again. Assumes nothing.
+-- Entries at or past the rank, and bytes of the fill past the element size, are not looked at by the calls on a table: tables and jobs
+-- that agree in the rest have the same answers and the same memory, and the tables handed back agree again. Assumes nothing.
 use Prim.Native.Nat.{ℕ, _+_, _-_, _≤_, _<_, min}
 use native.Mathlib.Decide.{decLt, ℕ-discrete}
 use native.Mathlib.Omega.{arith}

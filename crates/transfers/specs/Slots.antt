@@ -72,7 +72,7 @@ unfoldable pub isZeroTensor : Tensor → Bool
 isZeroTensor t = eqb (t .rank) 0 && eqb (t .«element_size») 0 && isZeroArray (t .shape) && isZeroArray (t .stride)
 
 unfoldable pub isZeroConfig : Config → Bool
-isZeroConfig c = every arrayCount (λ k. isZeroArray (arrayOf c k))
+isZeroConfig c = every arrayCount (λ k. isZeroArray (arrayOf c k)) && eqb (c .fill) 0
 
 -- a job that is all zero
 unfoldable pub isZeroJob : Job → Bool

@@ -1,5 +1,6 @@
--- Entries at or past the rank are not looked at by the calls on a table, beyond keeping them as given: with tables and jobs that agree
--- but for such entries, every call answers the same, leaves the same memory, and hands back tables that agree again.
+-- Entries at or past the rank, and bytes of the fill past the element size, are not looked at by the calls on a table, beyond keeping
+-- them as given: with tables and jobs that agree in the rest, every call answers the same, leaves the same memory, and hands back
+-- tables that agree again.
 use Prim.Native.Nat.{ℕ, _<_}
 use mathlib.Core.Path.{_≡_}
 use mathlib.Core.List.{List}
@@ -19,9 +20,9 @@ use Rattle.transfers.specs.Calls.{prepareOf, startOf, stepOf, stepMemory
 pub record SameSlot (s s′ : Slot) : Type 0 where
   pub state : s .state ≡ s′ .state
   pub moved : s .moved ≡ s′ .moved
-  -- jobs that agree below the rank
+  -- jobs that agree in what is looked at
   pub taken : (s .state ≡ 0 → ⊥) → SameJob (s .job) (s′ .job)
-  -- a free slot is to be all zero, so there every entry is looked at
+  -- a free slot is to be all zero, so there all is looked at
   pub free : s .state ≡ 0 → s .job ≡ s′ .job
 
 pub record SameTable (t t′ : Table) : Type 0 where

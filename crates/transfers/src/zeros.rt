@@ -51,6 +51,7 @@ fn is_zero_config(c: Config) -> bool
         & is_zero_bytes(perm)
         & is_zero_bytes(pre)
         & is_zero_bytes(post)
+        & (c.fill == 0)
 }
 
 pub(crate) fn is_zero_job(j: Job) -> bool

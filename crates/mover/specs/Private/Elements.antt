@@ -3,8 +3,9 @@ use mathlib.Core.Bool.{Bool, cond, _&&_}
 use mathlib.Core.List.{List}
 use Prim.Native.Nat.{ℕ, zero, suc, _+_, _-_, _*_, _/_, _%_}
 use lib.Dec.{leb, ltb}
-use lib.ListN.{take, drop, replicate}
+use lib.ListN.{take, drop}
 use lib.Seq.{sets}
+use Rattle.plane.specs.Arrays.{at, table}
 use Rattle.mover.specs.declared.plan.Axis.{Axis}
 use Rattle.mover.specs.declared.plan.Plan.{Plan}
 use Rattle.mover.specs.declared.elements.Origin.{Origin}
@@ -38,14 +39,14 @@ homeOf p c0 c1 c2 c3 =
     (c0 - p .d0 .pre) (p .d0 .jump) (c1 - p .d1 .pre) (p .d1 .jump)
     (c2 - p .d2 .pre) (p .d2 .jump) (c3 - p .d3 .pre) (p .d3 .jump)
 
--- the bytes of an element of padding
-abbrev pub padding : ℕ → List ℕ
-padding size = replicate size 0
+-- the bytes of an element of padding: the first of these four
+abbrev pub padding : ℕ → List ℕ → List ℕ
+padding size pad = take size (table (at pad))
 
 -- the element's bytes: the source's if every coordinate is kept, else padding
 unfoldable pub planBytes : Plan → List ℕ → ℕ → ℕ → ℕ → ℕ → List ℕ
 planBytes p s c0 c1 c2 c3 =
-    cond (planKept p c0 c1 c2 c3) (take (p .size) (drop (homeOf p c0 c1 c2 c3) s)) (padding (p .size))
+    cond (planKept p c0 c1 c2 c3) (take (p .size) (drop (homeOf p c0 c1 c2 c3) s)) (padding (p .size) (p .pad))
 
 -- the destination d with the element at the coordinates stored
 unfoldable pub putAt : Plan → List ℕ → ℕ → ℕ → ℕ → ℕ → List ℕ → List ℕ

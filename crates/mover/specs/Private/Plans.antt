@@ -7,6 +7,7 @@ use Rattle.plane.specs.declared.Tensor.{Tensor}
 use Rattle.plane.specs.declared.Config.{Config}
 use Rattle.plane.specs.declared.Answer.{Answer}
 use Rattle.plane.specs.Arrays.{at, sum}
+use Rattle.plane.specs.Numbers.{little}
 use Rattle.plane.specs.Planes.{srcStrides, sourceAt}
 use Rattle.plane.specs.Moves.{count, dstExtents, dstStrides}
 use Rattle.mover.specs.declared.plan.Axis.{Axis}
@@ -34,6 +35,7 @@ axisAt t c j = cond (ltb j (4 - t .rank)) lone (axisOf t c (j - (4 - t .rank)))
 unfoldable pub planOf : Tensor → Config → Plan
 planOf t c = record {
   size = t .«element_size»;
+  pad = little 4 (c .fill);
   home = sum (t .rank) (λ i. sourceAt t (dimOf c i) (at (c .offset) (dimOf c i))) * t .«element_size»;
   base = sum (t .rank) (λ i. at (c .«dst_offset») i * at (dstStrides t c) i) * t .«element_size»;
   d0 = axisAt t c 0;

@@ -70,6 +70,7 @@ unfoldable pub placedAt : ℕ → ℕ → Plan → Plan
 placedAt a b p =
     record {
       size = p .size;
+      pad = p .pad;
       home = a + p .home;
       base = b + p .base;
       d0 = p .d0;

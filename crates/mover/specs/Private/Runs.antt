@@ -30,7 +30,7 @@ pub record Alike (x : Axis) (outer : Bool) (c most : ℕ) (r : Run) : Type 0 whe
 
 -- the course of a run of a plan's rows, at a spot
 abbrev pub courseOf : Plan → Spot → Run → Course
-courseOf p u r = record { at = u .at; jump = p .d3 .jump; to = u .to; stride = p .d3 .stride; size = p .size; n = r .n }
+courseOf p u r = record { at = u .at; jump = p .d3 .jump; to = u .to; stride = p .d3 .stride; size = p .size; pad = p .pad; n = r .n }
 
 -- ---- what is left of the destination d, from a source that stands in s or in d
 
@@ -48,7 +48,7 @@ abbrev pub keptBytes : List ℕ → Course → ℕ → List ℕ
 keptBytes s c k = take (c .size) (drop (along (c .at) (c .jump) k) s)
 
 abbrev pub padBytes : Course → ℕ → List ℕ
-padBytes c k = padding (c .size)
+padBytes c k = padding (c .size) (c .pad)
 
 abbrev pub eitherBytes : Bool → List ℕ → Course → ℕ → List ℕ
 eitherBytes kept s c k = cond kept (keptBytes s c k) (padBytes c k)
@@ -57,8 +57,8 @@ eitherBytes kept s c k = cond kept (keptBytes s c k) (padBytes c k)
 abbrev pub runCopied : Origin → List ℕ → List ℕ → Course → List ℕ
 runCopied o s d c = runStored (keptBytes (sourceBytes o s d) c) (c .to) (c .stride) (c .n) d
 
-abbrev pub runCleared : List ℕ → Course → List ℕ
-runCleared d c = runStored (padBytes c) (c .to) (c .stride) (c .n) d
+abbrev pub runPadded : List ℕ → Course → List ℕ
+runPadded d c = runStored (padBytes c) (c .to) (c .stride) (c .n) d
 
 abbrev pub runMoved : Origin → Plan → List ℕ → List ℕ → Spot → Run → List ℕ
 runMoved o p s d u r =

@@ -5,7 +5,8 @@ use native.Mathlib.Omega.{arith}
 use borrow.Author.Needs.{needs}
 use lib.ListN.{take}
 use Rattle.list.specs.Lists.{listFault}
-use Rattle.list.proofs.Writing.{stopped-at, append-25, append-list, head-within, append-37, append-38, fields-refused, append-0}
+use Rattle.list.proofs.Writing.{stopped-at, append-25, append-list, head-within, append-37, append-38, append-fields, append-0}
+use Rattle.list.proofs.Members.{member-fields, member-27, member-good}
 use Rattle.list.proofs.writer.append.Statement.{statement}
 use Rattle.list.proofs.writer.append.Tie as tie
 
@@ -67,33 +68,53 @@ returns-4 c =
 
 returns-5 : tie.Need-returns-5
 returns-5 c =
-    let w = c .before .before .before .before .before in
-    let j = w .before .before in
-    let k = j .before .before in
+    let g = c .before .before .before in
+    let k = g .before .before .before in
     let f = k .before .before .before in
     let i = f .before .before .before in
     let a = i .before .before .args in
-    fields-refused (a .buffer .now) (a .length) (a .tensor) (a .config) (i .if1 .left) (sym (told f) ∙ k .before .before .if2 .left)
-    (λ e. j .before .if3 .left (k .count-in .ensures .0 ∙ e)) (j .if4 .left)
-    (w .write .ensures .0) (w .write .ensures .1) (c .before .if5 .taken) (c .refused5 .ensures)
+    let b = a .buffer .now in
+    let n = a .length in
+    let h = c .before .if5 .taken in
+    stopped-at b n (a .tensor) (a .config)
+    (append-fields b n (a .tensor) (a .config) (i .if1 .left) (sym (told f) ∙ k .before .before .if2 .left)
+    (λ e. g .before .before .if3 .left (k .count-in .ensures .0 ∙ e)) (g .before .if4 .left) ∙
+    member-fields (a .tensor) (a .config) (g .fields-fault .ensures) h)
+    h (c .refused5 .ensures)
 
 returns-6 : tie.Need-returns-6
 returns-6 c =
+    let j = c .before .before .before in
+    let g = j .before .before in
+    let k = g .before .before .before in
+    let f = k .before .before .before in
+    let i = f .before .before .before in
+    let a = i .before .before .args in
+    let b = a .buffer .now in
+    let n = a .length in
+    stopped-at b n (a .tensor) (a .config)
+    (append-fields b n (a .tensor) (a .config) (i .if1 .left) (sym (told f) ∙ k .before .before .if2 .left)
+    (λ e. g .before .before .if3 .left (k .count-in .ensures .0 ∙ e)) (g .before .if4 .left) ∙
+    member-27 (a .tensor) (a .config) (g .fields-fault .ensures) (j .if5 .left) (c .before .if6 .taken))
+    (λ z. omega arith) (c .refused6 .ensures)
+
+returns-7 : tie.Need-returns-7
+returns-7 c =
     let p = c .before .before in
-    let g = p .before .before in
-    let w = g .before .before .before .before in
-    let j = w .before .before in
-    let k = j .before .before in
+    let w = p .before .before .before .before in
+    let l = w .before .before in
+    let j = l .before .before in
+    let g = j .before .before in
+    let k = g .before .before .before in
     let f = k .before .before .before in
     let i = f .before .before .before in
     let a = i .before .before .args in
     append-0 (a .buffer .now) (a .length) (a .tensor) (a .config) (i .if1 .left) (sym (told f) ∙ k .before .before .if2 .left)
-    (λ e. j .before .if3 .left (k .count-in .ensures .0 ∙ e)) (j .if4 .left)
-    (w .write .ensures .0) (w .write .ensures .1) (g .if5 .left) (k .count-in .ensures .0) (p .put-count .ensures)
+    (λ e. g .before .before .if3 .left (k .count-in .ensures .0 ∙ e)) (g .before .if4 .left)
+    (member-good (a .tensor) (a .config) (g .fields-fault .ensures) (j .if5 .left) (l .if6 .left))
+    (w .write .ensures .1) (k .count-in .ensures .0) (p .put-count .ensures)
 
 pub append-spec : {M : Type 1} → statement M
 append-spec =
     tie.close
-    (tie.spec (λ c κs. search needs) returns (λ c. search needs) (λ c. search needs) (λ c. search needs) (λ c κs. search needs) (λ c κs. search needs) (λ c. search needs) returns-2 count-in-requires
-    (λ c κs. search needs) (λ c. search needs) returns-3 (λ c. search needs) (λ c κs. search needs) (λ c. search needs) returns-4 (λ c. search needs) (λ c. search needs) (λ c. search needs)
-    (λ c. search needs) (λ c κs. search needs) (λ c κs. search needs) (λ c. search needs) returns-5 (λ c. search needs) (λ c κs. search needs) (λ c. search needs) returns-6)
+    (tie.spec (λ c κs. search needs) returns (λ c. search needs) (λ c. search needs) (λ c. search needs) (λ c κs. search needs) (λ c κs. search needs) (λ c. search needs) returns-2 count-in-requires (λ c κs. search needs) (λ c. search needs) returns-3 (λ c. search needs) (λ c κs. search needs) (λ c. search needs) returns-4 (λ c κs. search needs) (λ c κs. search needs) (λ c. search needs) returns-5 (λ c κs. search needs) (λ c. search needs) returns-6 (λ c. search needs) (λ c. search needs) (λ c. search needs) (λ c. search needs) (λ c κs. search needs) (λ c. search needs) (λ c κs. search needs) (λ c. search needs) returns-7)

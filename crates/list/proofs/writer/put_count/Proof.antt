@@ -2,7 +2,7 @@
 use native.Mathlib.Omega.{arith}
 use borrow.Author.Needs.{needs}
 use lib.ListN.{length-set}
-use Rattle.record.specs.Layout.{little}
+use Rattle.plane.specs.Numbers.{little}
 use Rattle.list.proofs.writer.put_count.Statement.{statement}
 use Rattle.list.proofs.writer.put_count.Tie as tie
 

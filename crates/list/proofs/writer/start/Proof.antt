@@ -3,7 +3,7 @@ use mathlib.Core.Path.{sym, _∙_}
 use native.Mathlib.Omega.{arith}
 use borrow.Author.Needs.{needs}
 use lib.ListN.{length-set}
-use Rattle.record.specs.Layout.{little}
+use Rattle.plane.specs.Numbers.{little}
 use Rattle.list.proofs.Writing.{start-38, start-0, start-given}
 use Rattle.list.proofs.writer.start.Statement.{statement}
 use Rattle.list.proofs.writer.start.Tie as tie

@@ -1,7 +1,7 @@
 -- `mover::elements::bytes` adds n up once, twice or four times. Assumes nothing.
 use Prim.Native.Nat.{_*_, _^_, _<_}
 use native.Mathlib.Omega.{arith}
-use Rattle.mover.proofs.Bytes.{sized-four}
+use Rattle.plane.proofs.Sizes.{sized-four}
 use Rattle.mover.proofs.elements.bytes.Statement.{statement}
 use Rattle.mover.proofs.elements.bytes.Tie as tie
 

@@ -5,7 +5,8 @@ use native.Mathlib.Omega.{arith}
 use borrow.Author.Needs.{needs}
 use lib.ListN.{length-set}
 use Rattle.mover.specs.Private.Elements.{sourceBytes}
-use Rattle.mover.proofs.Bytes.{sized-some, sized-two, sized-four, copied-one, copied-two, copied-four, source-long}
+use Rattle.plane.proofs.Sizes.{sized-some, sized-two, sized-four}
+use Rattle.mover.proofs.Bytes.{copied-one, copied-two, copied-four, source-long}
 use Rattle.mover.proofs.elements.copy.Statement.{statement}
 use Rattle.mover.proofs.elements.copy.Tie as tie
 

@@ -19,13 +19,13 @@ bytes-requires c κs = (c .before .before .before .before .before .before .pre .
 
 copy-each-requires : tie.Need-copy-each-requires
 copy-each-requires c κs =
-    let b = side-by-side (c .before .before) in
-    rw (c .before .bytes .ensures) (b .writes, b .reads)
+    let b = side-by-side (c .before .before .before) in
+    rw (c .before .before .bytes .ensures) (b .writes, b .reads)
 
 returns : tie.Need-returns
 returns c =
     let r = c .before .before in
-    let m = r .before .before in
+    let m = r .before .before .before in
     let t = m .before in
     let a = t .before .before .before .before .before .before .args in
     let b = side-by-side t in

@@ -19,7 +19,7 @@ fits s =
 advance-requires : tie.Need-advance-requires
 unfolding placedAt planTotal
 advance-requires c κs =
-    let s = c .before .before .before .before .before .before .before .before .before in
+    let s = c .before .before .before .before .before .before .before .before .before .before in
     let a = s .args in
     (placed-ready (a .plan) (a .source .start) (a .destination .start) (a .mem .now) [] (a .source .length) (a .destination .length) (s .pre .0 .0) (s .pre .0 .1) (s .pre .1 .0) (s .pre .1 .1 .0), s .pre .1 .1 .1)
 
@@ -27,7 +27,7 @@ returns : tie.Need-returns
 unfolding placedAt planTotal
 returns c =
     let v = c .before .before in
-    let s = v .before .before .before .before .before .before .before .before .before .before in
+    let s = v .before .before .before .before .before .before .before .before .before .before .before in
     let a = s .args in
     let n = v .advance .ensures .0 in (
       n,

@@ -1,11 +1,11 @@
--- `mover::engine::move_run` copies or clears, as the run says. Assumes nothing.
+-- `mover::engine::move_run` copies or pads, as the run says. Assumes nothing.
 use borrow.Author.Needs.{needs}
 use Rattle.mover.proofs.engine.move_run.Statement.{statement}
 use Rattle.mover.proofs.engine.move_run.Tie as tie
 
 copy-run-requires : tie.Need-copy-run-requires
 copy-run-requires c κs =
-    let s = c .before .before .before .before in
+    let s = c .before .before .before .before .before in
     (s .pre .0, s .pre .1 (c .before .if1 .taken))
 
 returns : tie.Need-returns
@@ -16,7 +16,7 @@ returns c =
 returns-2 : tie.Need-returns-2
 returns-2 c =
     let r = c .before .before .before .before .before in
-    (rw (r .clear-run .ensures .0), rw (r .before .before .if1 .left) (r .clear-run .ensures .1))
+    (rw (r .pad-run .ensures .0), rw (r .before .before .if1 .left) (r .pad-run .ensures .1))
 
 pub move-run-spec : {M : Type 1} → statement M
 move-run-spec =

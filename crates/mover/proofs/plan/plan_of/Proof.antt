@@ -11,11 +11,11 @@ fit s = answer-fit (s .args .t) (s .args .c) (s .pre .0) (s .pre .1)
 
 returns : tie.Need-returns
 returns c =
-    let k = c .before .before .before .before .before .before .before .before in
+    let k = c .before .before .before .before .before .before .before .before .before in
     let s = k .before in
     let e = room-strides (s .args .t) (s .args .c) (s .pre .0) (k .source-of .ensures) in
     let b = c .before .before .before .before in
-    plan-is (s .args .t) (s .args .c) (s .pre .0) (s .pre .1) e (b .before .home-of .ensures) (b .base-of .ensures)
+    plan-is (s .args .t) (s .args .c) (s .pre .0) (s .pre .1) e (b .before .before .bytes-of .ensures) (b .before .home-of .ensures) (b .base-of .ensures)
     (axis-is (s .args .t) (s .args .c) (s .pre .0) (s .pre .1) e 0 (omega arith) (c .before .before .before .axis-at .ensures))
     (axis-is (s .args .t) (s .args .c) (s .pre .0) (s .pre .1) e 1 (omega arith) (c .before .before .axis-at2 .ensures))
     (axis-is (s .args .t) (s .args .c) (s .pre .0) (s .pre .1) e 2 (omega arith) (c .before .axis-at3 .ensures))
@@ -27,10 +27,11 @@ plan-of-spec =
     (tie.spec
     (λ c κs. search needs)
     (λ c. search needs)
-    (λ c κs. fit (c .before .before .before))
+    (λ c κs. search needs)
     (λ c κs. fit (c .before .before .before .before))
-    (λ c κs. (fit (c .before .before .before .before .before), omega arith))
+    (λ c κs. fit (c .before .before .before .before .before))
     (λ c κs. (fit (c .before .before .before .before .before .before), omega arith))
     (λ c κs. (fit (c .before .before .before .before .before .before .before), omega arith))
     (λ c κs. (fit (c .before .before .before .before .before .before .before .before), omega arith))
+    (λ c κs. (fit (c .before .before .before .before .before .before .before .before .before), omega arith))
     returns)

@@ -3,7 +3,7 @@ use Prim.Native.Nat.{_%_}
 use mathlib.Core.Path.{_≡_}
 use native.Mathlib.Omega.{arith}
 use borrow.Author.Needs.{needs}
-use Rattle.record.specs.Layout.{little}
+use Rattle.plane.specs.Numbers.{little}
 use Rattle.record.proofs.numbers.put_byte.Statement.{statement}
 use Rattle.record.proofs.numbers.put_byte.Tie as tie
 

@@ -3,7 +3,7 @@ use native.Mathlib.Numerals.{add-one}
 use native.Mathlib.Omega.{arith}
 use borrow.Author.Needs.{needs}
 use lib.ListN.{length-set}
-use Rattle.record.specs.Layout.{little}
+use Rattle.plane.specs.Numbers.{little}
 use Rattle.record.proofs.numbers.put_half.Statement.{statement}
 use Rattle.record.proofs.numbers.put_half.Tie as tie
 

@@ -9,12 +9,14 @@ use Rattle.record.proofs.reader.config_in.Tie as tie
 returns : tie.Need-returns
 unfolding configIn start sum
 returns c =
-    let d = c .before .before .before .before in
+    let b = c .before .before .before in
+    let d = b .before .before in
     rw (
-      c .singles3 .ensures,
-      c .before .singles2 .ensures,
-      c .before .before .singles .ensures,
-      c .before .before .before .words5 .ensures,
+      c .fill-in .ensures,
+      c .before .singles3 .ensures,
+      c .before .before .singles2 .ensures,
+      b .singles .ensures,
+      b .before .words5 .ensures,
       d .words4 .ensures,
       d .before .words3 .ensures,
       d .before .before .words2 .ensures,
@@ -22,4 +24,4 @@ returns c =
     )
 
 pub config-in-spec : {M : Type 1} → statement M
-config-in-spec = tie.close (tie.spec (λ c κs. search needs) (λ c κs. search needs) (λ c κs. search needs) (λ c κs. search needs) (λ c κs. search needs) (λ c κs. search needs) (λ c κs. search needs) (λ c κs. search needs) returns)
+config-in-spec = tie.close (tie.spec (λ c κs. search needs) (λ c κs. search needs) (λ c κs. search needs) (λ c κs. search needs) (λ c κs. search needs) (λ c κs. search needs) (λ c κs. search needs) (λ c κs. search needs) (λ c κs. search needs) returns)

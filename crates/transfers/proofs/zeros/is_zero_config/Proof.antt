@@ -8,12 +8,13 @@ use Rattle.transfers.proofs.zeros.is_zero_config.Tie as tie
 returns : tie.Need-returns
 unfolding isZeroConfig every
 returns c =
-    let d = c .before .before .before in
+    let b = c .before in
+    let d = b .before .before .before in
     let e = d .before .before in
     rw (
-      c .is-zero-bytes3 .ensures,
-      c .before .is-zero-bytes2 .ensures,
-      c .before .before .is-zero-bytes .ensures,
+      b .is-zero-bytes3 .ensures,
+      b .before .is-zero-bytes2 .ensures,
+      b .before .before .is-zero-bytes .ensures,
       d .is-zero-numbers5 .ensures,
       d .before .is-zero-numbers4 .ensures,
       e .is-zero-numbers3 .ensures,
