@@ -98,19 +98,23 @@ const COUNT: Gives = Gives::First(&[0, 1, 3, 16]);
 const MADE: Gives = Gives::First(&[0, 1]);
 /// CALLS: "20, 1 to 13, 21".
 const JOB: Gives = Gives::First(&[0, 20, 1, 2, 3, 4, 5, 6, 7, 8, 9, 10, 11, 12, 13, 21]);
-/// "Record read: 25 to 27, 1, 28."
-const READ: Gives = Gives::First(&[0, 25, 26, 27, 1, 28]);
-/// "Record write: 25 (room not 131 bytes), 1, 28."
-const WRITE: Gives = Gives::First(&[0, 25, 1, 28]);
+/// "25 for a length that is neither, 26, 27 where the version isn't that length's, 1, then for version 2 also 2; 28"
+const READ: Gives = Gives::First(&[0, 25, 26, 27, 1, 2, 28]);
+/// "Write does the same, 25 being a room not of the version written."
+const WRITE: Gives = Gives::First(&[0, 25, 1, 2, 28]);
+/// What is behind 27 in both.
+const FIELDS: Gives = Gives::First(&[0, 1, 2, 28]);
+/// How long a record is, 131 or 135: the lowest byte of the number.
+const LENGTHS: Gives = Gives::First(&[131, 135]);
 /// "25 for under 7 bytes, 26, 27, then 30 where the length isn't 7 + 131 x count"
 const LIST: Gives = Gives::First(&[0, 25, 26, 27, 30]);
-/// "each record then as in 01; 39 past the last", behind the number of the record. 25 can't be provoked: a record of a
-/// list always has its 131 bytes.
+/// "each record then as in 01; 39 past the last", behind the number of the record. 25 can't be provoked, since a record
+/// of a list always has its 131 bytes, nor can 2, which only version 2 gives.
 const RECORD_OF_LIST: Gives = Gives::Behind(8, &[0, 39, 26, 27, 1, 28]);
 /// "38 if the buffer is shorter"
 const LIST_START: Gives = Gives::First(&[0, 38]);
-/// "Append: those four for the list so far, ... 37 if it has 65,535 records, 38 if under 131 bytes remain, 1, 28." 37
-/// can't be provoked through a line: such a list has 8,585,092 bytes.
+/// "Append: those four for the list so far, ... 37 if it has 65,535 records, 38 if under 131 bytes remain, 1, 28", and
+/// 27 again, last, for a fill. 37 can't be provoked through a line: such a list has 8,585,092 bytes.
 const APPEND: Gives = Gives::First(&[0, 25, 26, 27, 30, 38, 1, 28]);
 /// 17: "above the limit for a fresh one".
 const FRESH: Gives = Gives::First(&[0, 17]);
@@ -163,7 +167,7 @@ impl Calls {
 
 fn plane_calls() -> Vec<Call> {
     vec![
-        call(0x00, "version", Gives::OneKind, |_: ()| -> u16 { 2 }),
+        call(0x00, "version", Gives::OneKind, |_: ()| -> u16 { 3 }),
         call(0x01, "source_of", SOURCE, |tensor: Tensor| -> Source { tensor::source_of(&tensor) }),
         call(0x02, "room", ROOM, |(tensor, config): (Tensor, Config)| -> Room { moves::room(&tensor, &config) }),
         call(0x03, "judge", MOVE, |(tensor, config, source, destination): (Tensor, Config, u64, u64)| -> Answer {
@@ -220,6 +224,7 @@ fn setting_calls() -> Vec<Call> {
         call(0x1d, "with_perm", Gives::OneKind, |(config, entries): (Config, [u8; 4])| config.with_perm(entries)),
         call(0x1e, "with_pre", Gives::OneKind, |(config, entries): (Config, [u8; 4])| config.with_pre(entries)),
         call(0x1f, "with_post", Gives::OneKind, |(config, entries): (Config, [u8; 4])| config.with_post(entries)),
+        call(0x0b, "with_fill", Gives::OneKind, |(config, fill): (Config, u32)| config.with_fill(fill)),
     ]
 }
 
@@ -261,6 +266,11 @@ fn record_calls() -> Vec<Call> {
             let mut room = room;
             let fault = record::write(&tensor, &config, &mut room.0);
             Written { fault, room }
+        }),
+        call(0x39, "length_in", LENGTHS, |bytes: Rest| -> u64 { record::length_in(&bytes.0) as u64 }),
+        call(0x3a, "length_for", LENGTHS, |config: Config| -> u64 { record::length_for(&config) as u64 }),
+        call(0x3b, "fields_fault", FIELDS, |(version, tensor, config): (u16, Tensor, Config)| -> Fault {
+            record::fields_fault(version, &tensor, &config)
         }),
     ]
 }

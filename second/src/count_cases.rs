@@ -1,6 +1,6 @@
 //! The cases of a count, which its number alone does not tell apart. A long comparison has to meet each.
 
-use crate::coverage::holding;
+use crate::coverage::{holding, named, Case};
 use crate::helpers::Count;
 use crate::tensor::{source_of, Tensor, EXTENT_LIMIT};
 use crate::wire::whole;
@@ -20,7 +20,7 @@ pub fn cases(number: u8) -> Vec<String> {
         cases.extend((0..=rank).map(|start| from(rank, start)));
     }
     let (tensor, answer) = Default::default();
-    cases.extend(others(&tensor, 0, &answer).iter().map(|(_, case)| case.to_string()));
+    cases.extend(named(&others(&tensor, 0, &answer)));
     cases
 }
 
@@ -47,7 +47,7 @@ pub fn met(bytes: &[u8], expected: &[u8]) -> Vec<String> {
 }
 
 /// Each other case, and whether a count is one.
-fn others(tensor: &Tensor, start: usize, answer: &Count) -> Vec<(bool, &'static str)> {
+fn others(tensor: &Tensor, start: usize, answer: &Count) -> Vec<Case<&'static str>> {
     let Count { status, dimension, count } = *answer;
     let (rank, lowest) = (tensor.rank as usize, dimension as usize);
     let (accepted, one, three) = (status == 0, status == 1, status == 3);

@@ -1,9 +1,11 @@
 //! What a long comparison has to meet: each call with everything that it can give and with arguments of a wrong length,
-//! each state of a slot in each call that takes a table, each case of a count, of a destination offset, of a list and
-//! of elements that are moved, each reason for which a line is no call, and each number of `rmvshow` and `rmvlist`.
+//! each state of a slot in each call that takes a table, each case of a count, of a destination offset, of a list, of
+//! elements that are moved and of a fill, each reason for which a line is no call, and each case of `rmvshow` and
+//! `rmvlist`.
 
 use crate::calls::{Call, Calls, Gives};
 use crate::count_cases;
+use crate::fill_cases;
 use crate::lines::{unhex, NO_CALL, NO_DIGITS, NO_NEWLINE, TOO_LONG, WRONG_LENGTH};
 use crate::list_cases;
 use crate::offset_cases;
@@ -47,7 +49,7 @@ impl Coverage {
             coverage.add(&name(call), cases(calls, call));
         }
         coverage.add("no call", REASONS.map(String::from).to_vec());
-        coverage.add("rmvshow", show::NUMBERS.iter().map(u8::to_string).collect());
+        coverage.add("rmvshow", show::cases());
         coverage.add("rmvlist", show_list::cases());
         coverage
     }
@@ -86,10 +88,12 @@ impl Coverage {
         }
     }
 
-    /// Counts a run of `rmvshow` by what it has to print: `status N dim D` comes first.
-    pub fn show(&mut self, expected: &str) {
-        let number = expected.split(' ').nth(1).unwrap_or_default();
-        self.meet("rmvshow", number);
+    /// Counts a run of `rmvshow` by what it is given and has to print: `status N dim D` comes first.
+    pub fn show(&mut self, input: &[u8], expected: &str) {
+        let number = expected.split(' ').nth(1).and_then(|number| number.parse().ok());
+        for case in show::met(input, number.unwrap_or(u8::MAX)) {
+            self.meet("rmvshow", &case);
+        }
     }
 
     /// Counts a run of `rmvlist` by what it is given and has to print.
@@ -153,19 +157,27 @@ fn cases(calls: &Calls, call: &Call) -> Vec<String> {
 
 /// What the numbers alone do not tell apart.
 fn cases_told_apart(call: &Call) -> Vec<String> {
-    let cases = [count_cases::cases, offset_cases::cases, list_cases::cases, stretch_cases::cases];
+    let cases = [count_cases::cases, offset_cases::cases, list_cases::cases, stretch_cases::cases, fill_cases::cases];
     cases.iter().flat_map(|cases| cases(call.number)).collect()
 }
 
 /// Those of them that a call with these bytes is.
 fn cases_met(bytes: &[u8], expected: &[u8]) -> Vec<String> {
-    let met = [count_cases::met, offset_cases::met, list_cases::met, stretch_cases::met];
+    let met = [count_cases::met, offset_cases::met, list_cases::met, stretch_cases::met, fill_cases::met];
     met.iter().flat_map(|met| met(bytes, expected)).collect()
 }
 
+/// Whether a case holds, and its name.
+pub type Case<S = String> = (bool, S);
+
 /// What is counted, if it holds.
-pub fn holding(all: &[(bool, &str)]) -> Vec<String> {
+pub fn holding<S: ToString>(all: &[Case<S>]) -> Vec<String> {
     all.iter().filter(|(holds, _)| *holds).map(|(_, case)| case.to_string()).collect()
+}
+
+/// What can be counted, whether it holds or not.
+pub fn named<S: ToString>(all: &[Case<S>]) -> Vec<String> {
+    all.iter().map(|(_, case)| case.to_string()).collect()
 }
 
 /// The list of a call.

@@ -70,6 +70,11 @@ fn place_of(k: u64) -> Range<usize> {
     start..start + record::LENGTH
 }
 
+/// The bytes of a record, in a list that has it.
+pub fn record_bytes(bytes: &[u8], k: u64) -> &[u8] {
+    &bytes[place_of(k)]
+}
+
 /// The call `list_fault`: what is wrong with a list.
 pub fn list_fault(bytes: &[u8]) -> u8 {
     check_list(bytes).map_or_else(|fault| fault.status, |_| 0)
@@ -85,8 +90,8 @@ pub fn record_at(bytes: &[u8], k: u64) -> Numbered {
     if k >= record_count(bytes) {
         return past_the_last();
     }
-    // "each record then as in 01"
-    Numbered { number: k, reading: record::read(&bytes[place_of(k)]) }
+    // "each record then as in 01"; "lists of version 1 hold only version 1 records", since each has 131 bytes
+    Numbered { number: k, reading: record::read(record_bytes(bytes, k)) }
 }
 
 /// "39 past the last". There is no record that it could carry the number of.
@@ -168,8 +173,8 @@ pub fn append(tensor: &Tensor, config: &Config, length: u64, mut buffer: Vec<u8>
 }
 
 /// "Append: those four for the list so far, 25 also where it is said to be longer than the buffer, 37 if it has 65,535
-/// records, 38 if under 131 bytes remain, 1, 28." How many records the list has, and the bytes of the new one. The
-/// records that it has are not looked at.
+/// records, 38 if under 131 bytes remain, 1, 28", and 27 last. How many records the list has, and the bytes of the new
+/// one. The records that it has are not looked at.
 fn check_append(tensor: &Tensor, config: &Config, length: u64, buffer: &[u8]) -> Result<(u16, Vec<u8>), Fault> {
     if length > buffer.len() as u64 {
         return refuse(25, 0);
@@ -186,12 +191,11 @@ fn check_append(tensor: &Tensor, config: &Config, length: u64, buffer: &[u8]) ->
     Ok((count, written(tensor, config)?))
 }
 
-/// "1, 28": as a record is written, into a room that is long enough.
+/// "1, 28" of a version 1 record, which asks nothing of the fill; then "append gives 27, last, for a fill not 0".
 fn written(tensor: &Tensor, config: &Config) -> Result<Vec<u8>, Fault> {
-    let mut record = vec![0; record::LENGTH];
-    let fault = record::write(tensor, config, &mut record);
-    if fault.status != 0 {
-        return Err(fault);
+    record::check_fields(record::VERSION, tensor, config)?;
+    if config.fill != 0 {
+        return refuse(27, 0);
     }
-    Ok(record)
+    Ok(record::pack_as(record::VERSION, tensor, config))
 }

@@ -7,6 +7,7 @@ mod calls;
 mod compare;
 mod count_cases;
 mod coverage;
+mod fill_cases;
 mod generate;
 mod helpers;
 mod job;

@@ -5,11 +5,12 @@ use crate::wire::wire_struct;
 
 wire_struct! {
     /// "A configuration has, per dimension: offset, size, step, pre and post padding, all by source dimension;
-    /// permutation; destination offset and destination stride, by destination dimension."
+    /// permutation; destination offset and destination stride, by destination dimension." "Configurations gain a
+    /// 32-bit fill", which has no dimension.
     #[derive(Copy)]
     Config {
         offset: [u32; 4], size: [u32; 4], step: [u32; 4], dst_offset: [u32; 4], dst_stride: [u32; 4],
-        perm: [u8; 4], pre: [u8; 4], post: [u8; 4],
+        perm: [u8; 4], pre: [u8; 4], post: [u8; 4], fill: u32,
     }
 }
 
@@ -204,8 +205,8 @@ pub fn coordinates(plan: &Plan) -> Vec<[u64; 4]> {
 }
 
 /// "At destination coordinate c, source dimension s = perm[i] has k = c[i] - pre[s]. If every k is from 0 to
-/// count-1, the element is the source's at offset + k x step in each dimension; else all its bytes are 0."
-/// The element's number in the source, or nothing for padding.
+/// count-1, the element is the source's at offset + k x step in each dimension"; else it is padding, and "demands 2 and
+/// 3 read fill for zero". The element's number in the source, or nothing for padding.
 pub fn source_place(plan: &Plan, config: &Config, c: &[u64; 4]) -> Option<u64> {
     let mut place = 0;
     for i in 0..plan.rank {
@@ -218,6 +219,12 @@ pub fn source_place(plan: &Plan, config: &Config, c: &[u64; 4]) -> Option<u64> {
         place += coordinate * plan.source_stride[s];
     }
     Some(place)
+}
+
+/// "a 32-bit fill whose low bytes, as many as the element size, go into padded elements, lowest byte first": one byte
+/// of a padded element. A fill's bytes above the element size are not looked at.
+fn padded_byte(config: &Config, byte: usize) -> u8 {
+    config.fill.to_le_bytes()[byte]
 }
 
 /// "Its place is the sum of (destination offset + c) x stride, in elements."
@@ -247,7 +254,7 @@ pub fn move_elements(
         for byte in 0..plan.element_size {
             destination[to + byte] = match source_place(plan, config, c) {
                 Some(place) => source[place as usize * plan.element_size + byte],
-                None => 0,
+                None => padded_byte(config, byte),
             };
         }
         moved += 1;

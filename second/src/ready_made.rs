@@ -10,7 +10,7 @@ wire_struct! {
     Made { status: u8, config: Config }
 }
 
-/// "Defaults below the rank: step 1, permutation entry d at d, the rest 0."
+/// "Defaults below the rank: step 1, permutation entry d at d, the rest 0." Of fill "the ready-made ones have 0".
 fn defaults(rank: usize) -> Config {
     let mut config = Config::default();
     for d in 0..rank {
@@ -28,9 +28,9 @@ fn below<T: Copy + Default>(rank: usize, entries: [T; 4]) -> [T; 4] {
 }
 
 /// "made for a rank, and 1 with all fields 0 answers a wrong one"
-fn made(rank: u8, fill: impl Fn(usize, Config) -> Config) -> Made {
+fn made(rank: u8, set: impl Fn(usize, Config) -> Config) -> Made {
     match check_rank(rank) {
-        Ok(rank) => Made { status: 0, config: fill(rank, defaults(rank)) },
+        Ok(rank) => Made { status: 0, config: set(rank, defaults(rank)) },
         Err(fault) => Made { status: fault.status, config: Config::default() },
     }
 }
@@ -60,7 +60,7 @@ pub fn permute(rank: u8, perm: [u8; 4]) -> Made {
     made(rank, |r, config| Config { perm: below(r, perm), ..config })
 }
 
-/// MLI: `mli_mov_cfg_all` fills the configuration with the values provided, every field.
+/// MLI: `mli_mov_cfg_all` fills the configuration with the values provided, every field. It has no argument for a fill.
 pub fn all(rank: u8, given: &Config) -> Made {
     made(rank, |r, _| Config {
         offset: below(r, given.offset),
@@ -71,6 +71,7 @@ pub fn all(rank: u8, given: &Config) -> Made {
         perm: below(r, given.perm),
         pre: below(r, given.pre),
         post: below(r, given.post),
+        fill: 0,
     })
 }
 
@@ -97,7 +98,7 @@ pub fn pad_hwc(padding: Padding, dst_stride: [u32; 4]) -> Config {
 }
 
 /// "Each setting hands the configuration back with its one field set to the four entries given and the others kept";
-/// "it needs no rank and refuses nothing."
+/// "it needs no rank and refuses nothing." Of fill: "a setting changes it".
 impl Config {
     pub fn with_offset(self, offset: [u32; 4]) -> Config {
         Config { offset, ..self }
@@ -122,5 +123,8 @@ impl Config {
     }
     pub fn with_post(self, post: [u8; 4]) -> Config {
         Config { post, ..self }
+    }
+    pub fn with_fill(self, fill: u32) -> Config {
+        Config { fill, ..self }
     }
 }

@@ -1,7 +1,7 @@
-//! The move record: 131 bytes that hold a tensor record and a configuration.
+//! The move record: a tensor record and a configuration in 131 bytes, or in 135 where there is a fill.
 
 use crate::moves::Config;
-use crate::tensor::{check_rank, refuse, Fault, Tensor};
+use crate::tensor::{check_element_size, check_rank, refuse, Fault, Tensor};
 use crate::wire::wire_struct;
 
 wire_struct! {
@@ -10,13 +10,18 @@ wire_struct! {
     Reading { status: u8, dimension: u8, tensor: Tensor, config: Config }
 }
 
+/// Version 1 has 131 bytes.
 pub const LENGTH: usize = 131;
+pub const VERSION: u16 = 1;
+/// "Record version 2 is version 1 plus those 4 bytes at the end, 135 in all."
+pub const LENGTH_WITH_FILL: usize = 135;
+pub const VERSION_WITH_FILL: u16 = 2;
 const MARK: &[u8; 3] = b"RMV";
-const VERSION: u16 = 1;
 
 /// At which byte of the record each thing starts: "mark `RMV`, 16-bit version 1, rank byte, element size byte; then
 /// seven groups of four 32-bit numbers (shape, stride, offset, size, step, destination offset, destination stride);
-/// then four bytes each of permutation, pre, post". Nothing here follows from the order of fields anywhere else.
+/// then four bytes each of permutation, pre, post"; in version 2 the fill "at the end". Nothing here follows from the
+/// order of fields anywhere else.
 pub mod at {
     pub const MARK: usize = 0;
     pub const VERSION: usize = 3;
@@ -32,9 +37,44 @@ pub mod at {
     pub const PERM: usize = 119;
     pub const PRE: usize = 123;
     pub const POST: usize = 127;
+    pub const FILL: usize = 131;
 }
 
-/// The call `read`. "Record read: 25 to 27, 1, 28."
+/// How long a record of this version is: "131 if that isn't 2".
+fn length_of(version: u16) -> usize {
+    if version == VERSION_WITH_FILL {
+        LENGTH_WITH_FILL
+    } else {
+        LENGTH
+    }
+}
+
+/// The version that these bytes tell, little endian, if there are enough of them.
+pub fn version_in(bytes: &[u8]) -> Option<u16> {
+    Some(u16::from_le_bytes(bytes.get(at::VERSION..at::RANK)?.try_into().ok()?))
+}
+
+/// The call `length_in`: how long a record is that begins with these bytes. CALLS: "135 if there are at least 5 and
+/// their version is 2, else 131". No other byte is looked at.
+pub fn length_in(bytes: &[u8]) -> usize {
+    version_in(bytes).map_or(LENGTH, length_of)
+}
+
+/// "fill 0 is always written as version 1", and any other as version 2.
+pub fn version_for(config: &Config) -> u16 {
+    if config.fill == 0 {
+        VERSION
+    } else {
+        VERSION_WITH_FILL
+    }
+}
+
+/// The call `length_for`: how long the record of this configuration is.
+pub fn length_for(config: &Config) -> usize {
+    length_of(version_for(config))
+}
+
+/// The call `read`. "25 for a length that is neither, 26, 27 where the version isn't that length's", then the fields.
 pub fn read(bytes: &[u8]) -> Reading {
     match fields(bytes) {
         Ok((tensor, config)) => Reading { status: 0, dimension: 0, tensor, config },
@@ -43,46 +83,71 @@ pub fn read(bytes: &[u8]) -> Reading {
 }
 
 fn fields(bytes: &[u8]) -> Result<(Tensor, Config), Fault> {
-    // 25: "record not 131 bytes"
-    if bytes.len() != LENGTH {
-        return refuse(25, 0);
-    }
+    let version = match bytes.len() {
+        LENGTH => VERSION,
+        LENGTH_WITH_FILL => VERSION_WITH_FILL,
+        // 25: "a length that is neither"
+        _ => return refuse(25, 0),
+    };
     // 26: "mark `RMV`"
     if bytes[at::MARK..at::MARK + 3] != *MARK {
         return refuse(26, 0);
     }
-    // 27: "16-bit version 1", little endian
-    if u16::from_le_bytes([bytes[at::VERSION], bytes[at::VERSION + 1]]) != VERSION {
+    // 27: "where the version isn't that length's"
+    if version_in(bytes) != Some(version) {
         return refuse(27, 0);
     }
     let (tensor, config) = unpack(bytes);
-    check_tail(&tensor, &config)?;
+    check_fields(version, &tensor, &config)?;
     Ok((tensor, config))
 }
 
-/// The call `write`. "Record write: 25 (room not 131 bytes), 1, 28." A refused one leaves the room as it was.
+/// The call `write`. "Write does the same, 25 being a room not of the version written." A refused one leaves the room
+/// as it was.
 pub fn write(tensor: &Tensor, config: &Config, room: &mut [u8]) -> Fault {
-    if room.len() != LENGTH {
+    if room.len() != length_for(config) {
         return Fault { status: 25, dimension: 0 };
     }
-    match check_tail(tensor, config) {
-        Ok(()) => {
-            room.copy_from_slice(&pack(tensor, config));
-            Fault { status: 0, dimension: 0 }
-        }
-        Err(fault) => fault,
+    let fault = fields_fault(version_for(config), tensor, config);
+    if fault.status == 0 {
+        room.copy_from_slice(&pack(tensor, config));
     }
+    fault
 }
 
-/// 1, then 28: "All entries at or past the rank are 0", the lowest dimension over all groups being named. The element
-/// size is not looked at.
-fn check_tail(tensor: &Tensor, config: &Config) -> Result<(), Fault> {
-    for d in check_rank(tensor.rank)?..4 {
+/// The call `fields_fault`: what a record of that version refuses of its fields.
+pub fn fields_fault(version: u16, tensor: &Tensor, config: &Config) -> Fault {
+    check_fields(version, tensor, config).err().unwrap_or_default()
+}
+
+/// "1, then for version 2 also 2; 28, at dimension 0 and after its old cases, covers a version 2 fill of 0 or with
+/// unused bytes not 0." Any other version looks at neither element size nor fill.
+pub fn check_fields(version: u16, tensor: &Tensor, config: &Config) -> Result<(), Fault> {
+    let with_fill = version == VERSION_WITH_FILL;
+    let rank = check_rank(tensor.rank)?;
+    if with_fill {
+        check_element_size(tensor.element_size)?;
+    }
+    check_tail(rank, tensor, config)?;
+    if with_fill && (config.fill == 0 || has_unused_byte(config.fill, tensor.element_size)) {
+        return refuse(28, 0);
+    }
+    Ok(())
+}
+
+/// 28: "All entries at or past the rank are 0", the lowest dimension over all groups being named.
+fn check_tail(rank: usize, tensor: &Tensor, config: &Config) -> Result<(), Fault> {
+    for d in rank..4 {
         if has_entry(tensor, config, d) {
             return refuse(28, d);
         }
     }
     Ok(())
+}
+
+/// Whether a byte of the fill past the element size is not 0.
+pub fn has_unused_byte(fill: u32, element_size: u8) -> bool {
+    fill.to_le_bytes().iter().skip(element_size as usize).any(|&byte| byte != 0)
 }
 
 /// Whether any group has an entry in this dimension that is not 0.
@@ -100,8 +165,8 @@ pub fn has_entry(tensor: &Tensor, config: &Config, d: usize) -> bool {
     wide.iter().any(|&entry| entry != 0) || bytes.iter().any(|&entry| entry != 0)
 }
 
-/// The fields of a record of 131 bytes, without a look at them.
-fn unpack(bytes: &[u8]) -> (Tensor, Config) {
+/// The fields of a record of 131 or 135 bytes, without a look at them.
+pub fn unpack(bytes: &[u8]) -> (Tensor, Config) {
     let tensor = Tensor {
         rank: bytes[at::RANK],
         element_size: bytes[at::ELEMENT_SIZE],
@@ -117,15 +182,30 @@ fn unpack(bytes: &[u8]) -> (Tensor, Config) {
         perm: four_bytes(bytes, at::PERM),
         pre: four_bytes(bytes, at::PRE),
         post: four_bytes(bytes, at::POST),
+        fill: fill_in(bytes),
     };
     (tensor, config)
 }
 
-/// The bytes of a record, without a look at its fields.
+/// "Version 1 reads as fill 0."
+fn fill_in(bytes: &[u8]) -> u32 {
+    if bytes.len() == LENGTH_WITH_FILL {
+        u32::from_le_bytes(four_bytes(bytes, at::FILL))
+    } else {
+        0
+    }
+}
+
+/// The bytes of the record that is written, without a look at its fields.
 pub fn pack(tensor: &Tensor, config: &Config) -> Vec<u8> {
-    let mut bytes = vec![0; LENGTH];
+    pack_as(version_for(config), tensor, config)
+}
+
+/// The bytes of a record of that version, whatever the fill.
+pub fn pack_as(version: u16, tensor: &Tensor, config: &Config) -> Vec<u8> {
+    let mut bytes = vec![0; length_of(version)];
     put(&mut bytes, at::MARK, MARK);
-    put(&mut bytes, at::VERSION, &VERSION.to_le_bytes());
+    put(&mut bytes, at::VERSION, &version.to_le_bytes());
     bytes[at::RANK] = tensor.rank;
     bytes[at::ELEMENT_SIZE] = tensor.element_size;
     put_numbers(&mut bytes, at::SHAPE, &tensor.shape);
@@ -138,6 +218,9 @@ pub fn pack(tensor: &Tensor, config: &Config) -> Vec<u8> {
     put(&mut bytes, at::PERM, &config.perm);
     put(&mut bytes, at::PRE, &config.pre);
     put(&mut bytes, at::POST, &config.post);
+    if version == VERSION_WITH_FILL {
+        put(&mut bytes, at::FILL, &config.fill.to_le_bytes());
+    }
     bytes
 }
 

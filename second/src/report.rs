@@ -56,7 +56,7 @@ impl Report {
 
     /// Compares the output of one run of `rmvshow`.
     pub fn show(&mut self, input: &[u8], expected: &str, got: &[u8], ended: ExitStatus) {
-        self.coverage.show(expected);
+        self.coverage.show(input, expected);
         self.printed("rmvshow", input, expected, got, ended);
     }
 

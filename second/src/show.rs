@@ -1,8 +1,9 @@
 //! What the program `rmvshow` prints.
 
-use crate::moves::{judge, move_plane, Answer};
+use crate::coverage::{holding, named, Case};
+use crate::moves::{judge, move_plane, plan, total, Answer};
 use crate::record::{self, Reading};
-use crate::tensor::Fault;
+use crate::tensor::{source_of, Fault};
 use std::fmt::Write;
 
 /// "up to 16,384 source bytes from standard input (the rest unread)"
@@ -12,11 +13,12 @@ pub const ROOM: usize = 32_768;
 
 /// The numbers that it can tell: those of a record read, then those of a move. 10 can't be provoked: it needs a shape
 /// above 65,025, but no more than 16,384 bytes of the source are read, so that 5 comes before it.
-pub const NUMBERS: &[u8] = &[0, 25, 26, 27, 1, 28, 2, 3, 4, 5, 6, 7, 8, 9, 11, 12, 13];
+const NUMBERS: &[u8] = &[0, 25, 26, 27, 1, 28, 2, 3, 4, 5, 6, 7, 8, 9, 11, 12, 13];
 
-/// The record, and what is read of the source.
+/// The record, and what is read of the source. "The program takes the record's length from its version, 131 if that
+/// isn't 2", whatever its mark; of an input that ends earlier it takes what is there.
 fn take(input: &[u8]) -> (Reading, &[u8]) {
-    let (bytes, source) = input.split_at(input.len().min(record::LENGTH));
+    let (bytes, source) = input.split_at(input.len().min(record::length_in(input)));
     (record::read(bytes), &source[..source.len().min(SOURCE_LIMIT)])
 }
 
@@ -64,4 +66,57 @@ fn accepted(answer: &Answer, room: &[u8]) -> String {
     let _ = write!(out, "\nneed {}\n", answer.need);
     let bytes: Vec<String> = room[..answer.need as usize].iter().map(|byte| format!("{byte:02x}")).collect();
     out + &bytes.join(" ") + "\n"
+}
+
+/// All that a long comparison has to meet.
+pub fn cases() -> Vec<String> {
+    let mut cases: Vec<String> = NUMBERS.iter().map(u8::to_string).collect();
+    cases.extend(named(&of_version_2(&[], 0)));
+    cases
+}
+
+/// The cases that an input is, by the number that has to be told for it.
+pub fn met(input: &[u8], number: u8) -> Vec<String> {
+    let mut met = vec![number.to_string()];
+    met.extend(holding(&of_version_2(input, number)));
+    met
+}
+
+/// Each case of an input whose record is longer, and whether this is one.
+fn of_version_2(input: &[u8], number: u8) -> Vec<Case> {
+    let two = record::length_in(input) == record::LENGTH_WITH_FILL;
+    let length = input.len();
+    let (marked, is_whole) = (input.starts_with(b"RMV"), length >= record::LENGTH_WITH_FILL);
+    let between = (record::LENGTH + 1..record::LENGTH_WITH_FILL).contains(&length);
+    // A version of 258, say, is not 2: 131 bytes are read.
+    let low_byte_alone = !two && input.get(record::at::VERSION) == Some(&2);
+    let (reading, _) = take(input);
+    let span = source_of(&reading.tensor).span as usize;
+    let mut all = Vec::new();
+    for size in [1, 2, 4] {
+        let padded = two && number == 0 && reading.tensor.element_size == size && pads(&reading);
+        all.push((padded, format!("{size}-byte padding")));
+    }
+    for refused in [26, 1, 2, 28, 5] {
+        all.push((two && is_whole && number == refused, format!("{refused} of version 2")));
+    }
+    for cut in 132..=134 {
+        all.push((two && marked && number == 25 && length == cut, format!("version 2 cut after {cut} bytes")));
+    }
+    let others = [
+        (two && number == 27 && length == record::LENGTH, "version 2 cut after 131 bytes"),
+        (two && number == 25 && length < record::LENGTH, "version 2 cut before"),
+        (two && !marked && number == 25 && between, "version 2 cut behind another mark"),
+        (low_byte_alone && number == 27 && between, "version 2 in its low byte alone"),
+        (two && number == 0 && span == SOURCE_LIMIT, "source just read behind version 2"),
+        (two && number == 5 && span == SOURCE_LIMIT + 1 && length >= 135 + span, "source not read behind version 2"),
+    ];
+    all.extend(others.map(|(holds, case)| (holds, case.to_string())));
+    all
+}
+
+/// Whether an element of this move is padding.
+fn pads(reading: &Reading) -> bool {
+    plan(&reading.tensor, &reading.config, None)
+        .is_ok_and(|plan| plan.count[..plan.rank].iter().product::<u64>() < total(&plan))
 }

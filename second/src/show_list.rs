@@ -1,7 +1,8 @@
 //! What the program `rmvlist` prints.
 
-use crate::list::{list_fault, record_count, ListReader, Numbered};
+use crate::list::{list_fault, record_bytes, record_count, ListReader, Numbered};
 use crate::moves::room;
+use crate::record::{version_in, VERSION_WITH_FILL};
 use std::fmt::Write;
 
 /// "a list of up to 1,000 records, 131,007 bytes"
@@ -12,10 +13,14 @@ const LONGER: &str = "input longer than 131007 bytes, which are 1000 records\n";
 
 /// The numbers that it can tell of a list.
 const LIST: &[u8] = &[0, 25, 26, 27, 30];
-/// Of a record: those of a record read, but for 25, since it always has its 131 bytes.
+/// Of a record: those of a record read, but for 25, since it always has its 131 bytes, and for 2, which only version 2
+/// gives.
 const RECORD: &[u8] = &[0, 26, 27, 1, 28];
 /// Of a room question: 1 was given when the record was read.
 const ROOM: &[u8] = &[0, 2, 3, 4, 6, 7, 8, 9, 10, 11, 12];
+
+/// 27 for a record whose 131 bytes are those of version 2.
+const VERSION_2: &str = "record of version 2";
 
 /// The longest inputs, and those that are just longer.
 const LONGEST_LIST: &str = "1000 records";
@@ -63,9 +68,9 @@ fn line(numbered: &Numbered) -> String {
     out + "\n"
 }
 
-/// All numbers that it can tell.
+/// All numbers that it can tell, and of a record what one of them does not tell.
 pub fn numbers() -> Vec<String> {
-    let mut cases = Vec::new();
+    let mut cases = vec![VERSION_2.to_string()];
     for (of, numbers) in [("list", LIST), ("record", RECORD), ("room", ROOM)] {
         cases.extend(numbers.iter().map(|number| format!("{of} {number}")));
     }
@@ -95,6 +100,9 @@ pub fn met(input: &[u8], expected: &str) -> Vec<String> {
         if let Some(room) = words.iter().position(|&word| word == "room") {
             met.push(format!("room {}", words[room + 1]));
         }
+    }
+    if (0..record_count(input)).any(|k| version_in(record_bytes(input, k)) == Some(VERSION_WITH_FILL)) {
+        met.push(VERSION_2.to_string());
     }
     if input.len() == INPUT_LIMIT {
         let case = if list_fault(input) == 0 { LONGEST_LIST } else { LONGEST_INPUT };

@@ -65,26 +65,26 @@ fn of_size(size: usize, case: &str) -> String {
 }
 
 /// An element that was moved.
-struct Element {
+pub struct Element {
     coordinate: [u64; 4],
-    is_kept: bool,
+    pub is_kept: bool,
 }
 
 /// An accepted move of at least one element.
-struct Moved {
-    config: Config,
-    plan: Plan,
-    elements: Vec<Element>,
+pub struct Moved {
+    pub config: Config,
+    pub plan: Plan,
+    pub elements: Vec<Element>,
     /// Whether the budget is above what was left.
     spare: bool,
 }
 
 /// The cases that a call with these bytes is, by what it has to be answered.
 pub fn met(bytes: &[u8], expected: &[u8]) -> Vec<String> {
-    let (Some(&number), [_, 0, ..]) = (bytes.first(), expected) else {
+    let (Some((&number, arguments)), [_, 0, ..]) = (bytes.split_first(), expected) else {
         return Vec::new();
     };
-    let Some(moved) = moved(bytes) else {
+    let Some(moved) = moved(number, arguments) else {
         return Vec::new();
     };
     let mut met = Vec::new();
@@ -98,8 +98,7 @@ pub fn met(bytes: &[u8], expected: &[u8]) -> Vec<String> {
 }
 
 /// What an accepted call moves: a whole plane, or from an element number on as many as its budget has.
-fn moved(bytes: &[u8]) -> Option<Moved> {
-    let (&number, arguments) = bytes.split_first()?;
+pub fn moved(number: u8, arguments: &[u8]) -> Option<Moved> {
     match number {
         MOVE_PLANE => {
             let (tensor, config, _, _): (Tensor, Config, Counted, Memory) = whole(arguments)?;

@@ -48,6 +48,14 @@ pub fn check_rank(rank: u8) -> Result<usize, Fault> {
     Ok(rank as usize)
 }
 
+/// 2: "Element size 1, 2 or 4."
+pub fn check_element_size(element_size: u8) -> Result<(), Fault> {
+    if ![1, 2, 4].contains(&element_size) {
+        return refuse(2, 0);
+    }
+    Ok(())
+}
+
 /// 3: "Shape entries 1 to 65,535."
 pub fn check_shapes(tensor: &Tensor, rank: usize) -> Result<(), Fault> {
     refuse_lowest(3, rank, |d| tensor.shape[d] < 1 || tensor.shape[d] as u64 > EXTENT_LIMIT)
@@ -80,10 +88,7 @@ pub fn resolve_strides(status: u8, rank: usize, shape: &[u64; 4], stride: &[u32;
 /// The numbers 1 to 4 of a tensor record; the resolved strides if there is none.
 pub fn check_tensor(tensor: &Tensor) -> Result<[u64; 4], Fault> {
     let rank = check_rank(tensor.rank)?;
-    // 2: "Element size 1, 2 or 4."
-    if ![1, 2, 4].contains(&tensor.element_size) {
-        return refuse(2, 0);
-    }
+    check_element_size(tensor.element_size)?;
     check_shapes(tensor, rank)?;
     resolve_strides(4, rank, &wide(&tensor.shape), &tensor.stride)
 }

@@ -2,12 +2,12 @@
 
 use super::jobs::lay_out;
 use super::planes::{good, Scale};
-use super::values::{any_u32, any_u64, any_u8};
+use super::values::{any_u32, any_u64, any_u8, telling_fill};
 use super::Work;
 use crate::job::{judge_job, Job, Part};
 use crate::random::Random;
 use crate::tensor::LIMIT;
-use crate::transfers::{Slot, Table, DONE, FREE, PREPARED, RUNNING};
+use crate::transfers::{fresh, prepare, Slot, Table, DONE, FREE, PREPARED, RUNNING};
 use crate::wire::{bytes_of, whole, Memory, Rest, Wire};
 
 /// Changes one thing in a table. It may be sound all the same.
@@ -75,11 +75,15 @@ fn set_byte(random: &mut Random, table: &mut Table, one: usize) {
     table.slot[one] = whole(&bytes).expect("as long as before");
 }
 
-/// A free slot with a byte that is not 0, in any of its fields behind the state.
+/// A free slot with a byte that is not 0, in any of its fields behind the state, and most often in the fill.
 fn break_free_slot(random: &mut Random, table: &mut Table) {
     let Some(free) = table.slot.iter().position(|slot| slot.state == FREE) else {
         return;
     };
+    if random.chance(30) {
+        table.slot[free].job.config.fill = 1 << (8 * random.below(4));
+        return;
+    }
     let mut fields = Vec::new();
     Slot::places("", &mut fields);
     let field = random.between(1, fields.len() as u64 - 1) as usize;
@@ -114,19 +118,41 @@ fn move_part(random: &mut Random, table: &mut Table, one: usize) {
     }
 }
 
+/// The calls that take a table.
+const TABLE_CALLS: std::ops::RangeInclusive<u8> = 0x41..=0x45;
+
 /// Some of the calls that take a table, none of whose answers is kept.
 pub fn call_all(work: &mut Work, table: &Table, job: &Job, handle: u32, memory: &[u8]) {
+    for number in TABLE_CALLS {
+        if work.random.chance(50) {
+            call_one(work, number, table, job, handle, memory);
+        }
+    }
+}
+
+fn call_one(work: &mut Work, number: u8, table: &Table, job: &Job, handle: u32, memory: &[u8]) {
     let rest = Rest(memory.to_vec());
     let budget = any_u64(&mut work.random);
-    for number in 0x41..=0x45 {
-        if work.random.chance(50) {
-            continue;
-        }
-        match number {
-            0x41 => work.call(number, &(*table, *job, rest.clone())),
-            0x43 => work.call(number, &(*table, handle, budget, Memory(memory.to_vec()))),
-            0x45 => work.call(number, &(*table, handle)),
-            _ => work.call(number, &(*table, handle, rest.clone())),
+    match number {
+        0x41 => work.call(number, &(*table, *job, rest)),
+        0x43 => work.call(number, &(*table, handle, budget, Memory(memory.to_vec()))),
+        0x45 => work.call(number, &(*table, handle)),
+        _ => work.call(number, &(*table, handle, rest)),
+    }
+}
+
+/// A transfer with a fill, and a free slot with each byte of one, for each call that takes a table.
+pub fn every_free_fill(work: &mut Work) {
+    let mut drawn = good(&mut work.random, Scale::Small);
+    drawn.config.fill = telling_fill(&mut work.random);
+    let (job, length) = lay_out(&mut work.random, &drawn);
+    let memory = work.random.bytes(length as usize);
+    let sound = prepare(&fresh(length).table, &job, memory.len()).table;
+    for byte in 0..4 {
+        let mut table = sound;
+        table.slot[1 + work.random.index(3)].job.config.fill = 1 << (8 * byte);
+        for number in TABLE_CALLS {
+            call_one(work, number, &table, &job, 0, &memory);
         }
     }
 }

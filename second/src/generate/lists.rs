@@ -1,8 +1,8 @@
 //! Lists of moves: read, appended to, and spoiled in each way.
 
 use super::planes::{good, Scale};
-use super::records::{clear_tail, draw_fields, draw_record, set_tail_entry};
-use super::values::{any_u64, any_u8, WRONG_RANKS};
+use super::records::{clear_tail, draw_fields, record_of, set_tail_entry};
+use super::values::{any_fill, any_u64, any_u8, telling_fill, WRONG_RANKS};
 use super::Work;
 use crate::list::{append as append_record, at, head, record_count, start as start_list, HEAD};
 use crate::list_cases::{applies, pairs, Asked, APPEND_ORDER};
@@ -19,12 +19,17 @@ fn draw_records(random: &mut Random) -> Vec<Vec<u8>> {
     (0..count).map(|_| draw_one(random)).collect()
 }
 
+/// The 131 bytes of a record, which now and then are the first ones of a longer one.
 fn draw_one(random: &mut Random) -> Vec<u8> {
     let wanted = random.chance(60);
     let mut record = Vec::new();
     // So many draws find either.
     for _ in 0..100 {
-        record = draw_record(random);
+        let (tensor, mut config) = draw_fields(random);
+        if random.chance(80) {
+            config.fill = 0;
+        }
+        record = record_of(random, &tensor, &config);
         record.resize(LENGTH, 0);
         if (record::read(&record).status == 0) == wanted {
             break;
@@ -162,9 +167,10 @@ pub fn start(work: &mut Work) {
     work.call(0x37, &Memory(buffer));
 }
 
-/// Fields that a record can have.
+/// Fields that a record of version 1 can have.
 fn draw_good_fields(random: &mut Random) -> (Tensor, Config) {
     let mut drawn = good(random, Scale::Wide);
+    drawn.config.fill = 0;
     if random.chance(20) {
         // Nobody asks what the move would come to.
         drawn.tensor.element_size = any_u8(random);
@@ -183,10 +189,10 @@ fn draw_append(random: &mut Random) -> Asked {
     Asked { tensor, config, length, buffer }
 }
 
-/// An append with at most two faults. What it leaves is read back now and then.
+/// An append with at most two faults, and now and then with a fill besides. What it leaves is read back now and then.
 pub fn append(work: &mut Work) {
     let random = &mut work.random;
-    let asked = match random.below(10) {
+    let mut asked = match random.below(10) {
         0..=2 => draw_append(random),
         3..=5 => {
             let number = random.pick(&[25, 26, 27, 30, 38, 38, 1, 28, 28]);
@@ -199,6 +205,9 @@ pub fn append(work: &mut Work) {
             draw_pair(random, pair)
         }
     };
+    if random.chance(20) {
+        asked.config.fill = any_fill(random);
+    }
     call_append(work, &asked);
 }
 
@@ -339,7 +348,8 @@ pub fn every_record(work: &mut Work) {
         record
     };
     let past = pack(&Tensor { rank: 1, ..tensor }, &Config { pre: [0, 0, 1, 0], ..copy(1).config });
-    let bad = [with(record::at::MARK, 0), with(record::at::VERSION + 1, 1), with(record::at::RANK, 5), past];
+    let version_2 = with(record::at::VERSION, 2);
+    let bad = [with(record::at::MARK, 0), with(record::at::VERSION + 1, 1), with(record::at::RANK, 5), past, version_2];
     let records = [&[good.clone()], &bad[..], &[good]].concat();
     let list = Rest(list_of(&records));
     for k in 0..records.len() as u64 + 2 {
@@ -363,6 +373,22 @@ pub fn every_pair(work: &mut Work) {
         clear_tail(&mut asked.tensor, &mut asked.config);
         asked.config.step[d] = 1;
         call_append(work, &asked);
+    }
+}
+
+/// A fill by itself, with each number that comes before it, and with an element size that nobody asks for.
+pub fn every_fill(work: &mut Work) {
+    let faults = [25, 26, 30, 38, 1, 28];
+    for number in faults.map(Some).into_iter().chain([None]) {
+        for element_size in [1, 3] {
+            let mut asked = draw_append(&mut work.random);
+            asked.tensor.element_size = element_size;
+            asked.config.fill = telling_fill(&mut work.random);
+            if let Some(number) = number {
+                spoil_append(&mut work.random, &mut asked, number);
+            }
+            call_append(work, &asked);
+        }
     }
 }
 

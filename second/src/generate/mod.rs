@@ -1,6 +1,7 @@
 //! Draws the calls to compare: the same ones for the same seed.
 
 mod broken;
+mod faulty_records;
 mod frames;
 mod histories;
 mod jobs;
@@ -79,6 +80,8 @@ const KINDS: &[Kind] = &[
     (4, stretches::transfer),
     (22, records::read),
     (16, records::write),
+    (4, records::lengths),
+    (8, records::fields),
     (14, lists::read),
     (4, lists::start),
     (18, lists::append),
@@ -122,7 +125,8 @@ pub fn calls(count: usize, seed: u64) -> Vec<u8> {
     input
 }
 
-/// What is drawn once in a run: lines of wrong lengths, the longest lines, and lists spoiled in every way.
+/// What is drawn once in a run: lines of wrong lengths, the longest lines, records and lists spoiled in every way, and
+/// fills where none may be.
 fn once(work: &mut Work) {
     frames::wrong_lengths(work);
     frames::longest(work);
@@ -130,9 +134,15 @@ fn once(work: &mut Work) {
     moving::largest_offset(work);
     jobs::above_extent_limit(work);
     histories::beyond_steps(work);
+    faulty_records::every_fill(work);
+    faulty_records::every_length(work);
+    faulty_records::every_pair(work);
+    faulty_records::every_beginning(work);
+    broken::every_free_fill(work);
     lists::every_fault(work);
     lists::every_record(work);
     lists::every_pair(work);
+    lists::every_fill(work);
     lists::long(work);
 }
 

@@ -3,7 +3,7 @@
 use super::limits::{at_limit, extreme, vast};
 use super::planes::{any_config, good, Drawn, Scale};
 use super::spoil::{vary, Lent};
-use super::values::{any_rank, any_tensor, any_u32, any_u32s, any_u64, any_u8, any_u8s, around, WRONG_RANKS};
+use super::values::{any_fill, any_rank, any_tensor, any_u32, any_u32s, any_u64, any_u8, any_u8s, around, WRONG_RANKS};
 use super::Work;
 use crate::helpers::SubConfig;
 use crate::job::Part;
@@ -186,12 +186,12 @@ pub fn ready_made(work: &mut Work) {
 pub fn settings(work: &mut Work) {
     let random = &mut work.random;
     let config = any_config(random);
-    let number = random.between(0x18, 0x1f) as u8;
-    let (entries, bytes) = (any_u32s(random), any_u8s(random));
-    if number < 0x1d {
-        work.call(number, &(config, entries));
-    } else {
-        work.call(number, &(config, bytes));
+    let number = random.pick(&[0x0b, 0x0b, 0x18, 0x19, 0x1a, 0x1b, 0x1c, 0x1d, 0x1e, 0x1f]);
+    let (entries, bytes, fill) = (any_u32s(random), any_u8s(random), any_fill(random));
+    match number {
+        0x0b => work.call(number, &(config, fill)),
+        0x18..=0x1c => work.call(number, &(config, entries)),
+        _ => work.call(number, &(config, bytes)),
     }
 }
 

@@ -1,6 +1,6 @@
 //! Draws records and configurations that a move accepts, at four scales.
 
-use super::values::{any_u32s, any_u8s};
+use super::values::{any_fill, any_u32s, any_u8s};
 use crate::moves::{extents, kept_counts, room, Config};
 use crate::random::Random;
 use crate::ready_made::copy;
@@ -128,6 +128,7 @@ fn draw_config(random: &mut Random, tensor: &Tensor, scale: Scale) -> Config {
     if random.chance(25) {
         config = any_config(random);
     }
+    config.fill = any_fill(random);
     let rank = tensor.rank as usize;
     for d in 0..rank {
         draw_cut(random, tensor.shape[d], d, &mut config);
@@ -152,6 +153,7 @@ pub fn any_config(random: &mut Random) -> Config {
         perm: any_u8s(random),
         pre: any_u8s(random),
         post: any_u8s(random),
+        fill: any_fill(random),
     }
 }
 

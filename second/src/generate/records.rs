@@ -6,7 +6,7 @@ use super::values::{any_tensor, any_u32, any_u8};
 use super::Work;
 use crate::moves::Config;
 use crate::random::Random;
-use crate::record::{at, pack, LENGTH};
+use crate::record::{at, length_for, pack_as, version_for, LENGTH, LENGTH_WITH_FILL, VERSION, VERSION_WITH_FILL};
 use crate::tensor::Tensor;
 use crate::wire::{Memory, Rest};
 
@@ -30,6 +30,12 @@ pub fn clear_tail(tensor: &mut Tensor, config: &mut Config) {
     }
 }
 
+/// Sets the unused bytes of the fill to 0, as a record wants it.
+pub fn clear_unused(tensor: &Tensor, config: &mut Config) {
+    let unused = 4 - tensor.element_size.clamp(1, 4) as u32;
+    config.fill &= u32::MAX >> (8 * unused);
+}
+
 /// Any fields, not only those of moves that are accepted.
 pub fn draw_fields(random: &mut Random) -> (Tensor, Config) {
     let (mut tensor, mut config) = if random.chance(60) {
@@ -44,6 +50,12 @@ pub fn draw_fields(random: &mut Random) -> (Tensor, Config) {
     }
     if random.chance(30) {
         set_tail_entry(random, &mut tensor, &mut config);
+    }
+    if random.chance(30) {
+        config.fill = 0;
+    }
+    if random.chance(80) {
+        clear_unused(&tensor, &mut config);
     }
     (tensor, config)
 }
@@ -70,33 +82,46 @@ pub fn set_tail_entry(random: &mut Random, tensor: &mut Tensor, config: &mut Con
 /// The bytes of a record, damaged or not.
 pub fn draw_record(random: &mut Random) -> Vec<u8> {
     let (tensor, config) = draw_fields(random);
-    let mut bytes = pack(&tensor, &config);
+    record_of(random, &tensor, &config)
+}
+
+/// The bytes of a record with these fields, damaged or not; now and then of the version that its fill does not want.
+pub fn record_of(random: &mut Random, tensor: &Tensor, config: &Config) -> Vec<u8> {
+    let version = if random.chance(90) { version_for(config) } else { random.pick(&[VERSION, VERSION_WITH_FILL]) };
+    let mut bytes = pack_as(version, tensor, config);
     damage(random, &mut bytes);
     bytes
 }
 
+/// Lengths of no record, and those of both versions, one of which is wrong.
+const WRONG_LENGTHS: [usize; 14] = [0, 1, 3, 5, 130, 131, 131, 132, 133, 134, 135, 135, 136, 262];
+
 /// Leaves half of the records as they are.
-pub fn damage(random: &mut Random, bytes: &mut Vec<u8>) {
+fn damage(random: &mut Random, bytes: &mut Vec<u8>) {
     for _ in 0..random.pick(&[0, 0, 0, 1, 2, 2]) {
         match random.below(10) {
             0..=1 => set(bytes, random.index(3), any_u8(random)),
             2..=3 => set_version(random, bytes),
             4..=5 => set(bytes, at::RANK, any_u8(random)),
             6 => set(bytes, at::ELEMENT_SIZE, any_u8(random)),
-            7 => bytes.resize(random.pick(&[0, 1, 3, 5, 130, 130, 132, 132, 262]), 0),
-            _ => set(bytes, random.index(LENGTH), any_u8(random)),
+            7 => bytes.resize(random.pick(&WRONG_LENGTHS), 0),
+            _ => {
+                let place = random.index(bytes.len());
+                set(bytes, place, any_u8(random));
+            }
         }
     }
 }
 
-fn set(bytes: &mut [u8], place: usize, value: u8) {
+/// Sets a byte, if it is there.
+pub fn set(bytes: &mut [u8], place: usize, value: u8) {
     if place < bytes.len() {
         bytes[place] = value;
     }
 }
 
 fn set_version(random: &mut Random, bytes: &mut [u8]) {
-    let [low, high] = random.pick(&[0u16, 2, 256, 257, 255, 65_535]).to_le_bytes();
+    let [low, high] = random.pick(&[0u16, 1, 1, 2, 2, 3, 256, 257, 258, 512, 255, 65_535]).to_le_bytes();
     set(bytes, at::VERSION, low);
     set(bytes, at::VERSION + 1, high);
 }
@@ -106,15 +131,37 @@ pub fn read(work: &mut Work) {
     work.call(0x30, &Rest(bytes));
 }
 
-/// Writes into a room of 131 bytes or of another length, and reads the outcome back.
+/// Writes into a room of 131 or 135 bytes or of another length, and reads the outcome back.
 pub fn write(work: &mut Work) {
     let random = &mut work.random;
     let (tensor, config) = draw_fields(random);
-    let length = if random.chance(80) { LENGTH } else { random.pick(&[0, 1, 130, 132, 262]) };
+    let length = if random.chance(80) { length_for(&config) } else { random.pick(&WRONG_LENGTHS) };
     let mut room = random.bytes(length);
     work.call(0x31, &(tensor, config, Memory(room.clone())));
     crate::record::write(&tensor, &config, &mut room);
     if work.random.chance(30) {
         work.call(0x30, &Rest(room));
     }
+}
+
+/// How long a record is, by its first bytes and by its configuration.
+pub fn lengths(work: &mut Work) {
+    let random = &mut work.random;
+    let mut bytes = draw_record(random);
+    if random.chance(40) {
+        bytes.truncate(random.pick(&[0, 3, 4, 4, 5, 5, 6, LENGTH, LENGTH_WITH_FILL]));
+    } else if random.chance(30) {
+        bytes.extend([7; 9]);
+    }
+    let config = any_config(random);
+    work.call(0x39, &Rest(bytes));
+    work.call(0x3a, &config);
+}
+
+/// Fields by themselves, for a version that there is or for another one.
+pub fn fields(work: &mut Work) {
+    let random = &mut work.random;
+    let (tensor, config) = draw_fields(random);
+    let version = random.pick(&[1, 1, 1, 2, 2, 2, 2, 2, 0, 3, 257, 258, 512, 65_535u16]);
+    work.call(0x3b, &(version, tensor, config));
 }

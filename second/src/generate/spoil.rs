@@ -200,7 +200,7 @@ fn set_any_field(random: &mut Random, drawn: &mut Drawn, lent: Lent) {
     let value = any_u32(random);
     let byte = any_u8(random);
     let config = &mut drawn.config;
-    match random.below(14) {
+    match random.below(15) {
         0 => drawn.tensor.rank = byte,
         1 => drawn.tensor.element_size = byte,
         2 => drawn.tensor.shape[d] = value,
@@ -213,8 +213,9 @@ fn set_any_field(random: &mut Random, drawn: &mut Drawn, lent: Lent) {
         9 => config.perm[d] = byte,
         10 => config.pre[d] = byte,
         11 => config.post[d] = byte,
+        12 => config.fill = value,
         _ if lent == Lent::Bytes => drawn.source = drawn.source.saturating_add(byte as u64),
-        12 => drawn.source = any_u64(random),
+        13 => drawn.source = any_u64(random),
         _ => drawn.destination = any_u64(random),
     }
 }

@@ -75,6 +75,28 @@ pub fn any_u8s(random: &mut Random) -> [u8; 4] {
     [0; 4].map(|_| any_u8(random))
 }
 
+/// A fill: none, one byte of it, the low ones, or four that differ.
+pub fn any_fill(random: &mut Random) -> u32 {
+    match random.below(10) {
+        0..=2 => 0,
+        3 => (random.between(1, 255) << (8 * random.below(4))) as u32,
+        4 => random.between(1, 255) as u32,
+        5 => random.between(256, 65_535) as u32,
+        6 => any_u32(random),
+        _ => telling_fill(random),
+    }
+}
+
+/// Four bytes that differ, rising or falling.
+pub fn telling_fill(random: &mut Random) -> u32 {
+    let lowest = random.any() as u8;
+    let mut bytes = [0, 1, 2, 3].map(|place: u8| lowest.wrapping_add(37 * place));
+    if random.chance(50) {
+        bytes.reverse();
+    }
+    u32::from_le_bytes(bytes)
+}
+
 pub fn any_tensor(random: &mut Random) -> Tensor {
     Tensor {
         rank: any_rank(random),

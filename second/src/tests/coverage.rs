@@ -22,7 +22,7 @@ fn drawn(count: usize, seed: u64) -> Coverage {
         coverage.call(&calls, line, &answer);
     }
     for input in generate::show_inputs(runs, seed) {
-        coverage.show(&show(&input));
+        coverage.show(&input, &show(&input));
     }
     for input in generate::list_inputs(runs, seed) {
         coverage.list(&input, &show_list(&input));
@@ -51,6 +51,7 @@ fn what_was_not_met_is_named() {
         "05 element_count: the most",
         "20 move_plane: 12 past the row at 3",
         "20 move_plane: 4-byte row thinned",
+        "20 move_plane: 2-byte padding",
         "22 advance: past the end of a slab",
         "24 sub_part: 15",
         "41 prepare: 22",
@@ -60,19 +61,26 @@ fn what_was_not_met_is_named() {
         "45 poll: running",
         "no call: ff02",
         "rmvshow: 13",
+        "rmvshow: version 2 cut after 133 bytes",
+        "30 record::read: 27 of 135 bytes, version 1",
+        "31 record::write: 25 of 131 bytes, version 2",
         "33 record_count: 30",
         "34 record_at: 39 where k x 131 wraps",
         "35 place_after: 39",
         "36 first_two: 2 records",
         "38 append: 38 and 1",
+        "38 append: 28 and 27 by a fill",
+        "39 length_in: version 2 behind another mark",
+        "45 poll: 18 by the fill of a free slot",
         "rmvlist: room 12",
         "rmvlist: 1000 records",
+        "rmvlist: record of version 2",
     ] {
         assert!(missing.contains(&case.to_string()), "{case}");
     }
     coverage.call(&calls, b"00", &[0, 1, 0]);
     coverage.call(&calls, b"41", &[0xff, 4]);
-    coverage.show("status 13 dim 0\n");
+    coverage.show(&[], "status 13 dim 0\n");
     coverage.list(&[], "status 25\n");
     let met = ["00 version: made", "41 prepare: ff04", "rmvshow: 13", "rmvlist: list 25"];
     let left: Vec<String> = missing.into_iter().filter(|case| !met.contains(&case.as_str())).collect();
@@ -91,16 +99,18 @@ fn a_number_that_a_call_can_not_give_is_named() {
     coverage.call(&calls, b"05", &[0x05, 2]);
     coverage.call(&calls, b"30", &[0xff, 4]);
     coverage.call(&calls, b"350000000000000000", &[0x35, 0, 0, 0, 0, 0, 0, 0, 0]);
-    // A record of a list always has its 131 bytes.
+    // A record of a list always has its 131 bytes, and so is never one in which the element size is looked at.
     coverage.call(&calls, b"340000000000000000", &[0x34, 0, 0, 0, 0, 0, 0, 0, 0, 25]);
-    coverage.show("status 10 dim 0\n");
-    coverage.show("status 10 dim 0\n");
+    coverage.call(&calls, b"340000000000000000", &[0x34, 0, 0, 0, 0, 0, 0, 0, 0, 2]);
+    coverage.show(&[], "status 10 dim 0\n");
+    coverage.show(&[], "status 10 dim 0\n");
     coverage.list(&[], "status 0 records 1\nrecord 0 status 25 dim 0\n");
     let unlisted = [
         "02 room: 5",
         "04 element_size: 3",
         "05 element_count: 2",
         "30 record::read: ff04",
+        "34 record_at: 2",
         "34 record_at: 25",
         "rmvlist: record 25",
         "rmvshow: 10",

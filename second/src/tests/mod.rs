@@ -4,6 +4,8 @@ mod counts;
 mod coverage;
 mod errors;
 mod examples;
+mod fill_cases;
+mod fills;
 mod framing;
 mod lists;
 mod offsets;
@@ -11,6 +13,7 @@ mod readings;
 mod records;
 mod stretches;
 mod transfers;
+mod versions;
 
 use crate::moves::{move_plane, Answer, Config};
 use crate::ready_made::copy;

@@ -43,10 +43,14 @@ fn ready_made_configurations_take_a_rank() {
     let given = Config { step: four_32, post: [1, 2, 3, 4], ..Config::default() };
     let made = all(3, &given).config;
     assert_eq!((made.step, made.post, made.perm), ([5, 6, 7, 0], [1, 2, 3, 0], [0; 4]));
+    // "the ready-made ones have 0", whatever the configuration has that is handed in.
+    let filled = Config { fill: 5, ..given };
+    assert_eq!(all(3, &filled).config, made);
+    assert_eq!((copy(4).config.fill, pad_chw([1; 4], four_32).fill, pad_hwc([1; 4], four_32).fill), (0, 0, 0));
 }
 
 #[test]
-fn each_of_eight_settings_sets_one_field() {
+fn each_of_nine_settings_sets_one_field() {
     let (wide, bytes) = ([9, 8, 7, 6], [5, 4, 3, 2]);
     let mut expected = Config::default();
     let mut config = Config::default().with_offset(wide).with_size(wide).with_step(wide);
@@ -55,9 +59,13 @@ fn each_of_eight_settings_sets_one_field() {
     config = config.with_dst_offset(wide).with_dst_stride(wide);
     (expected.dst_offset, expected.dst_stride) = (wide, wide);
     assert_eq!(config, expected);
+    config = config.with_fill(0x0403_0201);
+    expected.fill = 0x0403_0201;
+    assert_eq!(config, expected);
     config = config.with_perm(bytes).with_pre(bytes).with_post(bytes);
     (expected.perm, expected.pre, expected.post) = (bytes, bytes, bytes);
     assert_eq!(config, expected);
+    assert_eq!(config.with_fill(0), Config { fill: 0, ..expected });
 }
 
 #[test]

@@ -41,7 +41,7 @@ fn a_record_reads_and_writes_the_same_bytes() {
     let mut room = [9; 131];
     assert_eq!(write(&tensor, &config, &mut room), Fault::default());
     assert_eq!(room.to_vec(), record_a());
-    for length in [0, 130, 132] {
+    for length in [0, 130, 132, 135] {
         let mut other = vec![9; length];
         assert_eq!(write(&tensor, &config, &mut other).status, 25);
         assert_eq!(other, vec![9; length]);
@@ -106,7 +106,7 @@ fn damaged_records_are_refused_in_order() {
     assert_eq!(with(&[(7 + 12, 1), (127 + 2, 1)]), (28, 2));
     assert_eq!(with(&[(7 + 12, 1)]), (28, 3));
     assert_eq!(with(&[(5, 1)]), (28, 1));
-    // The element size is not looked at.
+    // The element size is not looked at in version 1.
     assert_eq!(with(&[(6, 77)]), (0, 0));
 }
 
