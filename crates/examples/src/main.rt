@@ -178,7 +178,7 @@ fn sub() {
     run(b"K", tensor, copy_of(1), part, &mut [0u8; 2]);
 }
 
-// What the paper only runs: the count of (2,4,8) from 1; sizes 65,280 and 65,281 with 255 zeros before. And the largest count.
+// What the paper only runs: the count of (2,4,8) from 1; sizes 65,280 and 65,281 with 255 of padding before. And the largest count.
 fn run_only() {
     let n = plane::element_count(compact(3, 1, [2, 4, 8, 0]), 1);
     let most = plane::element_count(compact(4, 1, [65535; 4]), 0);

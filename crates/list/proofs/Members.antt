@@ -2,7 +2,7 @@
 use Prim.Native.Nat.{ℕ}
 use native.Mathlib.Omega.{arith}
 use mathlib.Core.Path.{_≡_, refl, sym, ap, _∙_}
-use mathlib.Core.Bool.{Bool, true, false, cond, not}
+use mathlib.Core.Bool.{Bool, true, false, not}
 use borrow.Author.Tests.{eqb-true, eq-eqb, ne-eqb, not-false}
 use lib.Dec.{eqb}
 use lib.ListN.{length}
@@ -11,9 +11,10 @@ use Rattle.faults.specs.Faults.{fault}
 use Rattle.faults.proofs.Faults.{status, or-clear, or-zero, when-bad, when-clear, when-zero, passed, stopped}
 use Rattle.plane.specs.declared.Tensor.{Tensor}
 use Rattle.plane.specs.declared.Config.{Config}
-use Rattle.record.specs.Layout.{recordLength, lengthOf, versionOf}
+use Rattle.record.specs.Layout.{recordLength, lengthOf, versionFor}
 use Rattle.record.specs.Records.{recordBytes, badRoom, fieldsFault, writeFault}
 use Rattle.record.proofs.Laying.{length-record}
+use Rattle.record.proofs.Lengths.{version-plain, version-filled}
 use Rattle.list.specs.Writers.{memberFault}
 
 module _ (t : Tensor) (c : Config) where
@@ -40,15 +41,15 @@ module _ (t : Tensor) (c : Config) where
     unfolding memberFault
     no-fill = eqb-true (c .fill) 0 (not-false _ (when-clear 27 0 _ (omega arith) (or-clear _ _ z .1)))
 
-    pub version-one : versionOf c ≡ 1
-    version-one = ap (λ (n : ℕ). cond (eqb n 0) 1 2) no-fill
+    pub version-one : versionFor c ≡ 1
+    version-one = version-plain c no-fill
 
     -- its record has 131 bytes
     pub member-length : length (recordBytes t c) ≡ recordLength
     member-length = length-record t c ∙ ap lengthOf version-one
 
     -- a write accepts it
-    pub member-written : fieldsFault (versionOf c) t c .status ≡ 0
+    pub member-written : fieldsFault (versionFor c) t c .status ≡ 0
     unfolding memberFault
     member-written = status (ap (λ (v : ℕ). fieldsFault v t c) version-one) ∙ or-clear _ _ z .0
 
@@ -57,14 +58,14 @@ module _ (t : Tensor) (c : Config) where
   unfolding writeFault memberFault
   written-member n l z = by-test (eqb (c .fill) 0) refl
     where
-      long : n ≡ lengthOf (versionOf c)
+      long : n ≡ lengthOf (versionFor c)
       long = eqb-true _ _ (not-false _ (when-clear 25 0 (badRoom c n) (omega arith) (or-clear _ _ z .0)))
 
       by-test : (b : Bool) → eqb (c .fill) 0 ≡ b → memberFault t c .status ≡ 0
       by-test true e =
-          let v : versionOf c ≡ 1 = ap (λ (b : Bool). cond b 1 2) e in
+          let v = version-plain c (eqb-true (c .fill) 0 e) in
           or-zero _ _ (sym (status (ap (λ (v : ℕ). fieldsFault v t c) v)) ∙ or-clear _ _ z .1) (when-zero 27 0 _ (ap not e))
       by-test false e =
-          let d : lengthOf (versionOf c) ≡ lengthOf 2 = ap (λ (b : Bool). lengthOf (cond b 1 2)) e in
+          let d = ap lengthOf (version-filled c e) in
           let q = long in
           absurd (omega arith)

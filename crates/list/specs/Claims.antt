@@ -67,6 +67,11 @@ RecordsNumbered = (bs : List ℕ) (k : ℕ) → k < recordCount bs → (recordAt
 abbrev pub RecordsEnd : Type 0
 RecordsEnd = (bs : List ℕ) (k : ℕ) → recordCount bs ≤ k → (recordAt bs k ≡ noRecord) × (placeAfter bs k ≡ k)
 
+-- a list holds only records of version 1: none that is handed out has a fill, and none that has one is appended
+pub record NoFill : Type 0 where
+  pub handed : (bs : List ℕ) (k : ℕ) → recordAt bs k .reading .config .fill ≡ 0
+  pub appended : (buffer : List ℕ) (n : ℕ) (t : Tensor) (c : Config) → appendOf buffer n t c .status ≡ 0 → c .fill ≡ 0
+
 -- from open on: after n calls, whatever they answered, the next one answers record n
 abbrev pub HandedOut : Type 0
 HandedOut = (bytes : RefT (List ℕ)) (n : ℕ) → answer (afterCalls n (opened bytes .reader)) ≡ recordAt (now bytes) n

@@ -14,8 +14,5 @@ pub(crate) const COUNT_AT: usize = VERSION_AT + 2;
 // The bytes before the first record: 7.
 pub const HEAD: usize = COUNT_AT + 2;
 
-// The version of the records: without a fill.
-pub(crate) const RECORDS: u16 = 1;
-
 // The most records that a count can tell: 65,535.
 pub(crate) const MOST: usize = 65535;

@@ -70,13 +70,14 @@ pub fn append(buffer: &mut [u8], length: usize, tensor: Tensor, config: Config) 
     if buffer.len() - length < record::LENGTH {
         return refused(38, 0);
     }
-    let f = record::fields_fault(layout::RECORDS, tensor, config);
+    let f = record::fields_fault(record::VERSION_1, tensor, config);
     if f.status != 0 {
         return refused(f.status, f.dim);
     }
     if config.fill != 0 {
         return refused(27, 0);
     }
+    // it takes what was just judged: no fault is left
     let end = length + record::LENGTH;
     record::write(tensor, config, &mut buffer[length..end]);
     put_count(buffer, count + 1);

@@ -204,8 +204,8 @@ turnRecord =
     (1 ∷ 0 ∷ 0 ∷ 0 ∷ 1 ∷ []) ++ replicate 43 0 ++ (1 ∷ []) ++ replicate 11 0
 
 -- the same with 2 for its version
-abbrev pub filledRecord : List ℕ
-filledRecord = set turnRecord 3 2
+abbrev pub versionTwo : List ℕ
+versionTwo = set turnRecord 3 2
 
 -- A's record as it is handed out under number k
 abbrev pub turnNumbered : ℕ → Numbered
@@ -381,7 +381,8 @@ table =
     -- (2,1) 1 2 with a 7 after each row, by strides (3,1): the gap between the rows stays
     besides shows move (compact 2 1 (two 2 1)) (withDstStride (withFill (withPost defaults (two 0 1)) 7) (two 3 1)) (1 ∷ 2 ∷ []) (over 5)
     (acceptedMove 2 1 (2 ∷ 2 ∷ 0 ∷ 0 ∷ []) (3 ∷ 1 ∷ 0 ∷ 0 ∷ []) 5) (1 ∷ 7 ∷ 99 ∷ 2 ∷ 7 ∷ []) ∷
-    -- the same as a transfer, a step an element; released, the slot is all zero again, so that the table is sound and takes the next
+    -- one byte with a 7 before and after, as a transfer, a step an element; released, the slot is all zero again, so that the table is
+    -- sound and takes the next
     besides shows transfers (5 ∷ over 3)
     (prepare filledTransfer answers (0 ∷ 0 ∷ 0 ∷ []) ∷
     start 0 answers (0 ∷ []) ∷
@@ -399,7 +400,7 @@ table =
     besides shows list (headOf 3 ++ turnRecord ++ replicate 131 0 ++ turnRecord) 0 3
     (turnNumbered 0 ∷ record { number = 1; reading = noReading (fault 26 0) } ∷ turnNumbered 2 ∷ noRecord ∷ noRecord ∷ []) ∷
     -- a record whose version says 2: it has 131 bytes, which are not that version's length, so it is 27
-    besides shows list (headOf 1 ++ filledRecord) 0 1 (record { number = 0; reading = noReading (fault 27 0) } ∷ []) ∷
+    besides shows list (headOf 1 ++ versionTwo) 0 1 (record { number = 0; reading = noReading (fault 27 0) } ∷ []) ∷
     -- a count that the bytes do not have, one more and one less: 30, and no records
     besides shows list (headOf 2 ++ turnRecord) 30 0 (noRecord ∷ []) ∷
     besides shows list (headOf 0 ++ turnRecord) 30 0 (noRecord ∷ []) ∷

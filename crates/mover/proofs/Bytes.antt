@@ -12,7 +12,7 @@ use lib.Seq.{sets, getD-set-other, ext-getD, length-take-le, getD-take, take-suc
 use Rattle.mover.specs.declared.elements.Origin.{Origin}
 use Rattle.mover.specs.declared.elements.Origin.the-variants.{Lent, Inside}
 use Rattle.mover.specs.Private.Elements.{sourceBytes, padding}
-use Rattle.mover.specs.Private.Runs.{Sized}
+use Rattle.plane.specs.Planes.{Sized}
 
 -- what is stored elsewhere leaves a byte as it was
 pub getD-sets-out : (vs l : List ℕ) (i k : ℕ) → (k < i) ⊎ (i + length vs ≤ k) → getD (sets l i vs) k 0 ≡ getD l k 0

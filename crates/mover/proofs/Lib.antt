@@ -1,5 +1,5 @@
 -- Theorems to read first: Demand2 (what an accepted move leaves), Decided (no two outcomes), Exact (refusals), Unseen (entries past
--- the rank are not looked at), Reaching (how far it reaches), Meeting (parts that share a byte, or leave the memory), Work (how much
+-- the rank are not looked at, nor unused bytes of a fill), Reaching (how far it reaches), Meeting (parts that share a byte, or leave the memory), Work (how much
 -- is moved), Laws (what the layer above may use).
 pub mod Demand2
 pub mod Work

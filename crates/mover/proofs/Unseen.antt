@@ -2,7 +2,6 @@
 -- agree in the rest, moves leave the same memory and answer the same. Assumes nothing.
 use Prim.Native.Nat.{ℕ, zero, suc, _+_, _-_, _*_, _/_, _%_, _<_, min}
 use native.Mathlib.Decide.{ℕ-discrete}
-use native.Mathlib.Omega.{arith}
 use mathlib.Core.Path.{_≡_, refl, sym, ap, ap₂, _∙_}
 use mathlib.Core.Bool.{cond, _||_, _&&_}
 use mathlib.Core.List.{List}
@@ -22,10 +21,11 @@ use Rattle.plane.proofs.Arrays.{sum-same, every-same}
 use Rattle.faults.proofs.Faults.{status, or-path, if-fault, if-none}
 use Rattle.plane.specs.Good.{GoodConfig}
 use Rattle.plane.proofs.Good.{move-good}
-use Rattle.plane.specs.Unseen.{SameTensor, SameConfig, UnseenConfig, UnseenSub}
+use Rattle.plane.specs.Unseen.{SameTensor, SameArrays, UnseenSub}
+use Rattle.plane.proofs.Configs.{same-offset, same-step, same-dst-offset, same-perm, same-pre}
 use Rattle.plane.proofs.Unseen.{fault-unseen, strides-unseen, kept-unseen, extents-unseen, dst-strides-unseen, sub-unseen}
 use Rattle.mover.specs.declared.Job.{Job}
-use Rattle.mover.specs.Claims.{SameJob, UnseenJob, MovesUnseen}
+use Rattle.mover.specs.Claims.{SameFill, SameAsked, SameJob, MovesUnseen}
 use Rattle.mover.specs.Element.{dimOf, kOf, isKept, areKept, sourcePlace, place, padded, element}
 use Rattle.mover.specs.Moved.{total, perStep, coordOf, stored, moved, moveMemory}
 use Rattle.mover.specs.Within.{leaves, meets, jobFault, totalOf, verdictOf, bytesOf, advancedBy, further, advanceOf, advanceMemory}
@@ -42,12 +42,12 @@ same-ifFault f f′ y x x′ e h = elim (ℕ-discrete (f .status) 0) [
 
 -- ---- the move
 
-module _ (t t′ : Tensor) (c c′ : Config) (a : SameTensor t t′) (b : SameConfig (t .rank) (t .«element_size») c c′) where
+module _ (t t′ : Tensor) (c c′ : Config) (a : SameTensor t t′) (b : SameArrays (t .rank) c c′) where
   -- a configuration whose permutation is refused names dimensions past the rank; such a move is refused
   module _ (g : GoodConfig t c) where
     -- what is read at the source dimension of destination dimension i
     at-dim : (f f′ : ℕ → ℕ) → ((d : ℕ) → d < t .rank → f d ≡ f′ d) → (i : ℕ) → i < t .rank → f (dimOf c i) ≡ f′ (dimOf c′ i)
-    at-dim f f′ e i h = e (dimOf c i) (g .perm i h) ∙ ap f′ (b .arrays 5 (omega arith) i h)
+    at-dim f f′ e i h = e (dimOf c i) (g .perm i h) ∙ ap f′ (same-perm b i h)
 
     same-kept : (x : ℕ → ℕ) → areKept t c x ≡ areKept t′ c′ x
     unfolding areKept isKept
@@ -55,7 +55,7 @@ module _ (t t′ : Tensor) (c c′ : Config) (a : SameTensor t t′) (b : SameCo
         every-same (t .rank) _ _
         (λ i h.
         ap₂ (λ (p n : ℕ). leb p (x i) && ltb (x i - p) n)
-        (at-dim (at (c .pre)) (at (c′ .pre)) (b .arrays 6 (omega arith)) i h)
+        (at-dim (at (c .pre)) (at (c′ .pre)) (same-pre b) i h)
         (at-dim (count t c) (count t′ c′) (kept-unseen t t′ a c c′ b) i h)) ∙
         ap (λ (n : ℕ). every n (λ i. isKept t′ c′ i (x i))) (a .rank)
 
@@ -64,27 +64,18 @@ module _ (t t′ : Tensor) (c c′ : Config) (a : SameTensor t t′) (b : SameCo
     same-source x =
         sum-same (t .rank) _ _
         (λ i h.
-        let o = at-dim (at (c .offset)) (at (c′ .offset)) (b .arrays 0 (omega arith)) i h in
-        let p = at-dim (at (c .pre)) (at (c′ .pre)) (b .arrays 6 (omega arith)) i h in
-        let s = at-dim (at (c .step)) (at (c′ .step)) (b .arrays 2 (omega arith)) i h in
+        let o = at-dim (at (c .offset)) (at (c′ .offset)) (same-offset b) i h in
+        let p = at-dim (at (c .pre)) (at (c′ .pre)) (same-pre b) i h in
+        let s = at-dim (at (c .step)) (at (c′ .step)) (same-step b) i h in
         let w = at-dim (at (srcStrides t)) (at (srcStrides t′)) (λ d l. ap (λ (y : List ℕ). at y d) (strides-unseen t t′ a)) i h in
         λ k. (o k + (x i - p k) * s k) * w k) ∙
         ap (λ (n : ℕ). sum n (λ i. (at (c′ .offset) (dimOf c′ i) + kOf c′ i (x i) * at (c′ .step) (dimOf c′ i)) * at (srcStrides t′) (dimOf c′ i))) (a .rank)
-
-    same-padded : padded t c ≡ padded t′ c′
-    unfolding padded
-    same-padded = b .fill ∙ ap (λ (z : ℕ). little z (c′ .fill)) (a .element)
-
-    same-element : (src : List ℕ) (x : ℕ → ℕ) → element t c src x ≡ element t′ c′ src x
-    unfolding element
-    same-element src x =
-        λ i. cond (same-kept x i) (take (a .element i) (drop (same-source x i * a .element i) src)) (same-padded i)
 
     -- it goes to the same place
     same-place : (x : ℕ → ℕ) → place t c x ≡ place t′ c′ x
     unfolding place
     same-place x =
-        sum-same (t .rank) _ _ (λ i h. ap (λ (y : ℕ). (y + x i) * at (dstStrides t c) i) (b .arrays 3 (omega arith) i h)) ∙
+        sum-same (t .rank) _ _ (λ i h. ap (λ (y : ℕ). (y + x i) * at (dstStrides t c) i) (same-dst-offset b i h)) ∙
         ap₂ (λ (n : ℕ) (w : List ℕ). sum n (λ i. (at (c′ .«dst_offset») i + x i) * at w i)) (a .rank) (dst-strides-unseen t t′ a c c′ b g)
 
     -- in the same order
@@ -97,29 +88,40 @@ module _ (t t′ : Tensor) (c c′ : Config) (a : SameTensor t t′) (b : SameCo
     unfolding total
     total-unseen = ap₂ (λ (n : ℕ) (e : List ℕ). product n (at e)) (a .rank) (extents-unseen t t′ a c c′ b g)
 
-    same-stored : (src : List ℕ) (q : ℕ) (dst : List ℕ) → stored t c src q dst ≡ stored t′ c′ src q dst
-    unfolding stored
-    same-stored src q dst = rw (same-coord q, same-place (coordOf t′ c′ q), same-element src (coordOf t′ c′ q), a .element)
+    -- where the fills put the same into a padded element
+    module _ (f : SameFill (t .«element_size») c c′) where
+      same-padded : padded t c ≡ padded t′ c′
+      unfolding padded
+      same-padded = f ∙ ap (λ (z : ℕ). little z (c′ .fill)) (a .element)
 
-    -- any stretch of elements
-    pub moved-unseen : (src : List ℕ) (from n : ℕ) (dst : List ℕ) → moved t c src from n dst ≡ moved t′ c′ src from n dst
-    unfolding moved
-    moved-unseen src from zero dst = refl
-    moved-unseen src from (suc n) dst =
-        same-stored src (from + n) (moved t c src from n dst) ∙ ap (stored t′ c′ src (from + n)) (moved-unseen src from n dst)
+      same-element : (src : List ℕ) (x : ℕ → ℕ) → element t c src x ≡ element t′ c′ src x
+      unfolding element
+      same-element src x =
+          λ i. cond (same-kept x i) (take (a .element i) (drop (same-source x i * a .element i) src)) (same-padded i)
+
+      same-stored : (src : List ℕ) (q : ℕ) (dst : List ℕ) → stored t c src q dst ≡ stored t′ c′ src q dst
+      unfolding stored
+      same-stored src q dst = rw (same-coord q, same-place (coordOf t′ c′ q), same-element src (coordOf t′ c′ q), a .element)
+
+      -- any stretch of elements
+      pub moved-unseen : (src : List ℕ) (from n : ℕ) (dst : List ℕ) → moved t c src from n dst ≡ moved t′ c′ src from n dst
+      unfolding moved
+      moved-unseen src from zero dst = refl
+      moved-unseen src from (suc n) dst =
+          same-stored src (from + n) (moved t c src from n dst) ∙ ap (stored t′ c′ src (from + n)) (moved-unseen src from n dst)
 
 -- a whole move
-pub move-unseen : (src dst : List ℕ) → UnseenConfig (λ t c. moveMemory t c src dst)
+move-unseen : (src dst : List ℕ) (t t′ : Tensor) → SameTensor t t′ → (c c′ : Config) → SameArrays (t .rank) c c′ → SameFill (t .«element_size») c c′ → moveMemory t c src dst ≡ moveMemory t′ c′ src dst
 unfolding moveMemory
-move-unseen src dst t t′ a c c′ b =
+move-unseen src dst t t′ a c c′ b f =
     same-ifFault (moveFault t c (length src) (length dst)) _ dst _ _ (fault-unseen t t′ a c c′ b (length src) (length dst))
     (λ z.
     let g = move-good t c (length src) (length dst) z .config in
-    moved-unseen t t′ c c′ a b g src 0 (total t c) dst ∙ ap (λ (n : ℕ). moved t′ c′ src 0 n dst) (total-unseen t t′ c c′ a b g))
+    moved-unseen t t′ c c′ a b g f src 0 (total t c) dst ∙ ap (λ (n : ℕ). moved t′ c′ src 0 n dst) (total-unseen t t′ c c′ a b g))
 
 -- ---- a move between two parts of one memory: jobs with the same parts
 
-module _ (j j′ : Job) (s : SameJob j j′) where
+module _ (j j′ : Job) (s : SameAsked j j′) where
   pub job-fault-unseen : (n : ℕ) → jobFault n j ≡ jobFault n j′
   unfolding jobFault
   job-fault-unseen n =
@@ -127,28 +129,28 @@ module _ (j j′ : Job) (s : SameJob j j′) where
       let f = s .destination in
       or-path (λ i. when 20 0 (leaves n (e i) || leaves n (f i)))
       (or-path
-      (fault-unseen (j .tensor) (j′ .tensor) (s .tensor) (j .config) (j′ .config) (s .config) (j .source .length) (j .destination .length) ∙
+      (fault-unseen (j .tensor) (j′ .tensor) (s .tensor) (j .config) (j′ .config) (s .arrays) (j .source .length) (j .destination .length) ∙
       (λ i. moveFault (j′ .tensor) (j′ .config) (e i .length) (f i .length)))
       (λ i. when 21 0 (meets (e i) (f i))))
 
   module _ (n : ℕ) (z : jobFault n j .status ≡ 0) where
     same-total : totalOf j ≡ totalOf j′
-    same-total = total-unseen (j .tensor) (j′ .tensor) (j .config) (j′ .config) (s .tensor) (s .config) (job-good n j z .config)
+    same-total = total-unseen (j .tensor) (j′ .tensor) (j .config) (j′ .config) (s .tensor) (s .arrays) (job-good n j z .config)
 
-    same-advanced : (from k : ℕ) (m : List ℕ) → advancedBy j from k m ≡ advancedBy j′ from k m
+    same-advanced : SameFill (j .tensor .«element_size») (j .config) (j′ .config) → (from k : ℕ) (m : List ℕ) → advancedBy j from k m ≡ advancedBy j′ from k m
     unfolding advancedBy
-    same-advanced from k m =
+    same-advanced fill from k m =
         let e = s .source in
         let f = s .destination in
         ap (sets m (j .destination .start))
-        (moved-unseen (j .tensor) (j′ .tensor) (j .config) (j′ .config) (s .tensor) (s .config) (job-good n j z .config) (bytesOf (j .source) m) from k (bytesOf (j .destination) m)) ∙
+        (moved-unseen (j .tensor) (j′ .tensor) (j .config) (j′ .config) (s .tensor) (s .arrays) (job-good n j z .config) fill (bytesOf (j .source) m) from k (bytesOf (j .destination) m)) ∙
         (λ i. sets m (f i .start) (moved (j′ .tensor) (j′ .config) (bytesOf (e i) m) from k (bytesOf (f i) m)))
 
     same-further : (from budget : ℕ) → further j from budget ≡ further j′ from budget
     same-further from budget = ap (λ (x : ℕ). min budget (x - from)) same-total
 
 -- its judgement
-pub job-unseen : (n : ℕ) → UnseenJob (verdictOf n)
+pub job-unseen : (n : ℕ) (j j′ : Job) → SameAsked j j′ → verdictOf n j ≡ verdictOf n j′
 unfolding verdictOf
 job-unseen n j j′ s =
     let e = job-fault-unseen j j′ s n in
@@ -156,7 +158,7 @@ job-unseen n j j′ s =
     λ i. record { status = e i .status; dim = e i .dim; total = w i }
 
 -- a stretch of it: the answer, and the memory
-pub advance-unseen : (from budget : ℕ) (m : List ℕ) → UnseenJob (λ j. advanceOf j from budget m)
+advance-unseen : (from budget : ℕ) (m : List ℕ) (j j′ : Job) → SameAsked j j′ → advanceOf j from budget m ≡ advanceOf j′ from budget m
 unfolding advanceOf
 advance-unseen from budget m j j′ s =
     let e = job-fault-unseen j j′ s (length m) in
@@ -164,13 +166,13 @@ advance-unseen from budget m j j′ s =
     (λ z. same-further j j′ s (length m) z from budget) in
     λ i. record { status = e i .status; dim = e i .dim; count = w i }
 
-pub advance-memory-unseen : (from budget : ℕ) (m : List ℕ) → UnseenJob (λ j. advanceMemory j from budget m)
+pub advance-memory-unseen : (from budget : ℕ) (m : List ℕ) (j j′ : Job) → SameJob j j′ → advanceMemory j from budget m ≡ advanceMemory j′ from budget m
 unfolding advanceMemory
 advance-memory-unseen from budget m j j′ s =
-    same-ifFault (jobFault (length m) j) (jobFault (length m) j′) m _ _ (job-fault-unseen j j′ s (length m))
+    same-ifFault (jobFault (length m) j) (jobFault (length m) j′) m _ _ (job-fault-unseen j j′ (s .asked) (length m))
     (λ z.
-    same-advanced j j′ s (length m) z from (further j from budget) m ∙
-    ap (λ (k : ℕ). advancedBy j′ from k m) (same-further j j′ s (length m) z from budget))
+    same-advanced j j′ (s .asked) (length m) z (s .fill) from (further j from budget) m ∙
+    ap (λ (k : ℕ). advancedBy j′ from k m) (same-further j j′ (s .asked) (length m) z from budget))
 
 -- ---- the part of a source at which a sub-tensor starts
 

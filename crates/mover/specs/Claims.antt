@@ -11,7 +11,8 @@ use Rattle.plane.specs.declared.Tensor.{Tensor}
 use Rattle.plane.specs.declared.Config.{Config}
 use Rattle.plane.specs.Arrays.{at, sum}
 use Rattle.plane.specs.Moves.{dstStrides, need}
-use Rattle.plane.specs.Unseen.{SameTensor, SameConfig, UnseenConfig, UnseenSub}
+use Rattle.plane.specs.Numbers.{little}
+use Rattle.plane.specs.Unseen.{SameTensor, SameArrays, UnseenSub}
 use Rattle.mover.specs.declared.Part.{Part}
 use Rattle.mover.specs.declared.Job.{Job}
 use Rattle.mover.specs.Moved.{total, moved, moveMemory}
@@ -90,26 +91,33 @@ ByteLeaves = (n : ℕ) (p : Part) (i : ℕ) → Has p i → n ≤ i → leaves n
 abbrev pub EmptyLeaves : Type 0
 EmptyLeaves = (n : ℕ) (p : Part) → p .length ≡ 0 → leaves n p ≡ ltb n (p .start)
 
--- ---- Entries past the rank, and bytes of the fill past the element size
+-- ---- Entries past the rank, and the fill
 
--- jobs with the same parts, whose records and configurations agree but for such
-pub record SameJob (j j′ : Job) : Type 0 where
+-- the fills of two configurations put the same into a padded element of z bytes
+abbrev pub SameFill : ℕ → Config → Config → Type 0
+SameFill z c c′ = little z (c .fill) ≡ little z (c′ .fill)
+
+-- jobs with the same parts, whose records and configurations agree below the rank; their fills may differ
+pub record SameAsked (j j′ : Job) : Type 0 where
   pub source : j .source ≡ j′ .source
   pub destination : j .destination ≡ j′ .destination
   pub tensor : SameTensor (j .tensor) (j′ .tensor)
-  pub config : SameConfig (j .tensor .rank) (j .tensor .«element_size») (j .config) (j′ .config)
+  pub arrays : SameArrays (j .tensor .rank) (j .config) (j′ .config)
 
--- whatever f works out of a job comes to the same
-abbrev pub UnseenJob : {A : Type 0} → (Job → A) → Type 0
-UnseenJob f = (j j′ : Job) → SameJob j j′ → f j ≡ f j′
+-- and whose fills put the same into padding: their bytes past the element size may differ
+pub record SameJob (j j′ : Job) : Type 0 where
+  pub asked : SameAsked j j′
+  pub fill : SameFill (j .tensor .«element_size») (j .config) (j′ .config)
 
--- so every call that is handed such a record, configuration or job, and the memory that it leaves
+-- so every call that is handed such a record, configuration or job, and the memory that it leaves. What is answered does not hang on
+-- the fill: nothing is refused for it
 pub record MovesUnseen : Type 0 where
-  pub move : (src dst : List ℕ) → UnseenConfig (λ t c. moveMemory t c src dst)
+  pub move : (src dst : List ℕ) (t t′ : Tensor) → SameTensor t t′ → (c c′ : Config) → SameArrays (t .rank) c c′ →
+      SameFill (t .«element_size») c c′ → moveMemory t c src dst ≡ moveMemory t′ c′ src dst
   pub part : (src : List ℕ) → UnseenSub (λ t s. subPart t s src)
-  pub job : (n : ℕ) → UnseenJob (verdictOf n)
-  pub advance : (from budget : ℕ) (m : List ℕ) → UnseenJob (λ j. advanceOf j from budget m)
-  pub memory : (from budget : ℕ) (m : List ℕ) → UnseenJob (λ j. advanceMemory j from budget m)
+  pub job : (n : ℕ) (j j′ : Job) → SameAsked j j′ → verdictOf n j ≡ verdictOf n j′
+  pub advance : (from budget : ℕ) (m : List ℕ) (j j′ : Job) → SameAsked j j′ → advanceOf j from budget m ≡ advanceOf j′ from budget m
+  pub memory : (from budget : ℕ) (m : List ℕ) (j j′ : Job) → SameJob j j′ → advanceMemory j from budget m ≡ advanceMemory j′ from budget m
 
 -- ---- What the layer above may use
 

@@ -6,7 +6,8 @@ ghost use lib.ListN.{length, getD};
 ghost use lib.Seq.{sets};
 ghost use Rattle.mover.specs.Private.Elements.{sourceBytes, padding};
 ghost use Rattle.mover.specs.Private.Adding.{along};
-ghost use Rattle.mover.specs.Private.Runs.{elementCopied, runCopied, runPadded, Sized, Readable, Writable};
+ghost use Rattle.plane.specs.Planes.{Sized};
+ghost use Rattle.mover.specs.Private.Runs.{elementCopied, runCopied, runPadded, Readable, Writable};
 
 // Where the source's bytes stand: in the slice lent for reading, or in the destination's own.
 pub(crate) enum Origin {
@@ -14,8 +15,8 @@ pub(crate) enum Origin {
     Inside,
 }
 
-// A run as the leaves take it: n elements of `size` bytes, the first from `at` to `to`, each a jump and a stride further, in bytes. An
-// element of padding is the first bytes of `pad`.
+// A run as the leaves take it: n elements of `size` bytes, the first from `at` to `to`, each a jump and a stride further, in bytes. A
+// padded element holds the first bytes of `pad`.
 pub(crate) struct Course {
     pub(crate) at: usize,
     pub(crate) jump: usize,
@@ -120,7 +121,7 @@ pub(crate) fn copy_run(src: &[u8], dst: &mut [u8], origin: Origin, c: Course) ->
     copy_each(src, dst, origin, c)
 }
 
-// An element of padding at `to`: the first of the four bytes.
+// A padded element at `to`: the first of the four bytes.
 fn pad(dst: &mut [u8], to: usize, size: usize, four: [u8; 4])
     requires { ⌜ Sized size ⌝ }
     requires { ⌜ to + size ≤ length (now dst) ⌝ }

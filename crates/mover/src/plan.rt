@@ -24,7 +24,7 @@ pub(crate) struct Axis {
 // The move, widened to four destination dimensions: those that the rank lacks stand first, with extent and count 1.
 pub(crate) struct Plan {
     pub(crate) size: usize, // bytes of an element
-    pub(crate) pad: [u8; 4], // the bytes of the fill, the lowest first: an element of padding has the first of them
+    pub(crate) pad: [u8; 4], // the bytes of the fill, the lowest first: a padded element holds the first of them
     pub(crate) home: usize, // byte of the first kept element in the source
     pub(crate) base: usize, // byte of the first element in the destination
     pub(crate) d0: Axis,

@@ -1,4 +1,4 @@
--- Theorems to read first: Decided (no two outcomes), Exact (each refusal in its case and order), Unseen (entries past the rank),
+-- Theorems to read first: Decided (no two outcomes), Exact (each refusal in its case and order), Unseen (entries past the rank, and the fill),
 -- Good (what acceptance tells), Bounds (all fits 64 bits), SubTensors (a sub-tensor is a plane within the plane).
 pub mod Decided
 pub mod Exact

@@ -7,9 +7,9 @@ use mathlib.Core.Bool.{Bool, true, false, _||_}
 use borrow.Author.Tests.{eqb-true}
 use lib.Dec.{eqb}
 use Rattle.faults.proofs.Bools.{either-cases}
-use Rattle.plane.specs.Planes.{elementSize}
+use Rattle.plane.specs.Planes.{Sized}
 
-module _ (z : ℕ) (h : elementSize z ≡ 0 → ⊥) where
+module _ (z : ℕ) (h : Sized z) where
   by-size : (z ≡ 1) ⊎ ((z ≡ 2) ⊎ (z ≡ 4))
   by-size = by-test (eqb z 1 || eqb z 2 || eqb z 4) refl
     where

@@ -1,5 +1,5 @@
--- Entries at or past the rank are not looked at, nor are bytes of the fill past the element size: records and configurations that agree
--- in the rest have the same answers. Assumes nothing.
+-- Entries at or past the rank are not looked at, nor is the fill: records and configurations whose entries below the rank agree have
+-- the same answers. Assumes nothing.
 use Prim.Native.Nat.{ℕ, zero, suc, _+_, _-_, _*_, _≤_, _<_}
 use native.Mathlib.Decide.{ℕ-discrete}
 use native.Mathlib.Omega.{arith}
@@ -17,7 +17,8 @@ use Rattle.faults.specs.Faults.{when, _orElse_, lowest, ifFault}
 use Rattle.plane.specs.Planes.{badShape, badStride, shapeAt, strideAt, inner, resolved, badStrideAt, strides, srcStrides, span, sourceFault, sourceOf}
 use Rattle.plane.specs.Moves.{upward, count, extent, dstExtents, dstStrides, need, badPermAt, badOffset, badStep, badExtent, badDstOffsetAt, badDstOffsetOf, configFault, dstFault, moveFault, roomFault, accepted, answerOf, judgeOf, roomOf}
 use Rattle.plane.specs.Helpers.{elements, countFault, countAnswer, countOf, isUnit, staying, subDim, rankFault, subFault, subOf, subByte, noSub, subAnswer, subTensorOf}
-use Rattle.plane.specs.Unseen.{SameTensor, SameConfig, SameSub, UnseenTensor, UnseenConfig, UnseenSub, CallsUnseen}
+use Rattle.plane.specs.Unseen.{SameTensor, SameArrays, SameSub, UnseenTensor, UnseenConfig, UnseenSub, CallsUnseen}
+use Rattle.plane.proofs.Configs.{same-offset, same-size, same-step, same-dst-offset, same-dst-stride, same-perm, same-pre, same-post}
 use Rattle.plane.proofs.Arrays.{firsts-same, sum-same, product-same, howMany-same, some-same}
 use Rattle.faults.proofs.Faults.{status, or-path, or-found, or-clear, lowest-same, outward-same, if-fault, if-none}
 use Rattle.plane.specs.Good.{GoodConfig}
@@ -83,48 +84,48 @@ module _ (n z : ℕ) (s s′ p p′ : List ℕ) (a : SameTensor (tensor n z s p)
 
   -- ---- the move
 
-  module _ (c c′ : Config) (b : SameConfig n z c c′) where
+  module _ (c c′ : Config) (b : SameArrays n c c′) where
     extent-same : (d : ℕ) → d < n → extent T c d ≡ extent T′ c′ d
     unfolding extent count
     extent-same d h =
-        let w = ap₂ or0 (b .arrays 1 (omega arith) d h) (ap₂ (λ (x y : ℕ). x - y) (a .shape d h) (b .arrays 0 (omega arith) d h)) in
-        ap₂ (λ (x y : ℕ). x + y) (ap₂ (λ (x y : ℕ). x + y) (b .arrays 6 (omega arith) d h) (ap₂ upward w (b .arrays 2 (omega arith) d h))) (b .arrays 7 (omega arith) d h)
+        let w = ap₂ or0 (same-size b d h) (ap₂ (λ (x y : ℕ). x - y) (a .shape d h) (same-offset b d h)) in
+        ap₂ (λ (x y : ℕ). x + y) (ap₂ (λ (x y : ℕ). x + y) (same-pre b d h) (ap₂ upward w (same-step b d h))) (same-post b d h)
 
     perm-same : (i : ℕ) → i < n → badPermAt n (at (c .perm)) i ≡ badPermAt n (at (c′ .perm)) i
     perm-same i h =
-        ap₂ (λ (x y : Bool). x || y) (ap (leb n) (b .arrays 5 (omega arith) i h)) (some-same i _ _ (λ j q. ap₂ eqb (b .arrays 5 (omega arith) j (omega arith)) (b .arrays 5 (omega arith) i h)))
+        ap₂ (λ (x y : Bool). x || y) (ap (leb n) (same-perm b i h)) (some-same i _ _ (λ j q. ap₂ eqb (same-perm b j (omega arith)) (same-perm b i h)))
 
     config-same : configFault T c ≡ configFault T′ c′
     unfolding configFault
     config-same =
         or-path (lowest-same 6 n _ _ perm-same)
-        (or-path (lowest-same 7 n _ _ (λ d h. ap₂ badOffset (a .shape d h) (b .arrays 0 (omega arith) d h)))
-        (or-path (lowest-same 8 n _ _ (λ d h. ap₂ (λ (x y : ℕ). ltb x y) (a .shape d h) (ap₂ (λ (x y : ℕ). x + y) (b .arrays 1 (omega arith) d h) (b .arrays 0 (omega arith) d h))))
-        (or-path (lowest-same 9 n _ _ (λ d h. ap badStep (b .arrays 2 (omega arith) d h))) (lowest-same 10 n _ _ (λ d h. ap badExtent (extent-same d h))))))
+        (or-path (lowest-same 7 n _ _ (λ d h. ap₂ badOffset (a .shape d h) (same-offset b d h)))
+        (or-path (lowest-same 8 n _ _ (λ d h. ap₂ (λ (x y : ℕ). ltb x y) (a .shape d h) (ap₂ (λ (x y : ℕ). x + y) (same-size b d h) (same-offset b d h))))
+        (or-path (lowest-same 9 n _ _ (λ d h. ap badStep (same-step b d h))) (lowest-same 10 n _ _ (λ d h. ap badExtent (extent-same d h))))))
 
     -- the destination is looked at only where no number up to 10 is given
     module _ (g : configFault T c .status ≡ 0) where
       extents-same : dstExtents T c ≡ dstExtents T′ c′
       unfolding dstExtents
       extents-same =
-          firsts-same 0 n _ _ (λ i h. extent-same (at (c .perm) i) (config-good T c g .perm i h) ∙ ap (extent T′ c′) (b .arrays 5 (omega arith) i h))
+          firsts-same 0 n _ _ (λ i h. extent-same (at (c .perm) i) (config-good T c g .perm i h) ∙ ap (extent T′ c′) (same-perm b i h))
 
       extent-at : (d : ℕ) → d < n → at (dstExtents T c) d ≡ at (dstExtents T′ c′) d
       extent-at d h = ap (λ (l : List ℕ). at l d) extents-same
 
       dst-strides-same : dstStrides T c ≡ dstStrides T′ c′
-      dst-strides-same = strides-same n _ _ _ _ extent-at (b .arrays 4 (omega arith))
+      dst-strides-same = strides-same n _ _ _ _ extent-at (same-dst-stride b)
 
       place-at : (i : ℕ) → i < n → badDstOffsetOf T c i ≡ badDstOffsetOf T′ c′ i
       unfolding badDstOffsetAt
       place-at i h =
-          ap₂ (λ (x o : ℕ). ltb 65535 o || (ltb 0 i && ltb (at (dstStrides T c) (i - 1)) ((o + x) * at (dstStrides T c) i))) (extent-at i h) (b .arrays 3 (omega arith) i h) ∙
+          ap₂ (λ (x o : ℕ). ltb 65535 o || (ltb 0 i && ltb (at (dstStrides T c) (i - 1)) ((o + x) * at (dstStrides T c) i))) (extent-at i h) (same-dst-offset b i h) ∙
           ap (λ (l : List ℕ). badDstOffsetAt (at (dstExtents T′ c′)) (at l) (at (c′ .«dst_offset»)) i) dst-strides-same
 
       place-same : dstFault T c ≡ dstFault T′ c′
       unfolding dstFault
       place-same =
-          or-path (outward-same 11 n _ _ (badStrideAt-same n _ _ _ _ extent-at (b .arrays 4 (omega arith))))
+          or-path (outward-same 11 n _ _ (badStrideAt-same n _ _ _ _ extent-at (same-dst-stride b)))
           (lowest-same 12 n _ _ place-at)
 
       need-same : need T c ≡ need T′ c′
@@ -134,7 +135,7 @@ module _ (n z : ℕ) (s s′ p p′ : List ℕ) (a : SameTensor (tensor n z s p)
           (sum-same n _ _
           (λ i h.
           ap₂ (λ (x y : ℕ). x * y)
-          (ap₂ (λ (x : ℕ) (l : List ℕ). x + at l i - 1) (b .arrays 3 (omega arith) i h) extents-same)
+          (ap₂ (λ (x : ℕ) (l : List ℕ). x + at l i - 1) (same-dst-offset b i h) extents-same)
           (ap (λ (l : List ℕ). at l i) dst-strides-same)))
 
       accepted-same : accepted T c ≡ accepted T′ c′
@@ -266,17 +267,17 @@ module _ (t t′ : Tensor) (a : SameTensor t t′) where
   agrees = record { rank = refl; element = refl; shape = a .shape; stride = a .stride }
 
   -- for the layers above: the fault of a move, and what an accepted move looks at
-  pub fault-unseen : (c c′ : Config) → SameConfig (t .rank) (t .«element_size») c c′ → (srcLen dstLen : ℕ) → moveFault t c srcLen dstLen ≡ moveFault t′ c′ srcLen dstLen
+  pub fault-unseen : (c c′ : Config) → SameArrays (t .rank) c c′ → (srcLen dstLen : ℕ) → moveFault t c srcLen dstLen ≡ moveFault t′ c′ srcLen dstLen
   fault-unseen c c′ b sl dl = move-same _ _ _ _ _ _ agrees c c′ b sl dl ∙ across (λ (x : Tensor). moveFault x c′ sl dl)
 
   pub strides-unseen : srcStrides t ≡ srcStrides t′
   strides-unseen = src-strides-same _ _ _ _ _ _ agrees ∙ across (λ (x : Tensor). srcStrides x)
 
-  module _ (c c′ : Config) (b : SameConfig (t .rank) (t .«element_size») c c′) where
+  module _ (c c′ : Config) (b : SameArrays (t .rank) c c′) where
     pub kept-unseen : (d : ℕ) → d < t .rank → count t c d ≡ count t′ c′ d
     unfolding count
     kept-unseen d h =
-        ap₂ upward (ap₂ or0 (b .arrays 1 (omega arith) d h) (ap₂ (λ (x y : ℕ). x - y) (a .shape d h) (b .arrays 0 (omega arith) d h))) (b .arrays 2 (omega arith) d h)
+        ap₂ upward (ap₂ or0 (same-size b d h) (ap₂ (λ (x y : ℕ). x - y) (a .shape d h) (same-offset b d h))) (same-step b d h)
 
     module _ (g : GoodConfig t c) where
       pub extents-unseen : dstExtents t c ≡ dstExtents t′ c′

@@ -1,5 +1,5 @@
 -- What the theorems claim of planes and moves: refusals, the room question, what acceptance tells, that all fits 64 bits, sub-tensors.
--- Unseen has what they claim of entries past the rank.
+-- Unseen has what they claim of entries past the rank and of the fill.
 use Prim.Native.Nat.{ℕ, _+_, _*_, _^_, _≤_, _<_}
 use mathlib.Core.Path.{_≡_}
 use lib.ListN.{length}

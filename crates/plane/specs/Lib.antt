@@ -1,5 +1,5 @@
 -- What a reader must believe, in the paper's order. Then what the theorems claim: Good (what acceptance tells), Orders (the rules of
--- each call, in order), Unseen (entries past the rank), Claims (all else). Private holds what only private functions cite.
+-- each call, in order), Unseen (entries past the rank, and the fill), Claims (all else). Private holds what only private functions cite.
 pub mod Arrays
 pub mod Planes
 pub mod Moves

@@ -1,5 +1,6 @@
 -- Planes and strides: a tensor record, the numbers of refusal 1 to 4, strides and the span.
 use Prim.Native.Nat.{ℕ, zero, suc, _+_, _-_, _*_}
+use mathlib.Core.Path.{_≡_}
 use mathlib.Core.Bool.{Bool, cond, _||_}
 use mathlib.Core.List.{List}
 use lib.Dec.{ltb, eqb}
@@ -19,6 +20,10 @@ badRank n = ltb n 1 || ltb 4 n
 -- an element size that is taken, and 0 for any other
 abbrev pub elementSize : ℕ → ℕ
 elementSize z = cond (eqb z 1 || eqb z 2 || eqb z 4) z 0
+
+-- one that is taken
+abbrev pub Sized : ℕ → Type 0
+Sized z = elementSize z ≡ 0 → ⊥
 
 -- 2: not one that is taken
 abbrev pub badElement : ℕ → Bool

@@ -7,7 +7,7 @@ use lib.ListN.{getD}
 use Rattle.plane.specs.declared.Config.{Config}
 use Rattle.plane.specs.Arrays.{zeros}
 
--- ---- The arrays: here, and nowhere else, each has its number
+-- ---- The arrays, in the order of the record's bytes
 
 abbrev pub arrayCount : ℕ
 arrayCount = 8

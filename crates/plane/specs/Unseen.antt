@@ -1,5 +1,5 @@
--- Entries at or past the rank are not looked at, nor are bytes of the fill past the element size: records and configurations that agree
--- in the rest come to the same.
+-- Entries at or past the rank are not looked at, nor is the fill: records and configurations whose entries below the rank agree have
+-- the same answers.
 use Prim.Native.Nat.{ℕ, _<_}
 use mathlib.Core.Path.{_≡_}
 use Rattle.plane.specs.declared.Tensor.{Tensor}
@@ -8,7 +8,6 @@ use Rattle.plane.specs.declared.SubConfig.{SubConfig}
 use Rattle.plane.specs.Arrays.{at}
 use Rattle.plane.specs.Planes.{sourceOf}
 use Rattle.plane.specs.Settings.{arrayCount, arrayOf}
-use Rattle.plane.specs.Numbers.{little}
 use Rattle.plane.specs.Moves.{judgeOf, roomOf}
 use Rattle.plane.specs.Helpers.{countOf, subTensorOf}
 
@@ -20,14 +19,9 @@ pub record SameTensor (t t′ : Tensor) : Type 0 where
   pub shape : (d : ℕ) → d < t .rank → at (t .shape) d ≡ at (t′ .shape) d
   pub stride : (d : ℕ) → d < t .rank → at (t .stride) d ≡ at (t′ .stride) d
 
--- every array, below the rank n
-abbrev pub SameArrays : ℕ → Config → Config → Type 0
-SameArrays n c c′ = (k : ℕ) → k < arrayCount → (d : ℕ) → d < n → at (arrayOf c k) d ≡ at (arrayOf c′ k) d
-
--- for a plane of rank n and element size z: every array, below the rank, and of the fill as many low bytes as an element has
-pub record SameConfig (n z : ℕ) (c c′ : Config) : Type 0 where
-  pub arrays : SameArrays n c c′
-  pub fill : little z (c .fill) ≡ little z (c′ .fill)
+-- every array, below the rank n; fills may differ
+pub record SameArrays (n : ℕ) (c c′ : Config) : Type 0 where
+  pub each : (k : ℕ) → k < arrayCount → (d : ℕ) → d < n → at (arrayOf c k) d ≡ at (arrayOf c′ k) d
 
 pub record SameSub (n : ℕ) (s s′ : SubConfig) : Type 0 where
   pub offset : (d : ℕ) → d < n → at (s .offset) d ≡ at (s′ .offset) d
@@ -42,7 +36,7 @@ UnseenTensor f = (t t′ : Tensor) → SameTensor t t′ → f t ≡ f t′
 
 -- and a configuration
 abbrev pub UnseenConfig : {A : Type 0} → (Tensor → Config → A) → Type 0
-UnseenConfig f = (t t′ : Tensor) → SameTensor t t′ → (c c′ : Config) → SameConfig (t .rank) (t .«element_size») c c′ → f t c ≡ f t′ c′
+UnseenConfig f = (t t′ : Tensor) → SameTensor t t′ → (c c′ : Config) → SameArrays (t .rank) c c′ → f t c ≡ f t′ c′
 
 -- and a sub-tensor's numbers
 abbrev pub UnseenSub : {A : Type 0} → (Tensor → SubConfig → A) → Type 0

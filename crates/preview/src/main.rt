@@ -268,16 +268,11 @@ fn framed() -> Config {
     small.with_pre([1, 1, 0, 0]).with_post([1, 1, 0, 0])
 }
 
-// Writes the record of the framed thumbnail into the room, which has to be as long as the record is, reads it, and makes its move.
+// Writes the record of the framed thumbnail into the room, which has to be just as long as the record is, reads it, and makes its move.
 fn write_and_move(room: &mut [u8], source: &[u8], buffer: &mut [u8]) {
-    let n = record::length_for(framed());
-    if room.len() < n {
-        print_status(b"refused", 25);
-        return;
-    }
-    let f = record::write(picture(), framed(), &mut room[0..n]);
+    let f = record::write(picture(), framed(), room);
     print_status(b"written", f.status);
-    move_read(record::read(&room[0..n]), source, buffer);
+    move_read(record::read(room), source, buffer);
 }
 
 fn main() {

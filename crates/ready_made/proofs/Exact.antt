@@ -1,4 +1,4 @@
--- The calls that are made for a rank: what is refused and what is given. Assumes nothing.
+-- The ready-made configurations: what is refused and what is given. Assumes nothing.
 use Prim.Native.Nat.{ℕ, _<_}
 use mathlib.Core.Path.{_≡_, refl, ap}
 use mathlib.Core.Bool.{Bool, true, false, cond}
@@ -50,7 +50,7 @@ pub made-unseen : MadeUnseen
 unfolding madeFor cutTo
 made-unseen n c c′ b e =
     ap (λ (x : Config). cond (badRank n) (record { status = 1; config = zeroConfig }) (record { status = 0; config = x }))
-    (same-config _ _ (λ k h. firsts-same 0 n (at (arrayOf c k)) (at (arrayOf c′ k)) (b k h)) e)
+    (same-config _ _ (λ k h. firsts-same 0 n (at (arrayOf c k)) (at (arrayOf c′ k)) (b .each k h)) e)
 
 -- so do the pads: array number 4 has the destination strides
 cut-stride : (c : Config) (s s′ : List ℕ) → ((d : ℕ) → d < 3 → at s d ≡ at s′ d) → cutTo 3 (withDstStride c s) ≡ cutTo 3 (withDstStride c s′)

@@ -1,4 +1,4 @@
--- What the theorems claim of a configuration that is made for a rank.
+-- What the theorems claim of a ready-made configuration.
 use Prim.Native.Nat.{ℕ, _<_}
 use mathlib.Core.Path.{_≡_}
 use mathlib.Core.Bool.{true, false}

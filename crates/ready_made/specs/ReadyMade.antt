@@ -2,7 +2,6 @@
 use Prim.Native.Nat.{ℕ}
 use mathlib.Core.Bool.{cond}
 use mathlib.Core.List.{List, [], _∷_}
-use lib.ListN.{getD}
 use Rattle.plane.specs.declared.Config.{Config}
 use Rattle.plane.specs.Arrays.{at, firsts}
 use Rattle.plane.specs.Planes.{badRank}
@@ -53,4 +52,14 @@ padHwcOf left right top bottom dstStride =
 -- every array as given, and fill 0
 abbrev pub allOf : ℕ → List ℕ → List ℕ → List ℕ → List ℕ → List ℕ → List ℕ → List ℕ → List ℕ → Made
 allOf n offset size step dstOffset dstStride perm pre post =
-    madeFor n (configOf (λ k. getD (offset ∷ size ∷ step ∷ dstOffset ∷ dstStride ∷ perm ∷ pre ∷ post ∷ []) k []) 0)
+    madeFor n (record {
+      offset = offset;
+      size = size;
+      step = step;
+      «dst_offset» = dstOffset;
+      «dst_stride» = dstStride;
+      perm = perm;
+      pre = pre;
+      post = post;
+      fill = 0;
+    })

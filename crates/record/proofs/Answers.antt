@@ -2,7 +2,7 @@
 use Prim.Native.Nat.{ℕ}
 use native.Mathlib.Decide.{ℕ-discrete}
 use native.Mathlib.Omega.{arith}
-use mathlib.Core.Path.{_≡_, sym, ap, ap₂, _∙_}
+use mathlib.Core.Path.{_≡_, refl, sym, ap, ap₂, _∙_}
 use mathlib.Core.Bool.{true, false, not}
 use mathlib.Core.List.{List}
 use borrow.Author.Tests.{eq-eqb, ne-eqb}
@@ -15,9 +15,10 @@ use Rattle.faults.specs.Faults.{fault}
 use Rattle.faults.proofs.Faults.{status, is-fault, given, spared, if-fault, if-none}
 use Rattle.record.specs.declared.Reading.{Reading}
 use Rattle.plane.specs.Numbers.{little}
-use Rattle.record.specs.Layout.{recordLength, fillWidth, lengthOf, versionAt, versionOf}
+use Rattle.record.specs.Layout.{recordLength, fillWidth, lengthOf, versionByLength, versionFor}
 use Rattle.record.specs.Records.{tensorIn, configIn, recordBytes, badLength, badRoom, badMark, badVersion, fieldsFault, readFault, writeFault, noReading, reading, readOf, writtenRoom}
 use Rattle.record.specs.Private.{tensorBytes, configAt, configBytes}
+use Rattle.record.proofs.Lengths.{fill-none}
 use Rattle.record.proofs.Laying.{record-laid}
 
 -- ---- read
@@ -35,7 +36,7 @@ module _ (bs : List ℕ) where
   unfolding readFault
   read-27 l m v = spared 25 0 _ _ l ∙ spared 26 0 _ _ m ∙ given 27 0 _ _ (omega arith) v
 
-  pub read-fields : badLength (length bs) ≡ false → badMark bs ≡ false → badVersion bs ≡ false → readFault bs ≡ fieldsFault (versionAt (length bs)) (tensorIn bs) (configIn bs)
+  pub read-fields : badLength (length bs) ≡ false → badMark bs ≡ false → badVersion bs ≡ false → readFault bs ≡ fieldsFault (versionByLength (length bs)) (tensorIn bs) (configIn bs)
   unfolding readFault
   read-fields l m v = spared 25 0 _ _ l ∙ spared 26 0 _ _ m ∙ spared 27 0 _ _ v
 
@@ -56,8 +57,16 @@ module _ (bs : List ℕ) where
     | no z ↦ ap (λ (r : Reading). r .status) (if-fault (readFault bs) (noReading (readFault bs)) (reading (tensorIn bs) (configIn bs)) z)
   ]
 
+  -- 131 bytes tell no fill, accepted or not
+  pub read-plain : length bs ≡ recordLength → readOf bs .config .fill ≡ 0
+  unfolding configIn
+  read-plain l = elim (ℕ-discrete (readFault bs .status) 0) [
+    | yes z ↦ ap (λ (r : Reading). r .config .fill) (read-given z) ∙ fill-none bs l
+    | no z ↦ ap (λ (r : Reading). r .config .fill) (sym (read-refused {f = readFault bs} refl z refl))
+  ]
+
   -- as the code comes to it: the fields read, and then judged
-  module _ {t : Tensor} {c : Config} {v : ℕ} {f : Fault} (te : t ≡ tensorIn bs) (ce : c ≡ configIn bs) (ve : v ≡ versionAt (length bs)) (fe : f ≡ fieldsFault v t c) (l : badLength (length bs) ≡ false) (m : badMark bs ≡ false) (w : badVersion bs ≡ false) where
+  module _ {t : Tensor} {c : Config} {v : ℕ} {f : Fault} (te : t ≡ tensorIn bs) (ce : c ≡ configIn bs) (ve : v ≡ versionByLength (length bs)) (fe : f ≡ fieldsFault v t c) (l : badLength (length bs) ≡ false) (m : badMark bs ≡ false) (w : badVersion bs ≡ false) where
     read-judged : readFault bs ≡ f
     read-judged = read-fields l m w ∙ sym (λ i. fieldsFault (ve i) (te i) (ce i)) ∙ sym fe
 
@@ -70,12 +79,12 @@ module _ (bs : List ℕ) where
 -- ---- write
 
 module _ (t : Tensor) (c : Config) where
-  room-bad : (n : ℕ) → (n ≡ lengthOf (versionOf c) → ⊥) → badRoom c n ≡ true
-  room-bad n h = ap not (ne-eqb n (lengthOf (versionOf c)) h)
+  room-bad : (n : ℕ) → (n ≡ lengthOf (versionFor c) → ⊥) → badRoom c n ≡ true
+  room-bad n h = ap not (ne-eqb n (lengthOf (versionFor c)) h)
 
-  pub write-fields : (n : ℕ) → n ≡ lengthOf (versionOf c) → writeFault t c n ≡ fieldsFault (versionOf c) t c
+  pub write-fields : (n : ℕ) → n ≡ lengthOf (versionFor c) → writeFault t c n ≡ fieldsFault (versionFor c) t c
   unfolding writeFault
-  write-fields n l = spared 25 0 _ _ (ap not (eq-eqb n (lengthOf (versionOf c)) l))
+  write-fields n l = spared 25 0 _ _ (ap not (eq-eqb n (lengthOf (versionFor c)) l))
 
   module _ (room : List ℕ) where
     pub room-kept : (writeFault t c (length room) .status ≡ 0 → ⊥) → writtenRoom t c room ≡ room
@@ -87,20 +96,20 @@ module _ (t : Tensor) (c : Config) where
     room-written z = if-none (writeFault t c (length room)) room (recordBytes t c) z
 
     -- as the code comes to it
-    pub write-short : (length room ≡ lengthOf (versionOf c) → ⊥) → (fault 25 0 ≡ writeFault t c (length room)) × (room ≡ writtenRoom t c room)
+    pub write-short : (length room ≡ lengthOf (versionFor c) → ⊥) → (fault 25 0 ≡ writeFault t c (length room)) × (room ≡ writtenRoom t c room)
     unfolding writeFault
     write-short l =
         let e : writeFault t c (length room) ≡ fault 25 0 = given 25 0 _ _ (omega arith) (room-bad (length room) l) in
         (sym e, sym (room-kept (is-fault 25 0 (omega arith) e)))
 
-    module _ {v : ℕ} {f : Fault} (l : length room ≡ lengthOf (versionOf c)) (ve : v ≡ versionOf c) (fe : f ≡ fieldsFault v t c) where
+    module _ {v : ℕ} {f : Fault} (l : length room ≡ lengthOf (versionFor c)) (ve : v ≡ versionFor c) (fe : f ≡ fieldsFault v t c) where
       write-judged : f ≡ writeFault t c (length room)
       write-judged = fe ∙ ap (λ (v : ℕ). fieldsFault v t c) ve ∙ sym (write-fields (length room) l)
 
       pub write-refused : (f .status ≡ 0 → ⊥) → (f ≡ writeFault t c (length room)) × (room ≡ writtenRoom t c room)
       write-refused h = (write-judged, sym (room-kept (λ z. h (status write-judged ∙ z))))
 
-      pub write-given : {a b d : List ℕ} → f .status ≡ 0 → a ≡ sets room 0 (tensorBytes v t) → b ≡ sets a configAt (configBytes c) → d ≡ sets b recordLength (little (fillWidth (versionOf c)) (c .fill)) → (f ≡ writeFault t c (length room)) × (d ≡ writtenRoom t c room)
+      pub write-given : {a b d : List ℕ} → f .status ≡ 0 → a ≡ sets room 0 (tensorBytes v t) → b ≡ sets a configAt (configBytes c) → d ≡ sets b recordLength (little (fillWidth (versionFor c)) (c .fill)) → (f ≡ writeFault t c (length room)) × (d ≡ writtenRoom t c room)
       write-given z ea eb ed =
           let e = ea ∙ ap (λ (v : ℕ). sets room 0 (tensorBytes v t)) ve in
           (write-judged, record-laid t c room l e eb ed ∙ sym (room-written (sym (status write-judged) ∙ z)))

@@ -11,7 +11,7 @@ use Rattle.faults.specs.Faults.{fault}
 use Rattle.faults.proofs.Faults.{or-path}
 use Rattle.faults.proofs.Chains.{Positive, chain, exact, exact-fault, one-chain, whole-is}
 use Rattle.record.specs.declared.Reading.{Reading}
-use Rattle.record.specs.Layout.{versionAt, versionOf}
+use Rattle.record.specs.Layout.{versionByLength, versionFor}
 use Rattle.record.specs.Records.{tensorIn, configIn, fieldsFault, readFault, writeFault, noReading}
 use Rattle.record.specs.Orders.{fieldsRules, readRules, writeRules}
 use Rattle.record.specs.Claims.{ReadExact, FieldsExact, WriteExact, ReadZeros, WriteKept}
@@ -25,11 +25,11 @@ fields-chain v t c = or-path (whole-is 1 _) (or-path (whole-is 2 _) (or-path ref
 
 pub read-chain : (bs : List ℕ) → readFault bs ≡ chain (readRules bs)
 unfolding readFault chain
-read-chain bs = or-path (whole-is 25 _) (or-path (whole-is 26 _) (or-path (whole-is 27 _) (fields-chain (versionAt (length bs)) (tensorIn bs) (configIn bs))))
+read-chain bs = or-path (whole-is 25 _) (or-path (whole-is 26 _) (or-path (whole-is 27 _) (fields-chain (versionByLength (length bs)) (tensorIn bs) (configIn bs))))
 
 write-chain : (t : Tensor) (c : Config) (n : ℕ) → writeFault t c n ≡ chain (writeRules t c n)
 unfolding writeFault chain
-write-chain t c n = or-path (whole-is 25 _) (fields-chain (versionOf c) t c)
+write-chain t c n = or-path (whole-is 25 _) (fields-chain (versionFor c) t c)
 
 -- every number is above 0
 

@@ -10,7 +10,7 @@ use Rattle.plane.specs.declared.Config.{Config}
 use Rattle.plane.specs.Arrays.{sum}
 use Rattle.plane.proofs.Numbers.{length-little}
 use Rattle.plane.specs.Numbers.{little}
-use Rattle.record.specs.Layout.{joined, groupCount, group, width, fourBytes, recordLength, fillWidth, lengthOf, versionOf, headBytes}
+use Rattle.record.specs.Layout.{joined, groupCount, group, width, fourBytes, recordLength, fillWidth, lengthOf, versionFor, headBytes}
 use Rattle.record.specs.Records.{recordBytes}
 use Rattle.record.specs.Private.{tensorBytes, configAt, configBytes}
 use Rattle.record.proofs.Parts.{Stored, stored-next, sets-next, sets-whole, length-joined}
@@ -57,36 +57,36 @@ regroup h a b d e f g k m n p = simp append-assoc
 module _ (t : Tensor) (c : Config) where
   -- up to the end of the groups
   abbrev before : List ℕ
-  before = headBytes (versionOf c) (t .rank) (t .«element_size») ++ joined groupCount (λ k. fourBytes (width k) (group t c k))
+  before = headBytes (versionFor c) (t .rank) (t .«element_size») ++ joined groupCount (λ k. fourBytes (width k) (group t c k))
 
   pub length-before : length before ≡ recordLength
   unfolding little sum
   length-before =
-      length-append (headBytes (versionOf c) (t .rank) (t .«element_size»)) (joined groupCount (λ k. fourBytes (width k) (group t c k))) ∙
+      length-append (headBytes (versionFor c) (t .rank) (t .«element_size»)) (joined groupCount (λ k. fourBytes (width k) (group t c k))) ∙
       ap (λ (n : ℕ). 7 + n) (length-joined groupCount (λ k. fourBytes (width k) (group t c k)) (λ k. 4 * width k) (λ k _. length-four (width k) (group t c k)))
 
-  pub length-record : length (recordBytes t c) ≡ lengthOf (versionOf c)
+  pub length-record : length (recordBytes t c) ≡ lengthOf (versionFor c)
   unfolding recordBytes
   length-record =
-      let fill = little (fillWidth (versionOf c)) (c .fill) in
-      length-append before fill ∙ ap₂ (λ (m n : ℕ). m + n) length-before (length-little (fillWidth (versionOf c)) (c .fill))
+      let fill = little (fillWidth (versionFor c)) (c .fill) in
+      length-append before fill ∙ ap₂ (λ (m n : ℕ). m + n) length-before (length-little (fillWidth (versionFor c)) (c .fill))
 
-  two-pieces : tensorBytes (versionOf c) t ++ configBytes c ≡ before
+  two-pieces : tensorBytes (versionFor c) t ++ configBytes c ≡ before
   unfolding tensorBytes configBytes joined
   two-pieces =
-      regroup (headBytes (versionOf c) (t .rank) (t .«element_size»)) (fourBytes 4 (t .shape)) (fourBytes 4 (t .stride)) (fourBytes 4 (c .offset)) (fourBytes 4 (c .size))
+      regroup (headBytes (versionFor c) (t .rank) (t .«element_size»)) (fourBytes 4 (t .shape)) (fourBytes 4 (t .stride)) (fourBytes 4 (c .offset)) (fourBytes 4 (c .size))
       (fourBytes 4 (c .step)) (fourBytes 4 (c .«dst_offset»)) (fourBytes 4 (c .«dst_stride»)) (fourBytes 1 (c .perm)) (fourBytes 1 (c .pre)) (fourBytes 1 (c .post))
 
   -- the pieces stored in a room of the record's length
-  pub record-laid : (l : List ℕ) {a b d : List ℕ} → length l ≡ lengthOf (versionOf c) → a ≡ sets l 0 (tensorBytes (versionOf c) t) → b ≡ sets a configAt (configBytes c) → d ≡ sets b recordLength (little (fillWidth (versionOf c)) (c .fill)) → d ≡ recordBytes t c
+  pub record-laid : (l : List ℕ) {a b d : List ℕ} → length l ≡ lengthOf (versionFor c) → a ≡ sets l 0 (tensorBytes (versionFor c) t) → b ≡ sets a configAt (configBytes c) → d ≡ sets b recordLength (little (fillWidth (versionFor c)) (c .fill)) → d ≡ recordBytes t c
   unfolding recordBytes
   record-laid l h ea eb ed =
-      let fill = little (fillWidth (versionOf c)) (c .fill) in
-      let n = tensor-stored [] (versionOf c) t refl refl refl .long in
+      let fill = little (fillWidth (versionFor c)) (c .fill) in
+      let n = tensor-stored [] (versionFor c) t refl refl refl .long in
       let m = length-before in
       ed ∙
       ap (λ (b : List ℕ). sets b recordLength fill)
       (eb ∙ ap (λ (a : List ℕ). sets a configAt (configBytes c)) ea ∙
-      sets-next (tensorBytes (versionOf c) t) (configBytes c) l 0 configAt (omega arith) ∙
+      sets-next (tensorBytes (versionFor c) t) (configBytes c) l 0 configAt (omega arith) ∙
       ap (sets l 0) two-pieces) ∙
       sets-next before fill l 0 recordLength (omega arith) ∙ sets-whole (recordBytes t c) l (length-record ∙ sym h)

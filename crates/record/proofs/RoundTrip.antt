@@ -24,13 +24,13 @@ use Rattle.faults.proofs.Bools.{either-clear}
 use Rattle.faults.proofs.Faults.{status, or-clear, when-clear}
 use Rattle.record.specs.declared.Reading.{Reading}
 use Rattle.plane.specs.Numbers.{little, number}
-use Rattle.record.specs.Layout.{part, joined, recordLength, fillWidth, lengthOf, versionAt, versionOf, versionIn, rankIn, sizeIn, fillIn, headBytes, groupCount, group, width, start, fourBytes}
+use Rattle.record.specs.Layout.{part, joined, recordLength, fillWidth, lengthOf, versionByLength, versionFor, versionIn, rankIn, sizeIn, fillIn, headBytes, groupCount, group, width, start, fourBytes}
 use Rattle.record.specs.Records.{groupIn, tensorIn, configIn, recordBytes, lengthIn, badLength, badMark, badVersion, fieldsFault, readFault, writeFault, reading, readOf, writtenRoom}
 use Rattle.record.specs.RoundTrip.{Fits, Bytes, OneWriting, ReadBack, WriteBack, ReadLength, SameFieldsSameBytes, AcceptedOnce, RefusedOrOnce}
 use Rattle.record.proofs.Parts.{part-cons, length-part, part-append, part-left, part-part, sum-step, sum-const, joined-same, part-joined, joined-parts}
 use Rattle.record.proofs.Digits.{bytes-part, number-little, little-number, number-fits, length-four, head-is}
 use Rattle.record.proofs.Laying.{length-before, length-record}
-use Rattle.record.proofs.Lengths.{two-lengths, fill-none, long-enough, length-again, by-version, version-again, length-right}
+use Rattle.record.proofs.Lengths.{two-lengths, fill-none, long-enough, length-again, by-version, version-plain, version-filled, version-again, length-right}
 use Rattle.record.proofs.Fields.{fill-passed}
 use Rattle.record.proofs.Answers.{read-fields, read-given, read-status, write-fields, room-written}
 
@@ -60,7 +60,7 @@ module _ (t : Tensor) (c : Config) (f : Fits t c) where
       let w = width k in
       let xs = group t c k in
       let s = sum k four in
-      let heads = headBytes (versionOf c) (t .rank) (t .«element_size») in
+      let heads = headBytes (versionFor c) (t .rank) (t .«element_size») in
       let all = joined groupCount (λ j. fourBytes (width j) (group t c j)) in
       let place : start k + d * w ≡ length heads + (s + d * w) = omega arith in
       let same : d * w ≡ sum d (λ _. w) = sym (sum-const d w) in
@@ -68,7 +68,7 @@ module _ (t : Tensor) (c : Config) (f : Fits t c) where
       let i = within d w q in
       let long = length-before t c in
       ap number
-      (part-left (heads ++ all) (little (fillWidth (versionOf c)) (c .fill)) (start k + d * w) w (omega arith) ∙
+      (part-left (heads ++ all) (little (fillWidth (versionFor c)) (c .fill)) (start k + d * w) w (omega arith) ∙
       ap (λ (p : ℕ). part p w (heads ++ all)) place ∙
       part-append heads all (s + d * w) w ∙
       sym (part-part s (4 * w) (d * w) w all (within d w q)) ∙
@@ -86,7 +86,7 @@ module _ (t : Tensor) (c : Config) (f : Fits t c) where
   tensor-back =
       λ i. record { rank = t .rank; «element_size» = t .«element_size»; shape = group-back 0 (omega arith) i; stride = group-back 1 (omega arith) i }
 
-  fill-fits : c .fill < 256 ^ fillWidth (versionOf c)
+  fill-fits : c .fill < 256 ^ fillWidth (versionFor c)
   fill-fits = by-test (eqb (c .fill) 0) refl
     where
       by-test : (b : Bool) → eqb (c .fill) 0 ≡ b → c .fill < 256 ^ fillWidth (cond b 1 2)
@@ -96,8 +96,8 @@ module _ (t : Tensor) (c : Config) (f : Fits t c) where
   fill-back : fillIn (recordBytes t c) ≡ c .fill
   unfolding recordBytes
   fill-back =
-      let w = fillWidth (versionOf c) in
-      let before = headBytes (versionOf c) (t .rank) (t .«element_size») ++ joined groupCount (λ j. fourBytes (width j) (group t c j)) in
+      let w = fillWidth (versionFor c) in
+      let before = headBytes (versionFor c) (t .rank) (t .«element_size») ++ joined groupCount (λ j. fourBytes (width j) (group t c j)) in
       let place : recordLength ≡ length before + 0 = let long = length-before t c in omega arith in
       let short : w ≤ 4 = by-version c (λ v. fillWidth v ≤ 4) (omega arith) (omega arith) in
       ap number
@@ -118,24 +118,24 @@ module _ (t : Tensor) (c : Config) (f : Fits t c) where
   mark-back = refl
 
   -- the version that is written is that of the length
-  version-is : versionAt (length (recordBytes t c)) ≡ versionOf c
-  version-is = ap versionAt (length-record t c) ∙ version-again c
+  version-is : versionByLength (length (recordBytes t c)) ≡ versionFor c
+  version-is = ap versionByLength (length-record t c) ∙ version-again c
 
-  version-in : versionIn (recordBytes t c) ≡ versionOf c
+  version-in : versionIn (recordBytes t c) ≡ versionFor c
   unfolding recordBytes little
-  version-in = number-little 2 (versionOf c) (by-version c (λ v. v < 256 ^ 2) (omega arith) (omega arith))
+  version-in = number-little 2 (versionFor c) (by-version c (λ v. v < 256 ^ 2) (omega arith) (omega arith))
 
   version-back : badVersion (recordBytes t c) ≡ false
   version-back = ap not (eq-eqb _ _ (version-in ∙ sym version-is))
 
   -- a record is judged as its fields are
-  fault-back : readFault (recordBytes t c) ≡ fieldsFault (versionOf c) t c
+  fault-back : readFault (recordBytes t c) ≡ fieldsFault (versionFor c) t c
   fault-back =
       read-fields (recordBytes t c) (ap badLength (length-record t c) ∙ length-right c) mark-back version-back ∙
       (λ i. fieldsFault (version-is i) (tensor-back i) (config-back i))
 
   -- and that of accepted fields reads as they are
-  pub record-back : fieldsFault (versionOf c) t c .status ≡ 0 → readOf (recordBytes t c) ≡ reading t c
+  pub record-back : fieldsFault (versionFor c) t c .status ≡ 0 → readOf (recordBytes t c) ≡ reading t c
   record-back z = read-given (recordBytes t c) (status fault-back ∙ z) ∙ ap₂ reading tensor-back config-back
 
 -- the theorem: what is written reads back
@@ -192,12 +192,12 @@ module _ (bs : List ℕ) (b : Bytes bs) where
         (λ k h. ap (fourBytes (width k)) (group-in k h) ∙ group-bytes k h) ∙
         joined-parts groupCount 7 four bs
 
-    head-bytes : badMark bs ≡ false → badVersion bs ≡ false → headBytes (versionAt (length bs)) (rankIn bs) (sizeIn bs) ≡ part 0 7 bs
+    head-bytes : badMark bs ≡ false → badVersion bs ≡ false → headBytes (versionByLength (length bs)) (rankIn bs) (sizeIn bs) ≡ part 0 7 bs
     head-bytes m v =
-        head-is 82 77 86 (versionAt (length bs)) bs _ b (omega arith) m v
+        head-is 82 77 86 (versionByLength (length bs)) bs _ b (omega arith) m v
         (sym (part-cons 5 1 bs (omega arith) ∙ ap (λ (l : List ℕ). rankIn bs ∷ l) (part-cons 6 0 bs (omega arith))))
 
-    before-bytes : badMark bs ≡ false → badVersion bs ≡ false → headBytes (versionAt (length bs)) (rankIn bs) (sizeIn bs) ++ joined groupCount (λ k. fourBytes (width k) (group (tensorIn bs) (configIn bs) k)) ≡ take recordLength bs
+    before-bytes : badMark bs ≡ false → badVersion bs ≡ false → headBytes (versionByLength (length bs)) (rankIn bs) (sizeIn bs) ++ joined groupCount (λ k. fourBytes (width k) (group (tensorIn bs) (configIn bs) k)) ≡ take recordLength bs
     before-bytes m v = ap₂ (λ (x y : List ℕ). x ++ y) (head-bytes m v) groups-bytes ∙ sym (take-add 7 124 bs)
 
     fits-read : Fits (tensorIn bs) (configIn bs)
@@ -231,16 +231,16 @@ module _ (bs : List ℕ) (b : Bytes bs) where
             omega arith
 
 -- the bytes of the fill are where it was read
-fill-bytes : (bs : List ℕ) → Bytes bs → badLength (length bs) ≡ false → little (fillWidth (versionAt (length bs))) (fillIn bs) ≡ drop recordLength bs
+fill-bytes : (bs : List ℕ) → Bytes bs → badLength (length bs) ≡ false → little (fillWidth (versionByLength (length bs))) (fillIn bs) ≡ drop recordLength bs
 unfolding little
 fill-bytes bs b h =
     ⊎-elim
-    (λ n. ap (λ (m : ℕ). little (fillWidth (versionAt m)) (fillIn bs)) n ∙ sym (drop-of-length-le bs {i = recordLength} (omega arith)))
+    (λ n. ap (λ (m : ℕ). little (fillWidth (versionByLength m)) (fillIn bs)) n ∙ sym (drop-of-length-le bs {i = recordLength} (omega arith)))
     (λ n.
     let p = part recordLength 4 bs in
     let l = length-part recordLength 4 bs (omega arith) in
     let r = length-drop recordLength bs in
-    ap (λ (m : ℕ). little (fillWidth (versionAt m)) (fillIn bs)) n ∙
+    ap (λ (m : ℕ). little (fillWidth (versionByLength m)) (fillIn bs)) n ∙
     ap (λ (m : ℕ). little m (number p)) (sym l) ∙ little-number p (bytes-part bs b recordLength 4) ∙
     take-all 4 (drop recordLength bs) (omega arith))
     (two-lengths (length bs) h)
@@ -250,7 +250,7 @@ record Passed (bs : List ℕ) : Type 0 where
   long : badLength (length bs) ≡ false
   mark : badMark bs ≡ false
   version : badVersion bs ≡ false
-  fields : fieldsFault (versionAt (length bs)) (tensorIn bs) (configIn bs) .status ≡ 0
+  fields : fieldsFault (versionByLength (length bs)) (tensorIn bs) (configIn bs) .status ≡ 0
 
 passed : (bs : List ℕ) → readFault bs .status ≡ 0 → Passed bs
 unfolding readFault
@@ -265,15 +265,15 @@ passed bs z =
     }
 
 -- the version that is written of what was read is the one that was read
-version-same : (bs : List ℕ) → Passed bs → versionOf (configIn bs) ≡ versionAt (length bs)
+version-same : (bs : List ℕ) → Passed bs → versionFor (configIn bs) ≡ versionByLength (length bs)
 unfolding configIn
 version-same bs p =
     ⊎-elim
-    (λ n. ap (λ (m : ℕ). cond (eqb m 0) 1 2) (fill-none bs n) ∙ sym (ap versionAt n))
+    (λ n. version-plain (configIn bs) (fill-none bs n) ∙ sym (ap versionByLength n))
     (λ n.
-    let z = sym (status (ap (λ (m : ℕ). fieldsFault (versionAt m) (tensorIn bs) (configIn bs)) n)) ∙ p .fields in
+    let z = sym (status (ap (λ (m : ℕ). fieldsFault (versionByLength m) (tensorIn bs) (configIn bs)) n)) ∙ p .fields in
     let e = either-clear (eqb (fillIn bs) 0) _ (fill-passed (tensorIn bs) (configIn bs) z) .0 in
-    ap (λ (b : Bool). cond b 1 2) e ∙ sym (ap versionAt n))
+    version-filled (configIn bs) e ∙ sym (ap versionByLength n))
     (two-lengths (length bs) (p .long))
 
 -- the bytes that were read are the record of their fields
@@ -303,7 +303,7 @@ read-length bs n h z =
     let p = passed bs (sym (read-status bs) ∙ z) in
     let l = long-enough (length bs) (p .long) in
     let m : 5 ≤ length (take n bs) = simp length-take (omega arith) in
-    let v : versionIn bs ≡ versionAt (length bs) = eqb-true _ _ (not-false _ (p .version)) in
+    let v : versionIn bs ≡ versionByLength (length bs) = eqb-true _ _ (not-false _ (p .version)) in
     rw (le-ltb (length (take n bs)) 5 m, part-part 0 n 3 2 bs h, v) (length-again (length bs) (p .long))
 
 -- ---- c. Equal fields and equal bytes go together

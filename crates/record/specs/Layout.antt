@@ -1,4 +1,5 @@
--- The bytes of a move record: which field stands where. What read and write have to agree on is here, and nowhere else.
+-- The bytes of a move record: which field stands where. What read and write have to agree on is here, but that a configuration's arrays
+-- stand in the order of plane's `arrays` (Settings).
 use Prim.Native.Nat.{ℕ, zero, suc, _+_, _-_, _*_}
 use mathlib.Core.Bool.{cond}
 use mathlib.Core.List.{List, [], _∷_, _++_}
@@ -7,7 +8,7 @@ use lib.ListN.{getD, take, drop}
 use Rattle.plane.specs.declared.Tensor.{Tensor}
 use Rattle.plane.specs.declared.Config.{Config}
 use Rattle.plane.specs.Arrays.{at, table, sum}
-use Rattle.plane.specs.Settings.{arrays}
+use Rattle.plane.specs.Settings.{arrayCount, arrays}
 use Rattle.plane.specs.Numbers.{little, number}
 
 -- ---- Parts of lists, and lists one after the other
@@ -27,14 +28,14 @@ joined (suc k) f = joined k f ++ f k
 abbrev pub headLength : ℕ
 headLength = 7
 
--- how many groups there are, and how many of them, the first, have numbers of four bytes; the others have single bytes
+-- how many groups there are, ten, and how many of them, the first, have numbers of four bytes; the others have single bytes
 abbrev pub groupCount : ℕ
-groupCount = 10
+groupCount = 2 + arrayCount
 
 abbrev pub wideGroups : ℕ
 wideGroups = 7
 
--- where the groups end: 131
+-- where the groups end, 131: the bytes of a record of version 1, and where in version 2 the fill stands
 abbrev pub recordLength : ℕ
 recordLength = headLength + wideGroups * (4 * 4) + (groupCount - wideGroups) * (4 * 1)
 
@@ -47,12 +48,12 @@ abbrev pub lengthOf : ℕ → ℕ
 lengthOf v = recordLength + fillWidth v
 
 -- the version of a record of n bytes
-abbrev pub versionAt : ℕ → ℕ
-versionAt n = cond (eqb n (lengthOf 2)) 2 1
+abbrev pub versionByLength : ℕ → ℕ
+versionByLength n = cond (eqb n (lengthOf 2)) 2 1
 
 -- the version that a configuration is written as: a fill of 0 as version 1
-abbrev pub versionOf : Config → ℕ
-versionOf c = cond (eqb (c .fill) 0) 1 2
+abbrev pub versionFor : Config → ℕ
+versionFor c = cond (eqb (c .fill) 0) 1 2
 
 -- R, M, V
 abbrev pub mark : List ℕ
@@ -72,9 +73,9 @@ sizeIn bs = at bs 6
 abbrev pub headBytes : ℕ → ℕ → ℕ → List ℕ
 headBytes version rank size = mark ++ little 2 version ++ rank ∷ size ∷ []
 
--- the fill, in four bytes from byte 131 on; of version 1, which ends there, it is 0
+-- the fill, from byte 131 on; of version 1, which ends there, it is 0
 abbrev pub fillIn : List ℕ → ℕ
-fillIn bs = number (part recordLength 4 bs)
+fillIn bs = number (part recordLength (fillWidth 2) bs)
 
 -- the groups, in the record's order: the tensor record's two arrays, and the configuration's in their order
 abbrev pub groups : Tensor → Config → List (List ℕ)

@@ -8,7 +8,7 @@ use Rattle.plane.specs.declared.Tensor.{Tensor}
 use Rattle.plane.specs.declared.Config.{Config}
 use Rattle.plane.specs.Planes.{badRank, badElement}
 use Rattle.faults.specs.Exactness.{Rule, whole, fromFirst}
-use Rattle.record.specs.Layout.{versionAt, versionOf}
+use Rattle.record.specs.Layout.{versionByLength, versionFor}
 use Rattle.record.specs.Records.{tensorIn, configIn, badLength, badRoom, badMark, badVersion, stray, badFill}
 
 -- the fields of a record of version v: 1, for version 2 also 2, 28, and for version 2 also 28 at dimension 0
@@ -25,8 +25,8 @@ readRules bs =
     whole 25 (badLength (length bs)) ∷
     whole 26 (badMark bs) ∷
     whole 27 (badVersion bs) ∷
-    fieldsRules (versionAt (length bs)) (tensorIn bs) (configIn bs)
+    fieldsRules (versionByLength (length bs)) (tensorIn bs) (configIn bs)
 
 -- record write, into a room of n bytes: 25, and those of the fields
 abbrev pub writeRules : Tensor → Config → ℕ → List Rule
-writeRules t c n = whole 25 (badRoom c n) ∷ fieldsRules (versionOf c) t c
+writeRules t c n = whole 25 (badRoom c n) ∷ fieldsRules (versionFor c) t c

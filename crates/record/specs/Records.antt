@@ -9,12 +9,11 @@ use Rattle.plane.specs.declared.Config.{Config}
 use Rattle.faults.specs.declared.Fault.{Fault}
 use Rattle.plane.specs.Arrays.{at, some}
 use Rattle.faults.specs.Faults.{when, _orElse_, lowest, ifFault}
-use Rattle.plane.specs.Planes.{badRank, badElement}
+use Rattle.plane.specs.Planes.{zeroTensor, badRank, badElement}
 use Rattle.plane.specs.Numbers.{little}
 use Rattle.plane.specs.Settings.{configOf, zeroConfig}
-use Rattle.plane.specs.Planes.{zeroTensor}
 use Rattle.record.specs.declared.Reading.{Reading}
-use Rattle.record.specs.Layout.{joined, fillWidth, lengthOf, versionAt, versionOf, mark, versionIn, rankIn, sizeIn, fillIn}
+use Rattle.record.specs.Layout.{joined, fillWidth, lengthOf, versionByLength, versionFor, mark, versionIn, rankIn, sizeIn, fillIn}
 use Rattle.record.specs.Layout.{headBytes, groupCount, group, width, start, fourIn, fourBytes}
 
 -- ---- The fields that bytes hold, and the bytes of fields
@@ -31,9 +30,9 @@ configIn bs = configOf (λ k. groupIn bs (2 + k)) (fillIn bs)
 -- the first seven bytes, the groups, and in version 2 the fill
 unfoldable pub recordBytes : Tensor → Config → List ℕ
 recordBytes t c =
-    headBytes (versionOf c) (t .rank) (t .«element_size») ++
+    headBytes (versionFor c) (t .rank) (t .«element_size») ++
     joined groupCount (λ k. fourBytes (width k) (group t c k)) ++
-    little (fillWidth (versionOf c)) (c .fill)
+    little (fillWidth (versionFor c)) (c .fill)
 
 -- how long a record is that begins with these bytes, by its version; too few to have one count as version 1
 unfoldable pub lengthIn : List ℕ → ℕ
@@ -47,7 +46,7 @@ badLength n = not (eqb n (lengthOf 1)) && not (eqb n (lengthOf 2))
 
 -- and of a room: not of the version that is written
 abbrev pub badRoom : Config → ℕ → Bool
-badRoom c n = not (eqb n (lengthOf (versionOf c)))
+badRoom c n = not (eqb n (lengthOf (versionFor c)))
 
 -- 26: another mark
 abbrev pub badMark : List ℕ → Bool
@@ -55,7 +54,7 @@ badMark bs = some 3 (λ k. not (eqb (at bs k) (at mark k)))
 
 -- 27: not the version of that length
 abbrev pub badVersion : List ℕ → Bool
-badVersion bs = not (eqb (versionIn bs) (versionAt (length bs)))
+badVersion bs = not (eqb (versionIn bs) (versionByLength (length bs)))
 
 -- 28: d is at or past the rank, and some group has an entry there that is not 0
 unfoldable pub stray : Tensor → Config → ℕ → Bool
@@ -78,11 +77,11 @@ readFault bs =
     when 25 0 (badLength (length bs)) orElse
     when 26 0 (badMark bs) orElse
     when 27 0 (badVersion bs) orElse
-    fieldsFault (versionAt (length bs)) (tensorIn bs) (configIn bs)
+    fieldsFault (versionByLength (length bs)) (tensorIn bs) (configIn bs)
 
 -- for a room of n bytes
 unfoldable pub writeFault : Tensor → Config → ℕ → Fault
-writeFault t c n = when 25 0 (badRoom c n) orElse fieldsFault (versionOf c) t c
+writeFault t c n = when 25 0 (badRoom c n) orElse fieldsFault (versionFor c) t c
 
 -- ---- The answers
 

@@ -7,7 +7,7 @@ use lib.ListN.{length, take}
 use Rattle.plane.specs.declared.Tensor.{Tensor}
 use Rattle.plane.specs.declared.Config.{Config}
 use Rattle.plane.specs.Arrays.{at}
-use Rattle.record.specs.Layout.{versionOf, groupCount, group, width}
+use Rattle.record.specs.Layout.{versionFor, groupCount, group, width}
 use Rattle.record.specs.Records.{recordBytes, lengthIn, fieldsFault, writeFault, reading, readOf, writtenRoom}
 
 -- what the types of the code say of the fields: arrays of four entries, and each entry fits its bytes
@@ -27,7 +27,7 @@ pub record OneWriting (bs : List ℕ) : Type 0 where
   pub tensor : Tensor
   pub config : Config
   pub fits : Fits tensor config
-  pub accepts : fieldsFault (versionOf config) tensor config .status ≡ 0
+  pub accepts : fieldsFault (versionFor config) tensor config .status ≡ 0
   pub is : recordBytes tensor config ≡ bs
   pub only : (t : Tensor) (c : Config) → Fits t c → recordBytes t c ≡ bs → (t ≡ tensor) × (c ≡ config)
 

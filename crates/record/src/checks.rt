@@ -10,7 +10,7 @@ ghost use mathlib.Core.Bool.{not};
 ghost use Prim.Native.Nat.{_≤_, _<_};
 ghost use lib.Dec.{eqb};
 ghost use Rattle.plane.specs.Arrays.{at, some};
-ghost use Rattle.plane.specs.Planes.{elementSize};
+ghost use Rattle.plane.specs.Planes.{Sized};
 ghost use Rattle.faults.specs.Faults.{lowest};
 ghost use Rattle.record.specs.Layout.{groupCount, group};
 ghost use Rattle.record.specs.Records.{stray, badFill, fieldsFault};
@@ -48,7 +48,7 @@ fn stray_fault(t: Tensor, c: Config) -> Fault
 
 // 28 of version 2: a fill of 0, or one with a byte past the element size that is not 0.
 fn fill_is_bad(size: u8, fill: u32) -> bool
-    requires { ⌜ (elementSize size ≡ 0 → ⊥) ⌝ }
+    requires { ⌜ Sized size ⌝ }
     ensures { λ r. ⌜ r ≡ badFill size fill ⌝ }
 {
     if size == 1 {
@@ -61,7 +61,7 @@ fn fill_is_bad(size: u8, fill: u32) -> bool
 }
 
 // What a record of that version refuses of its fields: 1, for version 2 also 2, 28, and for version 2 also 28 at dimension 0. Any
-// version but 2 is judged as 1 is.
+// version but 2 is judged as 1 is, which asks nothing of the fill.
 pub fn fields_fault(version: u16, tensor: Tensor, config: Config) -> Fault
     ensures { λ r. ⌜ r ≡ fieldsFault version tensor config ⌝ }
 {

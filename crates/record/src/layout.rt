@@ -6,9 +6,9 @@
 pub(crate) const MARK: [u8; 3] = [82, 77, 86];
 
 // Without a fill, and with one.
-pub(crate) const VERSION_1: u16 = 1;
+pub const VERSION_1: u16 = 1;
 
-pub(crate) const VERSION_2: u16 = 2;
+pub const VERSION_2: u16 = 2;
 
 // The bytes of a group of four-byte numbers, and of a group of single bytes.
 const WORDS: usize = 16;
@@ -18,7 +18,9 @@ const SINGLES: usize = 4;
 // Where the version, in two bytes, and the rank and the element size stand, after the mark.
 pub(crate) const VERSION_AT: usize = 3;
 
-pub(crate) const RANK: usize = VERSION_AT + 2;
+pub(crate) const VERSION_END: usize = VERSION_AT + 2;
+
+pub(crate) const RANK: usize = VERSION_END;
 
 pub(crate) const ELEMENT_SIZE: usize = RANK + 1;
 

@@ -11,6 +11,8 @@ mod writer; // a record written
 pub use checks::fields_fault;
 pub use layout::FILLED_LENGTH;
 pub use layout::LENGTH;
+pub use layout::VERSION_1;
+pub use layout::VERSION_2;
 use plane::Config;
 use plane::Tensor;
 pub use reader::read;

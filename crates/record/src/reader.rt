@@ -6,7 +6,7 @@ use crate::numbers::half;
 use crate::numbers::singles;
 use crate::numbers::word;
 use crate::numbers::words;
-use crate::versions::version_at;
+use crate::versions::version_by_length;
 use plane::Config;
 use plane::Fault;
 use plane::Tensor;
@@ -30,7 +30,7 @@ fn version_is_bad(bytes: &[u8]) -> bool
     requires { ⌜ recordLength ≤ length (now bytes) ⌝ }
     ensures { λ r. ⌜ r ≡ badVersion (now (bytes .entry)) ⌝ }
 {
-    half(bytes, layout::VERSION_AT) != version_at(bytes.len()) as u32
+    half(bytes, layout::VERSION_AT) != version_by_length(bytes.len()) as u32
 }
 
 // The tensor record, unjudged.
@@ -103,7 +103,7 @@ pub fn read(bytes: &[u8]) -> Reading
     }
     let t = tensor_in(bytes);
     let c = config_in(bytes);
-    let f = fields_fault(version_at(bytes.len()), t, c);
+    let f = fields_fault(version_by_length(bytes.len()), t, c);
     if f.status != 0 {
         return refused(f);
     }

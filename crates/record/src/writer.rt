@@ -6,7 +6,7 @@ use crate::numbers::put_singles;
 use crate::numbers::put_word;
 use crate::numbers::put_words;
 use crate::versions::length_for;
-use crate::versions::version_of;
+use crate::versions::version_for;
 use plane::Config;
 use plane::Fault;
 use plane::Tensor;
@@ -15,7 +15,7 @@ ghost use Prim.Native.Nat.{_≤_};
 ghost use lib.ListN.{length};
 ghost use lib.Seq.{sets};
 ghost use Rattle.plane.specs.Numbers.{little};
-ghost use Rattle.record.specs.Layout.{recordLength, fillWidth, lengthOf, versionOf, headBytes};
+ghost use Rattle.record.specs.Layout.{recordLength, fillWidth, lengthOf, versionFor, headBytes};
 ghost use Rattle.record.specs.Records.{writeFault, writtenRoom};
 ghost use Rattle.record.specs.Private.{tensorBytes, configAt, configBytes};
 
@@ -69,8 +69,8 @@ fn put_config(room: &mut [u8], c: Config)
 
 // The fill, where it is written.
 fn put_fill(room: &mut [u8], c: Config)
-    requires { ⌜ length (now room) ≡ lengthOf (versionOf c) ⌝ }
-    ensures { λ _. ⌜ now (room .exit) ≡ sets (now (room .entry)) recordLength (little (fillWidth (versionOf c)) (c .fill)) ⌝ }
+    requires { ⌜ length (now room) ≡ lengthOf (versionFor c) ⌝ }
+    ensures { λ _. ⌜ now (room .exit) ≡ sets (now (room .entry)) recordLength (little (fillWidth (versionFor c)) (c .fill)) ⌝ }
 {
     if c.fill == 0 {
         return;
@@ -86,7 +86,7 @@ pub fn write(tensor: Tensor, config: Config, room: &mut [u8]) -> Fault
     if room.len() != length_for(config) {
         return Fault { status: 25, dim: 0 };
     }
-    let version = version_of(config);
+    let version = version_for(config);
     let f = fields_fault(version, tensor, config);
     if f.status != 0 {
         return f;

@@ -32,7 +32,7 @@ pub(crate) fn rest(bytes: &[u8], p: usize, end: usize) -> &[u8] {
 }
 
 pub(crate) fn half(b: &Body, p: usize) -> u16
-    requires { ⌜ p ≤ 4000 ⌝ }
+    requires { ⌜ p ≤ 5000 ⌝ }
 {
     (byte(b, p) as u16) | ((byte(b, p + 1) as u16) << 8)
 }
@@ -40,9 +40,7 @@ pub(crate) fn half(b: &Body, p: usize) -> u16
 pub(crate) fn word(b: &Body, p: usize) -> u32
     requires { ⌜ p ≤ 4000 ⌝ }
 {
-    let low = (byte(b, p) as u32) | ((byte(b, p + 1) as u32) << 8);
-    let high = (byte(b, p + 2) as u32) | ((byte(b, p + 3) as u32) << 8);
-    low | (high << 16)
+    (half(b, p) as u32) | ((half(b, p + layout::HALF) as u32) << 16)
 }
 
 pub(crate) fn long(b: &Body, p: usize) -> u64

@@ -11,10 +11,10 @@ mod layout; // how many bytes each type has, and where its fields stand
 mod args; // what a call's bytes stand for
 mod answers; // what an answer's bytes are
 mod calls; // which call a number is
-mod plane_calls; // 01 to 0a
+mod plane_calls; // 01 to 0b
 mod config_calls; // 10 to 1f
 mod mover_calls; // 20 to 25
-mod record_calls; // 30 and 31
+mod record_calls; // 30, 31, and 39 to 3b
 mod list_calls; // 32 to 38
 mod table_calls; // 40 to 45
 

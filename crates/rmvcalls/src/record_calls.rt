@@ -10,22 +10,22 @@ use plane::Fault;
 
 const AFTER_TENSOR: usize = FIRST + TENSOR;
 
+// The tensor record and the configuration that follow a version.
+const VERSION_TENSOR: usize = FIRST + HALF;
+
+const VERSION_CONFIG: usize = VERSION_TENSOR + TENSOR;
+
 // 30
 pub(crate) fn read(bytes: &[u8], out: &mut Out) -> usize {
     answers::reading(out, FIRST, record::read(bytes))
 }
 
-// The tensor record and the configuration that follow a version.
-const OF_VERSION: usize = FIRST + HALF;
-
-const AFTER_VERSION: usize = OF_VERSION + TENSOR;
-
 // 3b
 fn fields_fault(b: &Body) -> Fault {
     record::fields_fault(
         args::half(b, FIRST),
-        args::tensor(b, OF_VERSION),
-        args::config(b, AFTER_VERSION),
+        args::tensor(b, VERSION_TENSOR),
+        args::config(b, VERSION_CONFIG),
     )
 }
 

@@ -6,6 +6,7 @@ use plane::Fault;
 ghost use mathlib.Core.Path.{_≡_};
 ghost use Prim.Native.Nat.{_≤_};
 ghost use lib.ListN.{length};
+ghost use Rattle.record.specs.Layout.{lengthOf};
 
 mod lines; // what is printed
 
@@ -29,8 +30,8 @@ fn moved(bytes: &[u8], source: &[u8], room: &mut [u8]) -> Answer {
 
 // Reads a record, as long as its version says, and tells how much of it there was.
 fn read_record(bytes: &mut [u8]) -> usize
-    requires { ⌜ length (now bytes) ≡ 135 ⌝ }
-    ensures { λ r. ⌜ r ≤ 135 ⌝ }
+    requires { ⌜ length (now bytes) ≡ lengthOf 2 ⌝ }
+    ensures { λ r. ⌜ r ≤ lengthOf 2 ⌝ }
 {
     let n = io::read_full(STDIN_FILENO, &mut bytes[0..record::LENGTH]);
     if n < record::LENGTH {

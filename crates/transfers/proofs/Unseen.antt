@@ -47,7 +47,7 @@ same-breaks j j′ k k′ a b =
 
 same-total : (n : ℕ) (j j′ : Job) → SameJob j j′ → jobFault n j .status ≡ 0 → totalOf j ≡ totalOf j′
 same-total n j j′ a z =
-    sym (verdict-total n j refl z) ∙ verdict-total n j′ (job-unseen n j j′ a) (sym (status (job-fault-unseen j j′ a n)) ∙ z)
+    sym (verdict-total n j refl z) ∙ verdict-total n j′ (job-unseen n j j′ (a .asked)) (sym (status (job-fault-unseen j j′ (a .asked) n)) ∙ z)
 
 -- ---- slots
 
@@ -62,12 +62,12 @@ module _ (s s′ : Slot) (a : SameSlot s s′) where
   same-parts : SameParts (s .job) (s′ .job)
   same-parts = elim (ℕ-discrete (s .state) 0) [
     | yes z ↦ record { source = ap (λ (j : Job). j .source) (a .free z); destination = ap (λ (j : Job). j .destination) (a .free z) }
-    | no b ↦ record { source = a .taken b .source; destination = a .taken b .destination }
+    | no b ↦ record { source = a .taken b .asked .source; destination = a .taken b .asked .destination }
   ]
 
   taken-sound : (n : ℕ) → (s .state ≡ 0 → ⊥) → slotSound n s ≡ slotSound n s′
   taken-sound n b =
-      let e = job-unseen n (s .job) (s′ .job) (a .taken b) in
+      let e = job-unseen n (s .job) (s′ .job) (a .taken b .asked) in
       let b′ : s′ .state ≡ 0 → ⊥ = λ z. b (a .state ∙ z) in
       let state = a .state in
       let moved = a .moved in
@@ -191,8 +191,8 @@ module _ (t t′ : Table) (a : SameTable t t′) where
   same-prepare n j j′ b =
       let first = same-open n in
       let lowest = same-lowest in
-      let job = job-fault-unseen j j′ b n in
-      let clash = same-clashes j j′ (record { source = b .source; destination = b .destination }) 4 (omega arith) in
+      let job = job-fault-unseen j j′ (b .asked) n in
+      let clash = same-clashes j j′ (record { source = b .asked .source; destination = b .asked .destination }) 4 (omega arith) in
       λ i. first i orElse when 19 0 (eqb (lowest i) 4) orElse job i orElse when 22 0 (clash i)
 
   -- ---- a slot put in its place

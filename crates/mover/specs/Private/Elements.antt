@@ -39,7 +39,7 @@ homeOf p c0 c1 c2 c3 =
     (c0 - p .d0 .pre) (p .d0 .jump) (c1 - p .d1 .pre) (p .d1 .jump)
     (c2 - p .d2 .pre) (p .d2 .jump) (c3 - p .d3 .pre) (p .d3 .jump)
 
--- the bytes of an element of padding: the first of these four
+-- the bytes of a padded element: the first of these four
 abbrev pub padding : ℕ → List ℕ → List ℕ
 padding size pad = take size (table (at pad))
 

@@ -10,7 +10,8 @@ use Rattle.mover.specs.declared.elements.Origin.{Origin}
 use Rattle.mover.specs.declared.elements.Origin.the-variants.{Inside}
 use Rattle.mover.specs.Within.{bytesOf}
 use Rattle.mover.specs.Private.Elements.{sourceBytes, summed, movedBy}
-use Rattle.mover.specs.Private.Runs.{Sized, BytesApart}
+use Rattle.plane.specs.Planes.{Sized}
+use Rattle.mover.specs.Private.Runs.{BytesApart}
 
 -- past the last byte of a source element that can be kept, and of a destination element
 unfoldable pub homeEnd : Plan → ℕ

@@ -6,7 +6,7 @@ use mathlib.Core.List.{List}
 use Prim.Native.Nat.{ℕ, zero, suc, _+_, _≤_, _<_}
 use lib.ListN.{length, take, drop}
 use lib.Seq.{sets}
-use Rattle.plane.specs.Planes.{elementSize}
+use Rattle.plane.specs.Planes.{Sized}
 use Rattle.mover.specs.declared.plan.Axis.{Axis}
 use Rattle.mover.specs.declared.plan.Plan.{Plan}
 use Rattle.mover.specs.declared.spots.Spot.{Spot}
@@ -66,10 +66,6 @@ runMoved o p s d u r =
     runStored (eitherBytes (r .kept) (sourceBytes o s d) c) (c .to) (c .stride) (c .n) d
 
 -- ---- what the leaves ask
-
--- an element size that is taken
-abbrev pub Sized : ℕ → Type 0
-Sized z = elementSize z ≡ 0 → ⊥
 
 -- n elements, the first at a and each j further, lie in l bytes
 abbrev pub Held : ℕ → ℕ → ℕ → ℕ → ℕ → Type 0

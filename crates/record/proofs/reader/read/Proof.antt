@@ -52,7 +52,7 @@ returns-4 c =
     let m = v .before .before in
     let i = m .before in
     let bs = i .before .before .args .bytes .now in
-    fields-refused bs (t .tensor-in .ensures) (f .before .before .config-in .ensures) (f .before .version-at .ensures) (f .fields-fault .ensures)
+    fields-refused bs (t .tensor-in .ensures) (f .before .before .config-in .ensures) (f .before .version-by-length .ensures) (f .fields-fault .ensures)
     (i .if1 .left) (sym (m .mark-is-bad .ensures) ∙ v .before .if2 .left) (sym (v .version-is-bad .ensures) ∙ t .before .if3 .left)
     (c .before .if4 .taken) (c .refused4 .ensures)
 
@@ -64,7 +64,7 @@ returns-5 c =
     let m = v .before .before in
     let i = m .before in
     let bs = i .before .before .args .bytes .now in
-    fields-given bs (t .tensor-in .ensures) (f .before .before .config-in .ensures) (f .before .version-at .ensures) (f .fields-fault .ensures)
+    fields-given bs (t .tensor-in .ensures) (f .before .before .config-in .ensures) (f .before .version-by-length .ensures) (f .fields-fault .ensures)
     (i .if1 .left) (sym (m .mark-is-bad .ensures) ∙ v .before .if2 .left) (sym (v .version-is-bad .ensures) ∙ t .before .if3 .left)
     (c .if4 .left)
 

@@ -1,13 +1,10 @@
 -- `record::versions::length_for` meets its contract. Assumes nothing.
-use borrow.Author.Tests.{eq-eqb, ne-eqb}
+use borrow.Author.Needs.{needs}
 use Rattle.record.proofs.versions.length_for.Statement.{statement}
 use Rattle.record.proofs.versions.length_for.Tie as tie
 
 returns : tie.Need-returns
-returns c = simp (eq-eqb _ _ (c .if1 .taken))
-
-returns-2 : tie.Need-returns-2
-returns-2 c = simp (ne-eqb _ _ (c .if1 .left))
+returns c = rw (c .length-of .ensures, c .before .version-for .ensures)
 
 pub length-for-spec : {M : Type 1} → statement M
-length-for-spec = tie.close (tie.spec returns returns-2)
+length-for-spec = tie.close (tie.spec (λ c κs. search needs) (λ c κs. search needs) returns)

@@ -15,7 +15,7 @@ returns-2 c =
     let f = c .before .before in
     let i = f .before .before in
     let a = i .before .before .before .args in
-    write-refused (a .tensor) (a .config) (a .room .now) (i .if1 .left ∙ i .before .length-for .ensures) (f .before .version-of .ensures)
+    write-refused (a .tensor) (a .config) (a .room .now) (i .if1 .left ∙ i .before .length-for .ensures) (f .before .version-for .ensures)
     (f .fields-fault .ensures) (c .if2 .taken)
 
 returns-3 : tie.Need-returns-3
@@ -27,7 +27,7 @@ returns-3 c =
     let f = s .before .before in
     let i = f .before .before in
     let a = i .before .before .before .args in
-    write-given (a .tensor) (a .config) (a .room .now) (i .if1 .left ∙ i .before .length-for .ensures) (f .before .version-of .ensures)
+    write-given (a .tensor) (a .config) (a .room .now) (i .if1 .left ∙ i .before .length-for .ensures) (f .before .version-for .ensures)
     (f .fields-fault .ensures) (s .if2 .left) (t .put-tensor .ensures) (p .put-config .ensures) (g .put-fill .ensures)
 
 pub write-spec : {M : Type 1} → statement M
