@@ -1,7 +1,7 @@
 //! What a long comparison has to meet: each call with everything that it can give and with arguments of a wrong length,
 //! each state of a slot in each call that takes a table, each case of a count, of a destination offset, of a list, of
-//! elements that are moved and of a fill, each reason for which a line is no call, and each case of `rmvshow` and
-//! `rmvlist`.
+//! elements that are moved, of a fill and of a record, each reason for which a line is no call, and each case of
+//! `rmvshow` and `rmvlist`.
 
 use crate::calls::{Call, Calls, Gives};
 use crate::count_cases;
@@ -9,6 +9,7 @@ use crate::fill_cases;
 use crate::lines::{unhex, NO_CALL, NO_DIGITS, NO_NEWLINE, TOO_LONG, WRONG_LENGTH};
 use crate::list_cases;
 use crate::offset_cases;
+use crate::record_cases;
 use crate::show;
 use crate::show_list;
 use crate::stretch_cases;
@@ -157,18 +158,31 @@ fn cases(calls: &Calls, call: &Call) -> Vec<String> {
 
 /// What the numbers alone do not tell apart.
 fn cases_told_apart(call: &Call) -> Vec<String> {
-    let cases = [count_cases::cases, offset_cases::cases, list_cases::cases, stretch_cases::cases, fill_cases::cases];
+    let cases = [
+        count_cases::cases,
+        offset_cases::cases,
+        list_cases::cases,
+        stretch_cases::cases,
+        fill_cases::cases,
+        record_cases::cases,
+    ];
     cases.iter().flat_map(|cases| cases(call.number)).collect()
 }
 
 /// Those of them that a call with these bytes is.
 fn cases_met(bytes: &[u8], expected: &[u8]) -> Vec<String> {
-    let met = [count_cases::met, offset_cases::met, list_cases::met, stretch_cases::met, fill_cases::met];
+    let met =
+        [count_cases::met, offset_cases::met, list_cases::met, stretch_cases::met, fill_cases::met, record_cases::met];
     met.iter().flat_map(|met| met(bytes, expected)).collect()
 }
 
 /// Whether a case holds, and its name.
 pub type Case<S = String> = (bool, S);
+
+/// A case whose name is typed in.
+pub fn case(holds: bool, name: &str) -> Case {
+    (holds, name.to_string())
+}
 
 /// What is counted, if it holds.
 pub fn holding<S: ToString>(all: &[Case<S>]) -> Vec<String> {

@@ -19,6 +19,7 @@ mod offset_cases;
 mod random;
 mod ready_made;
 mod record;
+mod record_cases;
 mod report;
 mod show;
 mod show_list;

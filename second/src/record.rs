@@ -16,7 +16,7 @@ pub const VERSION: u16 = 1;
 /// "Record version 2 is version 1 plus those 4 bytes at the end, 135 in all."
 pub const LENGTH_WITH_FILL: usize = 135;
 pub const VERSION_WITH_FILL: u16 = 2;
-const MARK: &[u8; 3] = b"RMV";
+pub const MARK: &[u8; 3] = b"RMV";
 
 /// At which byte of the record each thing starts: "mark `RMV`, 16-bit version 1, rank byte, element size byte; then
 /// seven groups of four 32-bit numbers (shape, stride, offset, size, step, destination offset, destination stride);

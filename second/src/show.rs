@@ -1,8 +1,8 @@
 //! What the program `rmvshow` prints.
 
-use crate::coverage::{holding, named, Case};
+use crate::coverage::{case, holding, named, Case};
 use crate::moves::{judge, move_plane, plan, total, Answer};
-use crate::record::{self, Reading};
+use crate::record::{self, at, length_in, Reading, LENGTH, LENGTH_WITH_FILL, MARK};
 use crate::tensor::{source_of, Fault};
 use std::fmt::Write;
 
@@ -18,7 +18,7 @@ const NUMBERS: &[u8] = &[0, 25, 26, 27, 1, 28, 2, 3, 4, 5, 6, 7, 8, 9, 11, 12, 1
 /// The record, and what is read of the source. "The program takes the record's length from its version, 131 if that
 /// isn't 2", whatever its mark; of an input that ends earlier it takes what is there.
 fn take(input: &[u8]) -> (Reading, &[u8]) {
-    let (bytes, source) = input.split_at(input.len().min(record::length_in(input)));
+    let (bytes, source) = input.split_at(input.len().min(length_in(input)));
     (record::read(bytes), &source[..source.len().min(SOURCE_LIMIT)])
 }
 
@@ -84,34 +84,46 @@ pub fn met(input: &[u8], number: u8) -> Vec<String> {
 
 /// Each case of an input whose record is longer, and whether this is one.
 fn of_version_2(input: &[u8], number: u8) -> Vec<Case> {
-    let two = record::length_in(input) == record::LENGTH_WITH_FILL;
-    let length = input.len();
-    let (marked, is_whole) = (input.starts_with(b"RMV"), length >= record::LENGTH_WITH_FILL);
-    let between = (record::LENGTH + 1..record::LENGTH_WITH_FILL).contains(&length);
-    // A version of 258, say, is not 2: 131 bytes are read.
-    let low_byte_alone = !two && input.get(record::at::VERSION) == Some(&2);
+    let two = is_version_2(input);
     let (reading, _) = take(input);
-    let span = source_of(&reading.tensor).span as usize;
     let mut all = Vec::new();
     for size in [1, 2, 4] {
         let padded = two && number == 0 && reading.tensor.element_size == size && pads(&reading);
         all.push((padded, format!("{size}-byte padding")));
     }
+    let is_whole = input.len() >= LENGTH_WITH_FILL;
     for refused in [26, 1, 2, 28, 5] {
         all.push((two && is_whole && number == refused, format!("{refused} of version 2")));
     }
-    for cut in 132..=134 {
+    let span = source_of(&reading.tensor).span as usize;
+    let not_read = span == SOURCE_LIMIT + 1 && input.len() >= LENGTH_WITH_FILL + span;
+    all.push(case(two && number == 0 && span == SOURCE_LIMIT, "source just read behind version 2"));
+    all.push(case(two && number == 5 && not_read, "source not read behind version 2"));
+    all.extend(of_cut(input, number));
+    all
+}
+
+fn is_version_2(input: &[u8]) -> bool {
+    length_in(input) == LENGTH_WITH_FILL
+}
+
+/// A longer record that is cut short: one with its mark is 27 after 131 bytes, and 25 elsewhere.
+fn of_cut(input: &[u8], number: u8) -> Vec<Case> {
+    let (two, length) = (is_version_2(input), input.len());
+    let marked = input.starts_with(MARK);
+    let between = LENGTH + 1..LENGTH_WITH_FILL;
+    let is_between = between.contains(&length);
+    // A version of 258, say, is not 2: 131 bytes are read.
+    let low_byte_alone = !two && input.get(at::VERSION) == Some(&2);
+    let mut all = vec![
+        case(two && number == 27 && length == LENGTH, "version 2 cut after 131 bytes"),
+        case(two && number == 25 && length < LENGTH, "version 2 cut before"),
+        case(two && !marked && number == 25 && is_between, "version 2 cut behind another mark"),
+        case(low_byte_alone && number == 27 && is_between, "version 2 in its low byte alone"),
+    ];
+    for cut in between {
         all.push((two && marked && number == 25 && length == cut, format!("version 2 cut after {cut} bytes")));
     }
-    let others = [
-        (two && number == 27 && length == record::LENGTH, "version 2 cut after 131 bytes"),
-        (two && number == 25 && length < record::LENGTH, "version 2 cut before"),
-        (two && !marked && number == 25 && between, "version 2 cut behind another mark"),
-        (low_byte_alone && number == 27 && between, "version 2 in its low byte alone"),
-        (two && number == 0 && span == SOURCE_LIMIT, "source just read behind version 2"),
-        (two && number == 5 && span == SOURCE_LIMIT + 1 && length >= 135 + span, "source not read behind version 2"),
-    ];
-    all.extend(others.map(|(holds, case)| (holds, case.to_string())));
     all
 }
 

@@ -36,7 +36,7 @@ const BOTH: &str = "padded on both sides";
 /// Of rows, in a move by itself and in one within a memory, with elements of each size. Wider, thinned and turned are
 /// each met by itself.
 const OF_ROW: [&str; 7] = [SIDE_BY_SIDE, WIDER, THINNED, TURNED, BEFORE, BEHIND, BOTH];
-const SIZES: [usize; 3] = [1, 2, 4];
+pub const SIZES: [usize; 3] = [1, 2, 4];
 
 /// All cases of the call of this number.
 pub fn cases(number: u8) -> Vec<String> {

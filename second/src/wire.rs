@@ -36,6 +36,11 @@ pub trait Wire: Sized {
     fn places(name: &str, out: &mut Vec<Place>);
 }
 
+/// Reads the value that the bytes begin with; one of zeros where they are too few.
+pub fn begin<T: Wire + Default>(bytes: &[u8]) -> T {
+    T::read(&mut Reader::new(bytes)).unwrap_or_default()
+}
+
 /// Reads a value that takes all of the bytes, no fewer and no more.
 pub fn whole<T: Wire>(bytes: &[u8]) -> Option<T> {
     let mut reader = Reader::new(bytes);

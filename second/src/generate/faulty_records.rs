@@ -6,7 +6,7 @@ use super::records::clear_tail;
 use super::Work;
 use crate::moves::Config;
 use crate::random::Random;
-use crate::record::{at, length_for, pack_as, VERSION, VERSION_WITH_FILL};
+use crate::record::{at, length_for, pack_as, LENGTH, LENGTH_WITH_FILL, VERSION, VERSION_WITH_FILL};
 use crate::tensor::Tensor;
 use crate::wire::{Memory, Rest};
 
@@ -68,12 +68,13 @@ fn with_fill(work: &mut Work, element_size: u8, fill: u32, besides: Besides) {
 pub fn every_length(work: &mut Work) {
     for fill in [0, 0x11] {
         let (tensor, config) = draw_fields(&mut work.random, 1, fill, Besides::Nothing);
-        for length in [130, 131, 132, 133, 134, 135, 136] {
+        for length in LENGTH - 1..=LENGTH_WITH_FILL + 1 {
             let room = work.random.bytes(length);
             work.call(0x31, &(tensor, config, Memory(room)));
             let mut bytes = pack_as(VERSION_WITH_FILL, &tensor, &config);
             bytes.resize(length, 7);
-            let versions: &[u16] = if length == 131 || length == 135 { &[0, 1, 2, 3, 257, 258, 512] } else { &[1, 2] };
+            let has_version = [LENGTH, LENGTH_WITH_FILL].contains(&length);
+            let versions: &[u16] = if has_version { &[0, 1, 2, 3, 257, 258, 512] } else { &[1, 2] };
             for version in versions {
                 bytes[at::VERSION..at::RANK].copy_from_slice(&version.to_le_bytes());
                 work.call(0x30, &Rest(bytes.clone()));
@@ -86,21 +87,21 @@ pub fn every_length(work: &mut Work) {
 pub fn every_pair(work: &mut Work) {
     for (element_size, besides) in [(1, Besides::Rank), (3, Besides::Nothing), (1, Besides::Tail)] {
         let (tensor, config) = draw_fields(&mut work.random, element_size, 0x11, besides);
-        let room = work.random.bytes(131);
+        let room = work.random.bytes(LENGTH);
         work.call(0x31, &(tensor, config, Memory(room)));
-        let good = pack_as(VERSION_WITH_FILL, &tensor, &config);
+        let record = pack_as(VERSION_WITH_FILL, &tensor, &config);
         let with = |length: usize, changes: &[(usize, u8)]| {
-            let mut bytes = good[..length].to_vec();
+            let mut bytes = record[..length].to_vec();
             for &(place, value) in changes {
                 bytes[place] = value;
             }
             Rest(bytes)
         };
         let mark = (at::MARK + work.random.index(3), 0);
-        work.call(0x30, &with(134, &[mark]));
-        work.call(0x30, &with(135, &[mark]));
-        work.call(0x30, &with(135, &[mark, (at::VERSION, 1)]));
-        work.call(0x30, &with(135, &[(at::VERSION, 1)]));
+        work.call(0x30, &with(LENGTH_WITH_FILL - 1, &[mark]));
+        work.call(0x30, &with(LENGTH_WITH_FILL, &[mark]));
+        work.call(0x30, &with(LENGTH_WITH_FILL, &[mark, (at::VERSION, 1)]));
+        work.call(0x30, &with(LENGTH_WITH_FILL, &[(at::VERSION, 1)]));
     }
 }
 

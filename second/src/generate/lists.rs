@@ -376,14 +376,15 @@ pub fn every_pair(work: &mut Work) {
     }
 }
 
-/// A fill by itself, with each number that comes before it, and with an element size that nobody asks for.
+/// A fill by itself and with each number that comes before it: one whose bytes differ, also with an element size that
+/// nobody asks for, and one whose used bytes are 0.
 pub fn every_fill(work: &mut Work) {
     let faults = [25, 26, 30, 38, 1, 28];
     for number in faults.map(Some).into_iter().chain([None]) {
-        for element_size in [1, 3] {
+        let telling = telling_fill(&mut work.random);
+        for (element_size, fill) in [(1, telling), (3, telling), (1, 0x4433_2200), (2, 0x4433_0000)] {
             let mut asked = draw_append(&mut work.random);
-            asked.tensor.element_size = element_size;
-            asked.config.fill = telling_fill(&mut work.random);
+            (asked.tensor.element_size, asked.config.fill) = (element_size, fill);
             if let Some(number) = number {
                 spoil_append(&mut work.random, &mut asked, number);
             }

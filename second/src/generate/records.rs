@@ -93,8 +93,8 @@ pub fn record_of(random: &mut Random, tensor: &Tensor, config: &Config) -> Vec<u
     bytes
 }
 
-/// Lengths of no record, and those of both versions, one of which is wrong.
-const WRONG_LENGTHS: [usize; 14] = [0, 1, 3, 5, 130, 131, 131, 132, 133, 134, 135, 135, 136, 262];
+/// Lengths of records and rooms: those of both versions, and others around them and far off.
+const LENGTHS: [usize; 14] = [0, 1, 3, 5, 130, 131, 131, 132, 133, 134, 135, 135, 136, 262];
 
 /// Leaves half of the records as they are.
 fn damage(random: &mut Random, bytes: &mut Vec<u8>) {
@@ -104,7 +104,7 @@ fn damage(random: &mut Random, bytes: &mut Vec<u8>) {
             2..=3 => set_version(random, bytes),
             4..=5 => set(bytes, at::RANK, any_u8(random)),
             6 => set(bytes, at::ELEMENT_SIZE, any_u8(random)),
-            7 => bytes.resize(random.pick(&WRONG_LENGTHS), 0),
+            7 => bytes.resize(random.pick(&LENGTHS), 0),
             _ => {
                 let place = random.index(bytes.len());
                 set(bytes, place, any_u8(random));
@@ -135,7 +135,7 @@ pub fn read(work: &mut Work) {
 pub fn write(work: &mut Work) {
     let random = &mut work.random;
     let (tensor, config) = draw_fields(random);
-    let length = if random.chance(80) { length_for(&config) } else { random.pick(&WRONG_LENGTHS) };
+    let length = if random.chance(80) { length_for(&config) } else { random.pick(&LENGTHS) };
     let mut room = random.bytes(length);
     work.call(0x31, &(tensor, config, Memory(room.clone())));
     crate::record::write(&tensor, &config, &mut room);

@@ -34,8 +34,8 @@ fn draw_at(random: &mut Random, wanted: &[String], place: usize) -> Vec<u8> {
     input
 }
 
-fn draw(random: &mut Random) -> Vec<u8> {
-    let at_limits = random.chance(20);
+/// A move whose fields a record can have, mostly.
+fn draw_move(random: &mut Random, at_limits: bool) -> Drawn {
     let mut drawn = match random.below(10) {
         _ if at_limits => draw_at_limits(random),
         0 => good(random, Scale::Large),
@@ -53,6 +53,12 @@ fn draw(random: &mut Random) -> Vec<u8> {
     if random.chance(90) {
         clear_unused(&drawn.tensor, &mut drawn.config);
     }
+    drawn
+}
+
+fn draw(random: &mut Random) -> Vec<u8> {
+    let at_limits = random.chance(20);
+    let drawn = draw_move(random, at_limits);
     let mut input = if !at_limits && random.chance(20) {
         record_of(random, &drawn.tensor, &drawn.config)
     } else {

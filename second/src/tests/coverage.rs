@@ -69,6 +69,7 @@ fn what_was_not_met_is_named() {
         "35 place_after: 39",
         "36 first_two: 2 records",
         "38 append: 38 and 1",
+        "38 append: 27 by a fill whose used bytes are 0 and others not",
         "38 append: 28 and 27 by a fill",
         "39 length_in: version 2 behind another mark",
         "45 poll: 18 by the fill of a free slot",

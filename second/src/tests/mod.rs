@@ -10,11 +10,13 @@ mod framing;
 mod lists;
 mod offsets;
 mod readings;
+mod record_cases;
 mod records;
 mod stretches;
 mod transfers;
 mod versions;
 
+use crate::calls::Calls;
 use crate::moves::{move_plane, Answer, Config};
 use crate::ready_made::copy;
 use crate::tensor::Tensor;
@@ -47,6 +49,17 @@ pub fn moved(tensor: &Tensor, config: &Config, source: &[u8]) -> Vec<u8> {
     let answer = move_plane(tensor, config, source, &mut destination);
     assert_eq!(answer.status, 0);
     destination
+}
+
+/// All cases of a call by its number, and those that a call is by its bytes and its answer.
+pub type Cases = (fn(u8) -> Vec<String>, fn(&[u8], &[u8]) -> Vec<String>);
+
+/// The cases that a call with these arguments is.
+pub fn cases_of_call((cases, met): Cases, number: u8, arguments: Vec<u8>) -> String {
+    let answer = (Calls::all().find(number).unwrap().answer)(&arguments).unwrap();
+    let met = met(&[vec![number], arguments].concat(), &answer);
+    assert!(met.iter().all(|case| cases(number).contains(case)));
+    met.join("; ")
 }
 
 pub fn refused(status: u8, dimension: u8) -> Answer {
