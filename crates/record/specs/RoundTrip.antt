@@ -39,7 +39,7 @@ ReadBack =
     (t : Tensor) (c : Config) → Fits t c → (room : List ℕ) → writeFault t c (length room) .status ≡ 0 →
     readOf (writtenRoom t c room) ≡ reading t c
 
--- what is read and accepted, a write accepts too, and writes over any room that is as long as the same bytes
+-- what is read and accepted, a write accepts too, and over any room that is as long it writes the same bytes
 abbrev pub WriteBack : Type 0
 WriteBack =
     (bs room : List ℕ) → Bytes bs → readOf bs .status ≡ 0 → length room ≡ length bs →
