@@ -134,8 +134,8 @@ const POLL: Gives = Gives::FirstTwo(&[
 ]);
 /// Two things that are no refusals: no and yes.
 const NO_YES: Gives = Gives::First(&[0, 1]);
-/// "1, 2, 4, or 0 for others"
-const SIZES: Gives = Gives::First(&[0, 1, 2, 4]);
+/// "1, 2, 4, or 0 for others", and "3 for 3"
+const SIZES: Gives = Gives::First(&[0, 1, 2, 3, 4]);
 
 /// A call that takes `A` and answers `R`.
 fn call<A: Wire + 'static, R: Wire + 'static>(number: u8, name: &'static str, gives: Gives, work: fn(A) -> R) -> Call {

@@ -1,7 +1,7 @@
 //! What a long comparison has to meet: each call with everything that it can give and with arguments of a wrong length,
-//! each state of a slot in each call that takes a table, each case of a count, of a destination offset, of a list, of
-//! elements that are moved, of a fill and of a record, each reason for which a line is no call, and each case of
-//! `rmvshow` and `rmvlist`.
+//! each state of a slot in each call that takes a table, each case of an element size, of a count, of a destination
+//! offset, of a list, of elements that are moved, of a fill and of a record, each reason for which a line is no call, and
+//! each case of `rmvshow` and `rmvlist`.
 
 use crate::calls::{Call, Calls, Gives};
 use crate::count_cases;
@@ -12,6 +12,7 @@ use crate::offset_cases;
 use crate::record_cases;
 use crate::show;
 use crate::show_list;
+use crate::size_cases;
 use crate::stretch_cases;
 use crate::transfers::{DONE, FREE, PREPARED, RUNNING};
 
@@ -159,6 +160,7 @@ fn cases(calls: &Calls, call: &Call) -> Vec<String> {
 /// What the numbers alone do not tell apart.
 fn cases_told_apart(call: &Call) -> Vec<String> {
     let cases = [
+        size_cases::cases,
         count_cases::cases,
         offset_cases::cases,
         list_cases::cases,
@@ -171,8 +173,15 @@ fn cases_told_apart(call: &Call) -> Vec<String> {
 
 /// Those of them that a call with these bytes is.
 fn cases_met(bytes: &[u8], expected: &[u8]) -> Vec<String> {
-    let met =
-        [count_cases::met, offset_cases::met, list_cases::met, stretch_cases::met, fill_cases::met, record_cases::met];
+    let met = [
+        size_cases::met,
+        count_cases::met,
+        offset_cases::met,
+        list_cases::met,
+        stretch_cases::met,
+        fill_cases::met,
+        record_cases::met,
+    ];
     met.iter().flat_map(|met| met(bytes, expected)).collect()
 }
 

@@ -7,8 +7,8 @@ use crate::list::list_fault;
 use crate::moves::{total, Config, Plan};
 use crate::record::has_unused_byte;
 use crate::record_cases::used_bytes_are_0;
-use crate::stretch_cases::{moved, Moved, SIZES};
-use crate::tensor::{check_element_size, Tensor};
+use crate::stretch_cases::{moved, Moved};
+use crate::tensor::{check_element_size, Tensor, ELEMENT_SIZES};
 use crate::transfers::{sound, Table, FREE};
 use crate::wire::{begin, Memory};
 
@@ -60,23 +60,25 @@ fn all(number: u8, arguments: &[u8], status: u8) -> Vec<Case> {
     }
 }
 
-/// Nobody but a record refuses anything for an unused byte that is not 0.
+/// Nobody but a record refuses anything for an unused byte that is not 0. An element of 4 bytes leaves none unused.
 fn of_unused((tensor, config): &(Tensor, Config), status: u8) -> Vec<Case> {
     let unused = status == 0 && has_unused_byte(config.fill, tensor.element_size);
-    [1, 2].map(|size| (unused && tensor.element_size == size, format!("unused byte of size {size}"))).to_vec()
+    let smaller = ELEMENT_SIZES.into_iter().filter(|&size| size < 4);
+    smaller.map(|size| (unused && tensor.element_size == size, format!("unused byte of size {size}"))).collect()
 }
 
-/// Padding by a fill whose four bytes differ: other bytes of it, or the same ones in another order, are something else,
-/// and elements of 1 and 2 bytes leave a byte unused that is not 0.
+/// Padding by a fill whose four bytes differ: other bytes of it, or the same ones in another order, are something else.
+/// Elements of fewer than 4 bytes leave a byte unused that is not 0.
 fn of_padding(number: u8, arguments: &[u8], status: u8) -> Vec<Case> {
     let moved = if status == 0 { moved(number, arguments) } else { None };
     let fill = moved.as_ref().map_or(0, |moved| moved.config.fill);
     let padded = moved.as_ref().is_some_and(is_padded);
     let has_gaps = moved.as_ref().is_some_and(|moved| has_gaps(&moved.plan));
     let mut all = Vec::new();
-    for size in SIZES {
-        let of_size = moved.as_ref().is_some_and(|moved| moved.plan.element_size == size);
-        all.push((padded && all_differ(fill) && of_size, format!("{size}-byte padding")));
+    for size in ELEMENT_SIZES {
+        let of_size = moved.as_ref().is_some_and(|moved| moved.plan.element_size == size as usize);
+        let is_telling = all_differ(fill) && (size == 4 || has_unused_byte(fill, size));
+        all.push((padded && is_telling && of_size, format!("{size}-byte padding")));
     }
     all.push(case(padded && fill == 0, "padding of fill 0"));
     all.push(case(padded && fill != 0 && has_gaps, "padding and gaps"));

@@ -1,6 +1,8 @@
 //! The helpers: element size, element count, sub-tensor.
 
-use crate::tensor::{check_rank, check_shapes, check_tensor, narrow, refuse, refuse_lowest, span, Fault, Tensor};
+use crate::tensor::{
+    check_rank, check_shapes, check_tensor, narrow, refuse, refuse_lowest, span, Fault, Tensor, ELEMENT_SIZES,
+};
 use crate::wire::wire_struct;
 
 wire_struct! {
@@ -19,11 +21,12 @@ wire_struct! {
     SubTensor { status: u8, dimension: u8, tensor: Tensor, byte: u64 }
 }
 
-/// "Element size: 1, 2, 4, or 0 for others."
+/// "Element size: 1, 2, 4, or 0 for others." "The element size helper answers 3 for 3."
 pub fn element_size(size: u8) -> u8 {
-    match size {
-        1 | 2 | 4 => size,
-        _ => 0,
+    if ELEMENT_SIZES.contains(&size) {
+        size
+    } else {
+        0
     }
 }
 

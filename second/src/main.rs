@@ -23,6 +23,7 @@ mod record_cases;
 mod report;
 mod show;
 mod show_list;
+mod size_cases;
 mod stretch_cases;
 mod tensor;
 #[cfg(test)]

@@ -8,7 +8,8 @@ use crate::record::{
     fields_fault, has_entry, has_unused_byte, unpack, version_for, version_in, LENGTH, LENGTH_WITH_FILL, MARK, VERSION,
     VERSION_WITH_FILL,
 };
-use crate::tensor::{check_element_size, check_rank, Tensor};
+use crate::size_cases::BESIDE;
+use crate::tensor::{check_element_size, check_rank, Tensor, ELEMENT_SIZES};
 use crate::wire::{begin, Memory, Rest};
 
 const READ: u8 = 0x30;
@@ -17,10 +18,6 @@ const RECORD_AT: u8 = 0x34;
 const LENGTH_IN: u8 = 0x39;
 const LENGTH_FOR: u8 = 0x3a;
 const FIELDS_FAULT: u8 = 0x3b;
-
-const SIZES: [u8; 3] = [1, 2, 4];
-/// The bytes of a fill that an element of this size leaves unused.
-const UNUSED: [(u8, usize); 5] = [(1, 1), (1, 2), (1, 3), (2, 2), (2, 3)];
 
 /// All cases of the call of this number.
 pub fn cases(number: u8) -> Vec<String> {
@@ -162,6 +159,10 @@ fn of_fields(fields: &Fields) -> Vec<Case> {
         case(fields.two(28) && past && unused, "version 2: 28 past the rank and by an unused byte"),
         case(version_1 && bad_size, "version 1: element size that 2 refuses"),
     ];
+    for size in BESIDE {
+        let holds = fields.two(2) && fields.tensor.element_size == size;
+        all.push((holds, format!("version 2: 2 by {size}")));
+    }
     all.extend(of_unused_bytes(fields));
     all.extend(of_accepted(fields));
     all
@@ -172,11 +173,13 @@ fn of_unused_bytes(fields: &Fields) -> Vec<Case> {
     let (size, fill) = (fields.tensor.element_size, fields.config.fill);
     let refused = fields.two(28) && !fields.past() && fields.unused();
     let mut all = vec![case(refused && used_bytes_are_0(fill, size), "version 2: 28 where the used bytes are 0")];
-    for (of, place) in UNUSED {
-        let bytes = fill.to_le_bytes();
+    let bytes = fill.to_le_bytes();
+    for of in ELEMENT_SIZES {
         let alone = bytes[of as usize..].iter().filter(|&&byte| byte != 0).count() == 1;
-        let holds = refused && size == of && alone && bytes[place] != 0;
-        all.push((holds, format!("version 2: 28 by byte {place} of size {of}")));
+        for place in of as usize..4 {
+            let holds = refused && size == of && alone && bytes[place] != 0;
+            all.push((holds, format!("version 2: 28 by byte {place} of size {of}")));
+        }
     }
     all
 }
@@ -185,7 +188,7 @@ fn of_unused_bytes(fields: &Fields) -> Vec<Case> {
 fn of_accepted(fields: &Fields) -> Vec<Case> {
     let bytes = fields.config.fill.to_le_bytes();
     let mut all = vec![case(fields.two(0) && bytes[0] == 0, "version 2: lowest byte 0")];
-    for of in SIZES {
+    for of in ELEMENT_SIZES {
         // Its highest used byte is not 0, so that a smaller size would refuse it.
         let holds = fields.two(0) && fields.tensor.element_size == of && bytes[of as usize - 1] != 0;
         all.push((holds, format!("version 2: size {of}")));
@@ -202,7 +205,7 @@ fn of_fill_0(fields: &Fields) -> Vec<Case> {
         case(two(2) && !past, "version 2: 2 and 28 by fill 0"),
         case(two(28) && past, "version 2: 28 past the rank and by fill 0"),
     ];
-    for of in SIZES {
+    for of in ELEMENT_SIZES {
         let holds = two(28) && !past && fields.tensor.element_size == of;
         all.push((holds, format!("version 2: 28 by fill 0, size {of}")));
     }

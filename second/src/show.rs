@@ -3,7 +3,7 @@
 use crate::coverage::{case, holding, named, Case};
 use crate::moves::{judge, move_plane, plan, total, Answer};
 use crate::record::{self, at, length_in, Reading, LENGTH, LENGTH_WITH_FILL, MARK};
-use crate::tensor::{source_of, Fault};
+use crate::tensor::{source_of, Fault, ELEMENT_SIZES};
 use std::fmt::Write;
 
 /// "up to 16,384 source bytes from standard input (the rest unread)"
@@ -87,7 +87,7 @@ fn of_version_2(input: &[u8], number: u8) -> Vec<Case> {
     let two = is_version_2(input);
     let (reading, _) = take(input);
     let mut all = Vec::new();
-    for size in [1, 2, 4] {
+    for size in ELEMENT_SIZES {
         let padded = two && number == 0 && reading.tensor.element_size == size && pads(&reading);
         all.push((padded, format!("{size}-byte padding")));
     }

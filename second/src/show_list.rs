@@ -3,7 +3,8 @@
 use crate::list::{list_fault, record_bytes, record_count, ListReader, Numbered};
 use crate::moves::room;
 use crate::record::{version_in, VERSION_WITH_FILL};
-use std::fmt::Write;
+use crate::tensor::ELEMENT_SIZES;
+use std::fmt::{Display, Write};
 
 /// "a list of up to 1,000 records, 131,007 bytes"
 pub const INPUT_LIMIT: usize = 131_007;
@@ -68,13 +69,19 @@ fn line(numbered: &Numbered) -> String {
     out + "\n"
 }
 
-/// All numbers that it can tell, and of a record what one of them does not tell.
+/// All numbers that it can tell, and of a record and a room question what they do not tell.
 pub fn numbers() -> Vec<String> {
     let mut cases = vec![VERSION_2.to_string()];
     for (of, numbers) in [("list", LIST), ("record", RECORD), ("room", ROOM)] {
         cases.extend(numbers.iter().map(|number| format!("{of} {number}")));
     }
+    cases.extend(ELEMENT_SIZES.map(room_for));
     cases
+}
+
+/// A room question that is answered with span and need.
+fn room_for(size: impl Display) -> String {
+    format!("room for {size}-byte elements")
 }
 
 /// All that a long comparison has to meet.
@@ -97,8 +104,10 @@ pub fn met(input: &[u8], expected: &str) -> Vec<String> {
             ["record", _, "status", number, ..] => met.push(format!("record {number}")),
             _ => met.push(line.to_string()),
         }
-        if let Some(room) = words.iter().position(|&word| word == "room") {
-            met.push(format!("room {}", words[room + 1]));
+        let behind = |name: &str| words.iter().position(|&word| word == name).map(|place| words[place + 1]);
+        if let (Some(size), Some(room)) = (behind("element"), behind("room")) {
+            met.push(format!("room {room}"));
+            met.extend((room == "0").then(|| room_for(size)));
         }
     }
     if (0..record_count(input)).any(|k| version_in(record_bytes(input, k)) == Some(VERSION_WITH_FILL)) {

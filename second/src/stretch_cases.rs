@@ -4,7 +4,7 @@
 use crate::coverage::holding;
 use crate::job::Job;
 use crate::moves::{coordinates, plan, source_place, Config, Plan};
-use crate::tensor::Tensor;
+use crate::tensor::{Tensor, ELEMENT_SIZES};
 use crate::transfers::Table;
 use crate::wire::{whole, Counted, Memory};
 
@@ -36,7 +36,6 @@ const BOTH: &str = "padded on both sides";
 /// Of rows, in a move by itself and in one within a memory, with elements of each size. Wider, thinned and turned are
 /// each met by itself.
 const OF_ROW: [&str; 7] = [SIDE_BY_SIDE, WIDER, THINNED, TURNED, BEFORE, BEHIND, BOTH];
-pub const SIZES: [usize; 3] = [1, 2, 4];
 
 /// All cases of the call of this number.
 pub fn cases(number: u8) -> Vec<String> {
@@ -45,8 +44,8 @@ pub fn cases(number: u8) -> Vec<String> {
         cases.extend(OF_STRETCH.map(String::from));
     }
     if tells_rows(number) {
-        for size in SIZES {
-            cases.extend(OF_ROW.map(|case| of_size(size, case)));
+        for size in ELEMENT_SIZES {
+            cases.extend(OF_ROW.map(|case| of_size(size.into(), case)));
         }
     }
     cases

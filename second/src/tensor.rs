@@ -20,6 +20,9 @@ wire_struct! {
     Source { status: u8, dimension: u8, stride: [u32; 4], span: u64 }
 }
 
+/// All element sizes that there are: "Element size 1, 2 or 4", and 3, which "2 no longer covers". Cases and draws go by
+/// this list.
+pub const ELEMENT_SIZES: [u8; 4] = [1, 2, 3, 4];
 /// "Shape entries 1 to 65,535"; destination offsets, steps and extents have the same limit.
 pub const EXTENT_LIMIT: u64 = 65_535;
 /// The limit of strides and of a table's memory.
@@ -48,9 +51,9 @@ pub fn check_rank(rank: u8) -> Result<usize, Fault> {
     Ok(rank as usize)
 }
 
-/// 2: "Element size 1, 2 or 4."
+/// 2: "Element size 1, 2 or 4." "2 no longer covers 3."
 pub fn check_element_size(element_size: u8) -> Result<(), Fault> {
-    if ![1, 2, 4].contains(&element_size) {
+    if !ELEMENT_SIZES.contains(&element_size) {
         return refuse(2, 0);
     }
     Ok(())

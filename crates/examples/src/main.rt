@@ -120,7 +120,7 @@ fn set_in() {
     run(b"F", t, c, &[1u8, 2, 3, 4], &mut [7u8; 4]);
 }
 
-// H: all at once. I: elements of two bytes. J: refused for its element size, before its shape. And a plane of rank 3 turned.
+// H: all at once. I: elements of two bytes. J: of three bytes, refused for its shape. And a plane of rank 3 turned.
 fn more() {
     let twelve = TWELVE;
     let turn = ready_made::permute(2, [1, 0, 0, 0]);
@@ -156,6 +156,16 @@ fn more() {
         &twelve,
         &mut [0u8; 12],
     );
+}
+
+// Pixels of three bytes: turned; and with a fill of 0x332211 before each row.
+fn pixels() {
+    let twelve = TWELVE;
+    let t = compact(2, 3, [2, 2, 0, 0]);
+    let turn = ready_made::permute(2, [1, 0, 0, 0]);
+    run(b"pixels", t, turn.config, &twelve, &mut [0u8; 12]);
+    let c = copy_of(2).with_pre([0, 1, 0, 0]).with_fill(0x332211);
+    run(b"pixels", t, c, &twelve, &mut [0u8; 18]);
 }
 
 // K: a row of a plane as a tensor of its own. A copy of it reads the source from its byte on.
@@ -236,6 +246,7 @@ fn main() {
     pad();
     set_in();
     more();
+    pixels();
     sub();
     run_only();
     two_at_once();

@@ -182,6 +182,15 @@ filledTransfer = record {
   config = withFill (withPost (withPre defaults (one 1)) (one 1)) 7;
 }
 
+-- (2) in elements of three bytes: from byte 0 on, to byte 6 on
+abbrev pub pixelTransfer : Job
+pixelTransfer = record {
+  source = record { start = 0; length = 6 };
+  destination = record { start = 6; length = 6 };
+  tensor = compact 1 3 (one 2);
+  config = defaults;
+}
+
 -- the bytes 1..n
 abbrev pub upTo : ℕ → List ℕ
 upTo zero = []
@@ -262,9 +271,9 @@ table =
     -- element size 2, (3), bytes 1..6, offset 1: 3 4 5 6
     I shows move (compact 1 2 (one 3)) (withOffset defaults (one 1)) (upTo 6) (over 4)
     (acceptedMove 1 2 (2 ∷ 0 ∷ 0 ∷ 0 ∷ []) (1 ∷ 0 ∷ 0 ∷ 0 ∷ []) 4) (3 ∷ 4 ∷ 5 ∷ 6 ∷ []) ∷
-    -- element size 3 with shape (0,70000): 2. A with perm (0,0): 6 at dimension 1
+    -- element size 3 with shape (0,70000): 3 at dimension 0. A with perm (0,0): 6 at dimension 1
     J shows move (compact 2 3 (two 0 70000)) defaults (upTo 6) (over 3)
-    (refused (fault 2 0)) (99 ∷ 99 ∷ 99 ∷ []) ∷
+    (refused (fault 3 0)) (99 ∷ 99 ∷ 99 ∷ []) ∷
     J shows move (compact 2 1 (two 2 3)) (withPerm defaults (two 0 0)) (upTo 6) (over 6)
     (refused (fault 6 1)) (99 ∷ 99 ∷ 99 ∷ 99 ∷ 99 ∷ 99 ∷ []) ∷
     -- sub-tensor of (3,4) at (1,2), sizes (1,2), rank 1: shape (2), stride 1, byte 6. The source is 1..12
@@ -393,6 +402,39 @@ table =
     prepare filledTransfer answers (0 ∷ 0 ∷ 0 ∷ []) ∷
     [])
     (5 ∷ 7 ∷ 5 ∷ 7 ∷ []) ∷
+    -- ---- pixels of three bytes
+    -- (2,2), bytes 1..12, perm (1,0): 1 2 3 7 8 9 4 5 6 10 11 12
+    besides shows move (compact 2 3 (two 2 2)) (withPerm defaults (two 1 0)) (upTo 12) (over 12)
+    (acceptedMove 2 3 (2 ∷ 2 ∷ 0 ∷ 0 ∷ []) (2 ∷ 1 ∷ 0 ∷ 0 ∷ []) 12)
+    (1 ∷ 2 ∷ 3 ∷ 7 ∷ 8 ∷ 9 ∷ 4 ∷ 5 ∷ 6 ∷ 10 ∷ 11 ∷ 12 ∷ []) ∷
+    -- without permutation, pre (0,1) with fill 0x332211, which is 3,351,057: 0x11 0x22 0x33, which are 17 34 51, before each row
+    besides shows move (compact 2 3 (two 2 2)) (withFill (withPre defaults (two 0 1)) 3351057) (upTo 12) (over 18)
+    (acceptedMove 2 3 (2 ∷ 3 ∷ 0 ∷ 0 ∷ []) (3 ∷ 1 ∷ 0 ∷ 0 ∷ []) 18)
+    (17 ∷ 34 ∷ 51 ∷ 1 ∷ 2 ∷ 3 ∷ 4 ∷ 5 ∷ 6 ∷ 17 ∷ 34 ∷ 51 ∷ 7 ∷ 8 ∷ 9 ∷ 10 ∷ 11 ∷ 12 ∷ []) ∷
+    -- one pixel, one before it and one after: the fourth byte of the fill goes nowhere
+    besides shows move (compact 1 3 (one 1)) (withFill (withPost (withPre defaults (one 1)) (one 1)) 67305985) (9 ∷ 8 ∷ 7 ∷ []) (over 9)
+    (acceptedMove 1 3 (3 ∷ 0 ∷ 0 ∷ 0 ∷ []) (1 ∷ 0 ∷ 0 ∷ 0 ∷ []) 9) (1 ∷ 2 ∷ 3 ∷ 9 ∷ 8 ∷ 7 ∷ 1 ∷ 2 ∷ 3 ∷ []) ∷
+    -- (2,1), bytes 1..6, by strides (2,1): a gap of a pixel stays, and nine bytes are enough. Into eight: 13. From five: 5
+    besides shows move (compact 2 3 (two 2 1)) (withDstStride defaults (two 2 1)) (upTo 6) (over 9)
+    (acceptedMove 2 3 (2 ∷ 1 ∷ 0 ∷ 0 ∷ []) (2 ∷ 1 ∷ 0 ∷ 0 ∷ []) 9) (1 ∷ 2 ∷ 3 ∷ 99 ∷ 99 ∷ 99 ∷ 4 ∷ 5 ∷ 6 ∷ []) ∷
+    besides shows move (compact 2 3 (two 2 1)) (withDstStride defaults (two 2 1)) (upTo 6) (over 8)
+    (refused (fault 13 0)) (over 8) ∷
+    besides shows move (compact 2 3 (two 2 1)) (withDstStride defaults (two 2 1)) (upTo 5) (over 9)
+    (refused (fault 5 0)) (over 9) ∷
+    -- the second row of (2,2) as a sub-tensor starts at byte 2 x 3
+    besides shows sub (compact 2 3 (two 2 2)) (cut (two 1 0) (two 1 2) 1) (upTo 12)
+    (acceptedSub 1 3 (2 ∷ 0 ∷ 0 ∷ 0 ∷ []) (1 ∷ 0 ∷ 0 ∷ 0 ∷ []) 6) (7 ∷ 8 ∷ 9 ∷ 10 ∷ 11 ∷ 12 ∷ []) ∷
+    -- as a transfer of (2), after a step of one element: three bytes are in place, and the rest is untouched
+    besides shows transfers (upTo 6 ++ over 6)
+    (prepare pixelTransfer answers (0 ∷ 0 ∷ 0 ∷ []) ∷
+    start 0 answers (0 ∷ []) ∷
+    step 0 1 answers (0 ∷ 1 ∷ []) ∷
+    poll 0 answers (0 ∷ 2 ∷ 1 ∷ []) ∷
+    [])
+    (upTo 6 ++ (1 ∷ 2 ∷ 3 ∷ 99 ∷ 99 ∷ 99 ∷ [])) ∷
+    -- the next above 4, and 0: J's shape with either is 2, which comes before 3
+    besides shows room (compact 2 5 (two 0 70000)) defaults (record { answer = refused (fault 2 0); span = 0 }) ∷
+    besides shows room (compact 2 0 (two 0 70000)) defaults (record { answer = refused (fault 2 0); span = 0 }) ∷
     -- ---- lists
     -- a list of no records; past the last it is 39, and 39 again
     besides shows list (headOf 0) 0 0 (noRecord ∷ noRecord ∷ []) ∷

@@ -13,7 +13,7 @@ use Rattle.mover.specs.Private.Elements.{sourceBytes}
 use Rattle.mover.specs.Private.Adding.{along}
 use Rattle.mover.specs.Private.Runs.{runStored, keptBytes, runCopied, Held, Readable, Writable}
 use Rattle.mover.proofs.Places.{apart-part}
-use Rattle.plane.proofs.Sizes.{sized-some}
+use Rattle.plane.proofs.Bounds.{element-small}
 use Rattle.mover.proofs.Bytes.{copied-one, sized-one, source-long, copy-more}
 use Rattle.mover.proofs.Adding.{along-none, along-next, along-on}
 
@@ -107,7 +107,7 @@ pub record Block (o : Origin) (s d : List ℕ) (c : Course) : Type 0 where
 sided-block : (o : Origin) (s d : List ℕ) (at to : ℕ) (pad : List ℕ) (z n : ℕ) → at < 2 ^ 64 → to < 2 ^ 64 → length s + length d < 2 ^ 64
     → Writable d (sided at to pad z n) → Readable o s d (sided at to pad z n) → Block o s d (sided at to pad z n)
 sided-block o s d at to pad z n fa ft f w r =
-    let p = sized-some z (w .sized) in
+    let p = element-small z (w .sized) .0 in
     let v = sourceBytes o s d in
     let long : length v < 2 ^ 64 = omega (arith, source-long o s d) in
     let room : length d < 2 ^ 64 = omega arith in

@@ -11,7 +11,7 @@ use lib.ListN.{length, getD, set, take, drop, length-take, length-drop}
 use lib.Seq.{sets, getD-set-other, ext-getD, length-take-le, getD-take, take-suc, getD-drop}
 use Rattle.mover.specs.declared.elements.Origin.{Origin}
 use Rattle.mover.specs.declared.elements.Origin.the-variants.{Lent, Inside}
-use Rattle.mover.specs.Private.Elements.{sourceBytes, padding}
+use Rattle.mover.specs.Private.Elements.{sourceBytes}
 use Rattle.plane.specs.Planes.{Sized}
 
 -- what is stored elsewhere leaves a byte as it was
@@ -45,25 +45,13 @@ module _ (d s : List ℕ) (at to : ℕ) where
   pub copied-two : at + 2 ≤ length s → set (set d to (getD s at 0)) (to + 1) (getD s (at + 1) 0) ≡ sets d to (take 2 (drop at s))
   copied-two h = rw (copied-one (omega arith)) (copy-more d s at to 1 (omega arith))
 
-  copied-three : at + 3 ≤ length s
+  pub copied-three : at + 3 ≤ length s
       → set (set (set d to (getD s at 0)) (to + 1) (getD s (at + 1) 0)) (to + 2) (getD s (at + 2) 0) ≡ sets d to (take 3 (drop at s))
   copied-three h = rw (copied-two (omega arith)) (copy-more d s at to 2 (omega arith))
 
   pub copied-four : at + 4 ≤ length s
       → set (set (set (set d to (getD s at 0)) (to + 1) (getD s (at + 1) 0)) (to + 2) (getD s (at + 2) 0)) (to + 3) (getD s (at + 3) 0) ≡ sets d to (take 4 (drop at s))
   copied-four h = rw (copied-three (omega arith)) (copy-more d s at to 3 (omega arith))
-
--- the first of four bytes
-module _ (d : List ℕ) (to : ℕ) (four : List ℕ) where
-  pub padded-two : set (set d to (getD four 0 0)) (to + 1) (getD four 1 0) ≡ sets d to (padding 2 four)
-  padded-two = rw add-one
-
-  pub padded-four : set (set (set (set d to (getD four 0 0)) (to + 1) (getD four 1 0)) (to + 2) (getD four 2 0)) (to + 3) (getD four 3 0) ≡ sets d to (padding 4 four)
-  padded-four =
-      let p : to + 1 ≡ suc to = omega arith in
-      let q : to + 2 ≡ suc (suc to) = omega arith in
-      let r : to + 3 ≡ suc (suc (suc to)) = omega arith in
-      rw (p, q, r)
 
 pub length-take-most : (i : ℕ) (l : List ℕ) → length (take i l) ≤ i
 length-take-most i l = rw length-take (min-le-left i (length l))

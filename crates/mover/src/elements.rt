@@ -57,6 +57,12 @@ fn copy(src: &[u8], dst: &mut [u8], origin: Origin, at: usize, to: usize, size: 
         return;
     }
     let c = byte(src, dst, origin, at + 2);
+    if size == 3 {
+        dst[to] = a;
+        dst[to + 1] = b;
+        dst[to + 2] = c;
+        return;
+    }
     let d = byte(src, dst, origin, at + 3);
     dst[to] = a;
     dst[to + 1] = b;
@@ -94,6 +100,9 @@ fn bytes(size: usize, n: usize) -> usize
     }
     if size == 2 {
         return n + n;
+    }
+    if size == 3 {
+        return n + n + n;
     }
     n + n + n + n
 }
@@ -136,6 +145,9 @@ fn pad(dst: &mut [u8], to: usize, size: usize, four: [u8; 4])
         return;
     }
     dst[to + 2] = four[2];
+    if size == 3 {
+        return;
+    }
     dst[to + 3] = four[3];
 }
 

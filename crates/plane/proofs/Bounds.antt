@@ -6,14 +6,12 @@ use native.Mathlib.Decide.{ℕ-discrete}
 use native.Mathlib.Omega.{arith}
 use mathlib.Core.Path.{_≡_, refl, subst}
 use mathlib.Core.Bool.{Bool, true, false, _||_}
-use mathlib.Core.Logic.{⊎-elim}
-use borrow.Author.Tests.{eqb-true}
-use lib.Dec.{eqb}
+use lib.Dec.{ltb}
 use Rattle.plane.specs.Arrays.{at, sum, product, or0}
-use Rattle.plane.specs.Planes.{elementSize, shapeAt, strideAt, inner, resolved, srcStrides, span}
+use Rattle.plane.specs.Planes.{Sized, shapeAt, strideAt, inner, resolved, srcStrides, span}
 use Rattle.plane.specs.Moves.{dstExtents, dstStrides, need}
 use Rattle.plane.specs.Helpers.{elements, countFault, countOf}
-use Rattle.faults.proofs.Bools.{either-cases, in-range}
+use Rattle.faults.proofs.Bools.{in-range}
 use Rattle.faults.proofs.Faults.{or-clear, when-clear}
 use Rattle.plane.proofs.Arrays.{firsts-at, product-same}
 use Rattle.plane.specs.Claims.{InnerFits, SpanFits, NeedFits, ExtentsFit, mostCount, CountFits, CountBounded}
@@ -47,16 +45,12 @@ product-most n f l h = let w = product-power n f h in let v = powers n l in omeg
     powers (suc (suc (suc (suc (suc n))))) l = absurd (not-suc-le-zero (le-of-suc-le-suc (le-of-suc-le-suc (le-of-suc-le-suc (le-of-suc-le-suc l)))))
 
 -- an element size that is taken is 1 to 4
-pub element-small : (z : ℕ) → (elementSize z ≡ 0 → ⊥) → (1 ≤ z) × (z ≤ 4)
-element-small z h = by-test (eqb z 1 || eqb z 2 || eqb z 4) refl
+pub element-small : (z : ℕ) → Sized z → (1 ≤ z) × (z ≤ 4)
+element-small z h = by-test (ltb z 1 || ltb 4 z) refl
   where
-    by-test : (b : Bool) → (eqb z 1 || eqb z 2 || eqb z 4) ≡ b → (1 ≤ z) × (z ≤ 4)
-    by-test false e = absurd (h (simp e))
-    by-test true e =
-        ⊎-elim
-        (λ r. ⊎-elim (λ q. let p = eqb-true z 1 q in omega arith) (λ q. let p = eqb-true z 2 q in omega arith) (either-cases _ _ r))
-        (λ q. let p = eqb-true z 4 q in omega arith)
-        (either-cases _ _ e)
+    by-test : (b : Bool) → (ltb z 1 || ltb 4 z) ≡ b → (1 ≤ z) × (z ≤ 4)
+    by-test true e = absurd (h (simp e))
+    by-test false e = in-range z 1 4 e
 
 -- 1 and n terms, each at most m, times an element size
 box-fits : (n : ℕ) (f : ℕ → ℕ) (z : ℕ) → n ≤ 4 → z ≤ 4 → ((d : ℕ) → d < n → f d ≤ 131070 * 2147483647) → (1 + sum n f) * z < 2 ^ 64

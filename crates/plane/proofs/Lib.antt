@@ -10,7 +10,6 @@ pub mod SubTensors
 pub mod Arrays
 pub mod Configs
 pub mod Numbers
-pub mod Sizes
 pub mod Resolving
 pub mod Falling
 pub mod Rules

@@ -17,9 +17,9 @@ zeroTensor = record { rank = 0; «element_size» = 0; shape = zeros; stride = ze
 abbrev pub badRank : ℕ → Bool
 badRank n = ltb n 1 || ltb 4 n
 
--- an element size that is taken, and 0 for any other
+-- an element size is 1 to 4; 0 for any other
 abbrev pub elementSize : ℕ → ℕ
-elementSize z = cond (eqb z 1 || eqb z 2 || eqb z 4) z 0
+elementSize z = cond (ltb z 1 || ltb 4 z) 0 z
 
 -- one that is taken
 abbrev pub Sized : ℕ → Type 0

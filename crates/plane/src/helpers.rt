@@ -10,15 +10,11 @@ ghost use Rattle.plane.specs.Arrays.{at, product};
 ghost use Rattle.plane.specs.Planes.{elementSize};
 ghost use Rattle.plane.specs.Helpers.{noCount, countOf};
 
-// The element size in bytes, and 0 for one that is not taken.
+// The element size in bytes, 1 to 4, and 0 for one that is not taken.
 pub fn element_size(size: u8) -> u8
     ensures { λ r. ⌜ r ≡ elementSize size ⌝ }
 {
-    if (size == 1) | (size == 2) | (size == 4) {
-        size
-    } else {
-        0
-    }
+    if (size < 1) | (4 < size) { 0 } else { size }
 }
 
 fn refused(f: Fault) -> Count

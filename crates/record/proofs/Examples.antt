@@ -53,14 +53,33 @@ pub fill-wide : readOf (set bytesFilled 132 1) ≡ noReading (fault 28 0)
 unfolding readOf readFault tensorIn configIn start sum number fieldsFault stray when _orElse_ lowest first some
 fill-wide = refl
 
--- 2: version 2 looks at the element size, version 1 does not
-pub size-3 : readOf (set bytesFilled 6 3) ≡ noReading (fault 2 0)
-unfolding readOf readFault tensorIn configIn start sum number fieldsFault stray when _orElse_ lowest first some
-size-3 = refl
+-- elements of three bytes with a fill of 0x332211, whose three bytes are all used; a fourth byte is 28
+abbrev pub tensorThree : Tensor
+tensorThree = record { rank = 2; «element_size» = 3; shape = 2 ∷ 3 ∷ 0 ∷ 0 ∷ []; stride = zeros }
 
-pub size-3-plain : readOf (set bytesA 6 3) .status ≡ 0
+abbrev pub bytesThree : List ℕ
+bytesThree = set (set bytesA 3 2) 6 3 ++ (17 ∷ 34 ∷ 51 ∷ 0 ∷ [])
+
+pub written-three : writtenRoom tensorThree (withFill configA 3351057) (replicate 135 9) ≡ bytesThree
+unfolding writtenRoom writeFault fieldsFault stray recordBytes joined little when _orElse_ lowest first some
+written-three = refl
+
+pub read-three : readOf bytesThree ≡ reading tensorThree (withFill configA 3351057)
 unfolding readOf readFault tensorIn configIn start sum number fieldsFault stray when _orElse_ lowest first some
-size-3-plain = refl
+read-three = refl
+
+pub fill-fourth : readOf (set bytesThree 134 1) ≡ noReading (fault 28 0)
+unfolding readOf readFault tensorIn configIn start sum number fieldsFault stray when _orElse_ lowest first some
+fill-fourth = refl
+
+-- 2: version 2 looks at the element size, version 1 does not
+pub size-5 : readOf (set bytesFilled 6 5) ≡ noReading (fault 2 0)
+unfolding readOf readFault tensorIn configIn start sum number fieldsFault stray when _orElse_ lowest first some
+size-5 = refl
+
+pub size-5-plain : readOf (set bytesA 6 5) .status ≡ 0
+unfolding readOf readFault tensorIn configIn start sum number fieldsFault stray when _orElse_ lowest first some
+size-5-plain = refl
 
 -- 27: version 1 with the length of version 2, and the other way round; 25: between the two lengths
 pub plain-long : readOf (set bytesFilled 3 1) ≡ noReading (fault 27 0)

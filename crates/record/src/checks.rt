@@ -52,10 +52,13 @@ fn fill_is_bad(size: u8, fill: u32) -> bool
     ensures { λ r. ⌜ r ≡ badFill size fill ⌝ }
 {
     if size == 1 {
-        return (fill == 0) | (256 <= fill);
+        return (fill == 0) | (0x100 <= fill);
     }
     if size == 2 {
-        return (fill == 0) | (65536 <= fill);
+        return (fill == 0) | (0x10000 <= fill);
+    }
+    if size == 3 {
+        return (fill == 0) | (0x1000000 <= fill);
     }
     fill == 0
 }

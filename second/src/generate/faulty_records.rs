@@ -7,11 +7,13 @@ use super::Work;
 use crate::moves::Config;
 use crate::random::Random;
 use crate::record::{at, length_for, pack_as, LENGTH, LENGTH_WITH_FILL, VERSION, VERSION_WITH_FILL};
-use crate::tensor::Tensor;
+use crate::size_cases::BESIDE;
+use crate::tensor::{Tensor, ELEMENT_SIZES};
 use crate::wire::{Memory, Rest};
 
-/// No fill, the used bytes of each element size, and each byte that an element size leaves unused.
-const FILLS: [u32; 8] = [0, 0x11, 0x2211, 0x2200, 0x0033_0000, 0x0033_0011, 0x4400_0011, 0x4433_2211];
+/// No fill, the used bytes of each element size, and each byte that an element size leaves unused, also by itself.
+const FILLS: [u32; 10] =
+    [0, 0x11, 0x2211, 0x2200, 0x0033_0000, 0x0033_0011, 0x0033_2211, 0x4400_0000, 0x4400_0011, 0x4433_2211];
 
 /// Another fault of the fields.
 #[derive(Clone, Copy)]
@@ -35,9 +37,9 @@ fn draw_fields(random: &mut Random, element_size: u8, fill: u32, besides: Beside
     (drawn.tensor, drawn.config)
 }
 
-/// Each fill with each element size and one that 2 refuses; some of them with another fault.
+/// Each fill with each element size and with those beside them, which 2 refuses; some of them with another fault.
 pub fn every_fill(work: &mut Work) {
-    for element_size in [1, 2, 4, 3] {
+    for element_size in ELEMENT_SIZES.into_iter().chain(BESIDE) {
         for fill in FILLS {
             with_fill(work, element_size, fill, Besides::Nothing);
         }
@@ -48,7 +50,7 @@ pub fn every_fill(work: &mut Work) {
     }
     // What version 2 refuses, by the element size and by the fill, is nothing to any other version.
     for version in [0, VERSION, 3, 258, 512u16] {
-        for (element_size, fill) in [(3, 0x11), (1, 0x2211)] {
+        for (element_size, fill) in [(5, 0x11), (1, 0x2211)] {
             let (tensor, config) = draw_fields(&mut work.random, element_size, fill, Besides::Nothing);
             work.call(0x3b, &(version, tensor, config));
         }
@@ -85,7 +87,7 @@ pub fn every_length(work: &mut Work) {
 
 /// Two faults at once, the first of which is of the length, the mark or the version.
 pub fn every_pair(work: &mut Work) {
-    for (element_size, besides) in [(1, Besides::Rank), (3, Besides::Nothing), (1, Besides::Tail)] {
+    for (element_size, besides) in [(1, Besides::Rank), (5, Besides::Nothing), (1, Besides::Tail)] {
         let (tensor, config) = draw_fields(&mut work.random, element_size, 0x11, besides);
         let room = work.random.bytes(LENGTH);
         work.call(0x31, &(tensor, config, Memory(room)));

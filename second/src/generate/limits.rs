@@ -8,7 +8,7 @@ use crate::moves::room;
 use crate::offset_cases::without_offsets;
 use crate::random::Random;
 use crate::ready_made::copy;
-use crate::tensor::{source_of, Tensor, EXTENT_LIMIT, LIMIT};
+use crate::tensor::{source_of, Tensor, ELEMENT_SIZES, EXTENT_LIMIT, LIMIT};
 
 /// The limit, one less, or one more.
 fn beside(random: &mut Random, limit: u64) -> u64 {
@@ -20,7 +20,7 @@ const ENOUGH: u64 = 1 << 56;
 
 /// A plain copy of a small plane, turned or not.
 fn small_copy(random: &mut Random, rank: usize) -> Drawn {
-    let mut tensor = Tensor { rank: rank as u8, element_size: random.pick(&[1, 2, 4]), ..Tensor::default() };
+    let mut tensor = Tensor { rank: rank as u8, element_size: random.pick(&ELEMENT_SIZES), ..Tensor::default() };
     for d in 0..rank {
         tensor.shape[d] = random.between(1, 3) as u32;
     }
@@ -144,7 +144,7 @@ pub fn extreme(random: &mut Random) -> Drawn {
         return extreme_row(random);
     }
     let rank = random.between(1, 4) as usize;
-    let mut tensor = Tensor { rank: rank as u8, element_size: random.pick(&[1, 2, 4]), ..Tensor::default() };
+    let mut tensor = Tensor { rank: rank as u8, element_size: random.pick(&ELEMENT_SIZES), ..Tensor::default() };
     let mut config = copy(rank as u8).config;
     for d in 0..rank {
         tensor.shape[d] = if d == 0 { random.pick(&[65_280, 65_534, 65_535]) } else { 1 };
@@ -159,7 +159,7 @@ pub fn extreme(random: &mut Random) -> Drawn {
 
 /// The largest offset and extent in a row: (65,535 + 65,535) x 16,384 is just within the limit of strides.
 fn extreme_row(random: &mut Random) -> Drawn {
-    let tensor = Tensor { rank: 2, element_size: random.pick(&[1, 2, 4]), shape: [65_535; 4], stride: [0; 4] };
+    let tensor = Tensor { rank: 2, element_size: random.pick(&ELEMENT_SIZES), shape: [65_535; 4], stride: [0; 4] };
     let mut config = copy(2).config;
     let offset = random.pick(&[EXTENT_LIMIT, EXTENT_LIMIT, EXTENT_LIMIT - 1, EXTENT_LIMIT + 1]);
     let stride = random.pick(&[16_384, 16_384, 16_385]);
@@ -182,7 +182,7 @@ pub fn vast(random: &mut Random) -> Drawn {
         [65_535, 65_535, 1, 32_768],
     ]);
     let rank = if shape[3] == 0 { 3 } else { 4 };
-    let tensor = Tensor { rank, element_size: random.pick(&[1, 2, 4]), shape, ..Tensor::default() };
+    let tensor = Tensor { rank, element_size: random.pick(&ELEMENT_SIZES), shape, ..Tensor::default() };
     let config = copy(rank).config;
     with_lengths(random, tensor, config)
 }

@@ -382,7 +382,8 @@ pub fn every_fill(work: &mut Work) {
     let faults = [25, 26, 30, 38, 1, 28];
     for number in faults.map(Some).into_iter().chain([None]) {
         let telling = telling_fill(&mut work.random);
-        for (element_size, fill) in [(1, telling), (3, telling), (1, 0x4433_2200), (2, 0x4433_0000)] {
+        let used_are_0 = [(1, 0x4433_2200), (2, 0x4433_0000), (3, 0x4400_0000)];
+        for (element_size, fill) in [(1, telling), (5, telling)].into_iter().chain(used_are_0) {
             let mut asked = draw_append(&mut work.random);
             (asked.tensor.element_size, asked.config.fill) = (element_size, fill);
             if let Some(number) = number {

@@ -15,6 +15,7 @@ mod offsets;
 mod planes;
 mod records;
 mod shows;
+mod sizes;
 mod spoil;
 mod stretches;
 mod values;
@@ -125,15 +126,18 @@ pub fn calls(count: usize, seed: u64) -> Vec<u8> {
     input
 }
 
-/// What is drawn once in a run: lines of wrong lengths, the longest lines, records and lists spoiled in every way, and
-/// fills where none may be.
+/// What is drawn once in a run: lines of wrong lengths, the longest lines, the largest numbers, elements of each size,
+/// records and lists spoiled in every way, and fills where none may be.
 fn once(work: &mut Work) {
     frames::wrong_lengths(work);
     frames::longest(work);
     moving::above_extent_limit(work);
     moving::largest_offset(work);
+    numbers::largest_count(work);
     jobs::above_extent_limit(work);
     histories::beyond_steps(work);
+    sizes::every_size(work);
+    sizes::every_row(work);
     faulty_records::every_fill(work);
     faulty_records::every_length(work);
     faulty_records::every_pair(work);

@@ -8,7 +8,7 @@ use super::Work;
 use crate::helpers::SubConfig;
 use crate::job::Part;
 use crate::random::Random;
-use crate::tensor::{source_of as source_of_tensor, Fault, Tensor, EXTENT_LIMIT};
+use crate::tensor::{source_of as source_of_tensor, Fault, Tensor, ELEMENT_SIZES, EXTENT_LIMIT};
 use crate::wire::Rest;
 
 /// A move at any scale, spoiled or not.
@@ -52,7 +52,7 @@ pub fn judge(work: &mut Work) {
 
 pub fn element_size(work: &mut Work) {
     let random = &mut work.random;
-    let size = if random.chance(50) { random.pick(&[1, 2, 4]) } else { any_u8(random) };
+    let size = if random.chance(50) { random.pick(&ELEMENT_SIZES) } else { any_u8(random) };
     work.call(0x04, &size);
 }
 
@@ -110,6 +110,14 @@ fn draw_counted(random: &mut Random) -> Tensor {
         tensor.rank = random.pick(&[0, 0, 5, 6, 255]);
     }
     tensor
+}
+
+/// "Four shapes of 65,535 multiply to 18,445,618,199,572,250,625", from each dimension on.
+pub fn largest_count(work: &mut Work) {
+    let tensor = Tensor { rank: 4, element_size: 1, shape: [EXTENT_LIMIT as u32; 4], stride: [0; 4] };
+    for start in 0..4u32 {
+        work.call(0x05, &(tensor, start));
+    }
 }
 
 /// The calls of a sub-tensor: the numbers, and those over a source if it is short enough to be lent.

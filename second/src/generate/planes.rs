@@ -4,7 +4,7 @@ use super::values::{any_fill, any_u32s, any_u8s};
 use crate::moves::{extents, kept_counts, room, Config};
 use crate::random::Random;
 use crate::ready_made::copy;
-use crate::tensor::{wide, Tensor, EXTENT_LIMIT, LIMIT};
+use crate::tensor::{wide, Tensor, ELEMENT_SIZES, EXTENT_LIMIT, LIMIT};
 
 #[derive(Clone, Copy, PartialEq)]
 pub enum Scale {
@@ -72,7 +72,7 @@ fn draw(random: &mut Random, scale: Scale) -> Drawn {
 
 fn draw_tensor(random: &mut Random, scale: Scale) -> Tensor {
     let rank = random.between(1, 4) as usize;
-    let mut tensor = Tensor { rank: rank as u8, element_size: random.pick(&[1, 2, 4]), ..Tensor::default() };
+    let mut tensor = Tensor { rank: rank as u8, element_size: random.pick(&ELEMENT_SIZES), ..Tensor::default() };
     // Entries at or past the rank: 0 or anything.
     if random.chance(25) {
         tensor.shape = any_u32s(random);

@@ -91,7 +91,7 @@ fn cut(random: &mut Random, input: &mut Vec<u8>) {
 
 /// A source of just as many bytes as are read, or more; a destination that just fits, or doesn't.
 fn draw_at_limits(random: &mut Random) -> Drawn {
-    let mut tensor = Tensor { rank: 1, element_size: random.pick(&[1, 1, 1, 2, 4]), ..Tensor::default() };
+    let mut tensor = Tensor { rank: 1, element_size: random.pick(&[1, 1, 1, 2, 3, 4]), ..Tensor::default() };
     let mut config = copy(1).config.with_fill(any_fill(random));
     let more = random.pick(&[0, 0, 1]);
     if random.chance(50) {

@@ -2,7 +2,7 @@
 
 use super::offsets::{put_offset, Bound};
 use super::planes::Drawn;
-use super::values::{any_u32, any_u64, any_u8, around, WRONG_RANKS};
+use super::values::{any_u32, any_u64, any_u8, around, WRONG_RANKS, WRONG_SIZES};
 use crate::offset_cases::without_offsets;
 use crate::random::Random;
 use crate::tensor::{check_tensor, inner_product, wide, EXTENT_LIMIT, LIMIT};
@@ -74,7 +74,7 @@ pub fn spoil(random: &mut Random, drawn: &mut Drawn, number: u64, d: usize, lent
     let config = &mut drawn.config;
     match number {
         1 => drawn.tensor.rank = random.pick(&WRONG_RANKS),
-        2 => drawn.tensor.element_size = random.pick(&[0, 3, 5, 6, 7, 8, 16, 255]),
+        2 => drawn.tensor.element_size = random.pick(&WRONG_SIZES),
         3 => drawn.tensor.shape[d] = random.pick(&[0, 65_536, 65_537, 1 << 31, u32::MAX]),
         4 => spoil_source_stride(random, drawn, d),
         5 => drawn.source = shorter(random, drawn.source),

@@ -1,7 +1,7 @@
 //! Single numbers: the values at which a mistake is likely, and any others.
 
 use crate::random::Random;
-use crate::tensor::Tensor;
+use crate::tensor::{Tensor, ELEMENT_SIZES};
 
 const EDGES: [u64; 22] = [
     0,
@@ -67,6 +67,18 @@ pub fn any_rank(random: &mut Random) -> u8 {
     }
 }
 
+/// Element sizes that are refused, most often those just beside the ones that are not.
+pub const WRONG_SIZES: [u8; 10] = [0, 0, 5, 5, 6, 7, 8, 16, 128, 255];
+
+/// Mostly an element size, else one that is refused.
+fn any_element_size(random: &mut Random) -> u8 {
+    if random.chance(60) {
+        random.pick(&ELEMENT_SIZES)
+    } else {
+        random.pick(&WRONG_SIZES)
+    }
+}
+
 pub fn any_u32s(random: &mut Random) -> [u32; 4] {
     [0; 4].map(|_| any_u32(random))
 }
@@ -100,7 +112,7 @@ pub fn telling_fill(random: &mut Random) -> u32 {
 pub fn any_tensor(random: &mut Random) -> Tensor {
     Tensor {
         rank: any_rank(random),
-        element_size: random.pick(&[0, 1, 1, 2, 2, 3, 4, 4, 8, 255]),
+        element_size: any_element_size(random),
         shape: any_u32s(random),
         stride: any_u32s(random),
     }

@@ -48,9 +48,13 @@ fn what_was_not_met_is_named() {
         "00 version: made",
         "02 room: 12",
         "03 judge: 12 too large at 0",
+        "03 judge: 13 by a byte with 3-byte elements",
+        "04 element_size: 0 for 5",
         "05 element_count: the most",
+        "06 sub_tensor: 3-byte sub-tensor from inside",
         "20 move_plane: 12 past the row at 3",
-        "20 move_plane: 4-byte row thinned",
+        "20 move_plane: 3 with 3-byte elements",
+        "20 move_plane: 3-byte row thinned",
         "20 move_plane: 2-byte padding",
         "22 advance: past the end of a slab",
         "24 sub_part: 15",
@@ -58,11 +62,14 @@ fn what_was_not_met_is_named() {
         "41 prepare: ff04",
         "43 step: slot in no state",
         "43 step: begins in mid-row",
+        "43 step: 3-byte elements kept",
         "45 poll: running",
         "no call: ff02",
         "rmvshow: 13",
         "rmvshow: version 2 cut after 133 bytes",
+        "rmvshow: 3-byte padding",
         "30 record::read: 27 of 135 bytes, version 1",
+        "30 record::read: version 2: 28 by byte 3 of size 3",
         "31 record::write: 25 of 131 bytes, version 2",
         "33 record_count: 30",
         "34 record_at: 39 where k x 131 wraps",
@@ -76,6 +83,7 @@ fn what_was_not_met_is_named() {
         "rmvlist: room 12",
         "rmvlist: 1000 records",
         "rmvlist: record of version 2",
+        "rmvlist: room for 3-byte elements",
     ] {
         assert!(missing.contains(&case.to_string()), "{case}");
     }
@@ -95,7 +103,7 @@ fn a_number_that_a_call_can_not_give_is_named() {
     let mut coverage = Coverage::new(&calls);
     // "never gives 5 or 13"
     coverage.call(&calls, b"02", &[0x02, 5]);
-    coverage.call(&calls, b"0403", &[0x04, 3]);
+    coverage.call(&calls, b"0405", &[0x04, 5]);
     // The element size is not looked at.
     coverage.call(&calls, b"05", &[0x05, 2]);
     coverage.call(&calls, b"30", &[0xff, 4]);
@@ -108,7 +116,7 @@ fn a_number_that_a_call_can_not_give_is_named() {
     coverage.list(&[], "status 0 records 1\nrecord 0 status 25 dim 0\n");
     let unlisted = [
         "02 room: 5",
-        "04 element_size: 3",
+        "04 element_size: 5",
         "05 element_count: 2",
         "30 record::read: ff04",
         "34 record_at: 2",

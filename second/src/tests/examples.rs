@@ -78,8 +78,12 @@ fn i_has_elements_of_two_bytes() {
 
 #[test]
 fn j_is_refused() {
-    let j = Tensor { element_size: 3, ..plane(&[0, 70_000]) };
-    assert_eq!(judge(&j, &default(&j), 100, 100), refused(2, 0));
+    // "J then gives 3 at dimension 0", and 2 comes before it for a size that there is not.
+    let j = |element_size: u8| {
+        let tensor = Tensor { element_size, ..plane(&[0, 70_000]) };
+        judge(&tensor, &default(&tensor), 100, 100)
+    };
+    assert_eq!((j(3), j(5), j(0)), (refused(3, 0), refused(2, 0), refused(2, 0)));
     let a = plane(&[2, 3]);
     assert_eq!(judge(&a, &default(&a).with_perm([0, 0, 0, 0]), 6, 6), refused(6, 1));
 }

@@ -26,7 +26,13 @@ fn padding() {
     };
     assert_eq!(moved(padded(1, 0x0403_0201)), "1-byte padding");
     assert_eq!(moved(padded(2, 0x0403_0200)), "2-byte padding");
+    assert_eq!(moved(padded(3, 0x0403_0201)), "3-byte padding");
     assert_eq!(moved(padded(4, 0x0403_0201)), "4-byte padding");
+    // A fourth byte of 0 would not show that it is left out, but it may be used.
+    assert_eq!(
+        (moved(padded(3, 0x0003_0201)), moved(padded(4, 0x0003_0201))),
+        (String::new(), "4-byte padding".into())
+    );
     // Two bytes that are the same.
     assert_eq!((moved(padded(4, 0x0102_0201)), moved(padded(1, 7))), (String::new(), String::new()));
     assert_eq!(moved(padded(1, 0)), "padding of fill 0");
@@ -55,6 +61,7 @@ fn padding_in_a_stretch() {
 fn unused_bytes_and_configurations() {
     let room = |size: u8, fill: u32| of_call(0x02, bytes_of(&padded(size, fill)));
     assert_eq!((room(1, 0x100), room(2, 0x1_0000)), ("unused byte of size 1".into(), "unused byte of size 2".into()));
+    assert_eq!((room(3, 0x100_0000), room(3, 0x1_0000)), ("unused byte of size 3".into(), String::new()));
     assert_eq!((room(1, 255), room(2, 0x100), room(4, u32::MAX)), (String::new(), String::new(), String::new()));
     assert_eq!(of_call(0x21, bytes_of(&(12u64, job()))), "unused byte of size 2");
     let config = Config::default().with_fill(5);
@@ -78,12 +85,17 @@ fn appends() {
     assert_eq!((append(tensor, 1, empty, 131), append(tensor, 0, empty, 131)), ("27 by a fill".into(), String::new()));
     let alone = "27 by a fill; 27 by a fill whose used bytes are 0 and others not";
     let wider = Tensor { element_size: 2, ..tensor };
+    let of_three = Tensor { element_size: 3, ..tensor };
     assert_eq!((append(tensor, 256, empty, 131), append(wider, 1 << 31, empty, 131)), (alone.into(), alone.into()));
     assert_eq!(
         (append(tensor, 257, empty, 131), append(wider, 256, empty, 131)),
         ("27 by a fill".into(), "27 by a fill".into())
     );
-    let odd = Tensor { element_size: 3, ..tensor };
+    assert_eq!(
+        (append(of_three, 1 << 24, empty, 131), append(of_three, 1 << 16, empty, 131)),
+        (alone.into(), "27 by a fill".into())
+    );
+    let odd = Tensor { element_size: 5, ..tensor };
     assert_eq!(append(odd, 1 << 24, empty, 131), "27 by a fill; 27 by a fill, element size that 2 refuses");
     assert_eq!(append(tensor, 1, empty, 130), "38 and 27 by a fill");
     assert_eq!(append(Tensor { rank: 1, ..tensor }, 1, empty, 131), "28 and 27 by a fill");

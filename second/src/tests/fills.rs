@@ -24,6 +24,7 @@ fn the_low_bytes_lowest_first() {
     let fill = 0x0403_0201;
     assert_eq!(d_moved(1, fill), [1, 1, 1, 5, 6, 1]);
     assert_eq!(d_moved(2, fill), [1, 2, 1, 2, 1, 2, 5, 6, 7, 8, 1, 2]);
+    assert_eq!(d_moved(3, fill), [1, 2, 3, 1, 2, 3, 1, 2, 3, 5, 6, 7, 8, 9, 10, 1, 2, 3]);
     #[rustfmt::skip]
     assert_eq!(d_moved(4, fill), [
         1, 2, 3, 4, 1, 2, 3, 4, 1, 2, 3, 4,
@@ -39,6 +40,8 @@ fn unused_bytes_change_nothing() {
     assert_eq!(d_moved(1, 0x0403_0200), [0, 0, 0, 5, 6, 0]);
     assert_eq!(d_moved(2, 0x0403_0000), d_moved(2, 0));
     assert_eq!(d_moved(2, 0xffff_0100)[..2], [0, 1]);
+    assert_eq!(d_moved(3, 0x0400_0000), d_moved(3, 0));
+    assert_eq!(d_moved(3, 0xff02_0100)[..4], [0, 1, 2, 0]);
 }
 
 #[test]
@@ -71,7 +74,7 @@ fn gaps_and_what_is_around_stay() {
 
 #[test]
 fn no_move_is_refused_for_its_fill() {
-    for size in [1, 2, 4] {
+    for size in [1, 2, 3, 4] {
         let (tensor, config) = d(size);
         let lengths = (2 * size as u64, 6 * size as u64);
         for fill in [0, 1, 0x100, 0x1_0000, 0x100_0000, u32::MAX] {

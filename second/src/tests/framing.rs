@@ -11,7 +11,7 @@ fn answer(input: &[u8]) -> Vec<String> {
 
 #[test]
 fn the_examples_of_the_page() {
-    assert_eq!(answer(b"0402\n0403\nzz\n"), ["0402", "0400", "ff01"]);
+    assert_eq!(answer(b"0403\n0405\nzz\n"), ["0403", "0400", "ff01"]);
     assert_eq!(answer(b"00\n"), ["000300"]);
 }
 
@@ -111,8 +111,8 @@ fn calls_of_records() {
     assert_eq!(answer(config("000000").as_bytes()), ["ff04"]);
     // Version, rank and element size; nothing past the rank of 4, and no fill. 28 is 1c.
     let fields = |begin: &str| format!("3b{begin}{}\n", "00".repeat(32 + 96));
-    assert_eq!(answer(fields("02000403").as_bytes()), ["3b0200"]);
+    assert_eq!(answer(fields("02000405").as_bytes()), ["3b0200"]);
     assert_eq!(answer(fields("02000404").as_bytes()), ["3b1c00"]);
-    assert_eq!(answer(fields("01000403").as_bytes()), ["3b0000"]);
+    assert_eq!(answer(fields("01000405").as_bytes()), ["3b0000"]);
     assert_eq!(answer(fields("0200").as_bytes()), ["ff04"]);
 }

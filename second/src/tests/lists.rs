@@ -28,9 +28,9 @@ fn a_with(changes: &[(usize, u8)]) -> Vec<u8> {
     bytes
 }
 
-/// The example of FORMAT: example A; its permutation goes on past the rank; element size 3.
+/// The example of FORMAT: example A; its permutation goes on past the rank; element size 5.
 fn three() -> Vec<u8> {
-    list(3, &[record_a(), a_with(&[(121, 2), (122, 3)]), a_with(&[(6, 3)])])
+    list(3, &[record_a(), a_with(&[(121, 2), (122, 3)]), a_with(&[(6, 5)])])
 }
 
 fn a() -> (Tensor, Config) {
@@ -91,7 +91,7 @@ fn numbers_start_at_0_and_a_bad_record_has_its_own() {
     let good = Numbered { number: 0, reading: Reading { status: 0, dimension: 0, tensor, config } };
     assert_eq!(record_at(&three(), 0), good);
     assert_eq!(record_at(&three(), 1), refused(1, 28, 2));
-    let third = Tensor { element_size: 3, ..tensor };
+    let third = Tensor { element_size: 5, ..tensor };
     let behind = Numbered { number: 2, reading: Reading { status: 0, dimension: 0, tensor: third, config } };
     assert_eq!(record_at(&three(), 2), behind);
     // "39 past the last", without a number; nothing wraps.
@@ -207,7 +207,7 @@ fn an_append_names_the_dimension_of_28() {
     let one = append(Tensor { rank: 1, ..tensor });
     assert_eq!((one.status, one.dimension), (28, 1));
     // "1, 28", and no number of a move: nobody asks for the element size.
-    assert_eq!(append(Tensor { element_size: 3, ..tensor }).status, 0);
+    assert_eq!(append(Tensor { element_size: 5, ..tensor }).status, 0);
 }
 
 #[test]
@@ -245,7 +245,7 @@ fn a_full_list_takes_no_more() {
 fn lists_round_trip() {
     let (tensor, config) = a();
     let fields =
-        [(tensor, config), (Tensor { element_size: 3, ..tensor }, config), (plane(&[7]), default(&plane(&[7])))];
+        [(tensor, config), (Tensor { element_size: 5, ..tensor }, config), (plane(&[7]), default(&plane(&[7])))];
     let mut buffer = start(vec![9; 500]).buffer.0;
     let mut length = 7;
     for (tensor, config) in &fields {
@@ -267,7 +267,7 @@ fn rmvlist_prints_the_example() {
     let expected = "status 0 records 3\n\
         record 0 status 0 dim 0 rank 2 element 1 shape 2 3 room 0 dim 0 span 6 need 6\n\
         record 1 status 28 dim 2\n\
-        record 2 status 0 dim 0 rank 2 element 3 shape 2 3 room 2 dim 0\n";
+        record 2 status 0 dim 0 rank 2 element 5 shape 2 3 room 2 dim 0\n";
     assert_eq!(show_list(&three()), expected);
     assert_eq!(show_list(&list(0, &[])), "status 0 records 0\n");
     assert_eq!(show_list(&three()[..399]), "status 30\n");
@@ -277,15 +277,16 @@ fn rmvlist_prints_the_example() {
 #[test]
 fn rmvlist_asks_the_room_question_of_each_record() {
     // Permutation (0,0); strides (4,1) with destination offset (0,1), and with (0,3), which runs past the row; elements
-    // of 4 bytes.
+    // of 4 bytes and of 3.
     let set_off = |offset: u8| a_with(&[(87 + 4, offset), (103, 4), (107, 1)]);
-    let records = [a_with(&[(119, 0)]), set_off(1), set_off(3), a_with(&[(6, 4)])];
-    let expected = "status 0 records 4\n\
+    let records = [a_with(&[(119, 0)]), set_off(1), set_off(3), a_with(&[(6, 4)]), a_with(&[(6, 3)])];
+    let expected = "status 0 records 5\n\
         record 0 status 0 dim 0 rank 2 element 1 shape 2 3 room 6 dim 1\n\
         record 1 status 0 dim 0 rank 2 element 1 shape 2 3 room 0 dim 0 span 6 need 11\n\
         record 2 status 0 dim 0 rank 2 element 1 shape 2 3 room 12 dim 1\n\
-        record 3 status 0 dim 0 rank 2 element 4 shape 2 3 room 0 dim 0 span 24 need 24\n";
-    assert_eq!(show_list(&list(4, &records)), expected);
+        record 3 status 0 dim 0 rank 2 element 4 shape 2 3 room 0 dim 0 span 24 need 24\n\
+        record 4 status 0 dim 0 rank 2 element 3 shape 2 3 room 0 dim 0 span 18 need 18\n";
+    assert_eq!(show_list(&list(5, &records)), expected);
 }
 
 #[test]

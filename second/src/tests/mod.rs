@@ -12,6 +12,8 @@ mod offsets;
 mod readings;
 mod record_cases;
 mod records;
+mod size_cases;
+mod sizes;
 mod stretches;
 mod transfers;
 mod versions;

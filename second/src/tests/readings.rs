@@ -95,7 +95,8 @@ fn units_are_counted_by_size() {
 #[test]
 fn element_sizes() {
     let sizes: Vec<u8> = (0..=9).map(element_size).collect();
-    assert_eq!(sizes, [0, 1, 2, 0, 4, 0, 0, 0, 0, 0]);
+    assert_eq!(sizes, [0, 1, 2, 3, 4, 0, 0, 0, 0, 0]);
+    assert_eq!([128, 252, 253, 254, 255].map(element_size), [0; 5]);
 }
 
 #[test]

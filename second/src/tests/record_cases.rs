@@ -32,7 +32,7 @@ fn records_that_are_read() {
     assert_eq!(read(LENGTH_WITH_FILL, &[(4, 1)]), "27 of 135 bytes, version 258");
     assert_eq!(read(LENGTH_WITH_FILL, &[(0, 0)]), "26 of 135 bytes");
     assert_eq!(read(LENGTH_WITH_FILL, &[(0, 0), (3, 1)]), "26 and 27 of 135 bytes");
-    assert_eq!(read(LENGTH, &[(3, 1), (6, 3)]), "version 1: element size that 2 refuses");
+    assert_eq!(read(LENGTH, &[(3, 1), (6, 5)]), "version 1: element size that 2 refuses");
     assert_eq!(read(LENGTH, &[(3, 1)]), "");
 }
 
@@ -41,11 +41,13 @@ fn fields_of_version_2() {
     let read = |changes: &[(usize, u8)]| read(LENGTH_WITH_FILL, changes).replace("version 2: ", "");
     assert_eq!((read(&[]), read(&[(6, 2)]), read(&[(6, 4)])), ("size 1".into(), String::new(), String::new()));
     assert_eq!(read(&[(6, 2), (131, 0), (132, 1)]), "lowest byte 0; size 2");
-    assert_eq!((read(&[(5, 5)]), read(&[(5, 5), (6, 3)])), ("1".into(), "1 and 2".into()));
+    assert_eq!((read(&[(6, 3)]), read(&[(6, 3), (133, 1)])), (String::new(), "size 3".into()));
+    assert_eq!((read(&[(5, 5)]), read(&[(5, 5), (6, 5)])), ("1".into(), "1 and 2".into()));
     assert_eq!(read(&[(5, 5), (134, 1)]), "1 and 28 by an unused byte");
     assert_eq!(read(&[(5, 5), (131, 0)]), "1; 1 and 28 by fill 0");
-    assert_eq!((read(&[(6, 3)]), read(&[(6, 3), (129, 1)])), ("2".into(), "2 and 28 past the rank".into()));
-    assert_eq!(read(&[(6, 3), (131, 0)]), "2; 2 and 28 by fill 0");
+    assert_eq!((read(&[(6, 6)]), read(&[(6, 6), (129, 1)])), ("2".into(), "2 and 28 past the rank".into()));
+    assert_eq!(read(&[(6, 6), (131, 0)]), "2; 2 and 28 by fill 0");
+    assert_eq!((read(&[(6, 0)]), read(&[(6, 5)])), ("2; 2 by 0".into(), "2; 2 by 5".into()));
     assert_eq!(read(&[(129, 1)]), "28 past the rank");
     assert_eq!(read(&[(129, 1), (134, 1)]), "28 past the rank and by an unused byte");
     assert_eq!(read(&[(129, 1), (131, 0)]), "28 past the rank; 28 past the rank and by fill 0");
@@ -56,6 +58,10 @@ fn fields_of_version_2() {
     assert_eq!(
         (read(&[(6, 2), (134, 1)]), read(&[(132, 1), (133, 1)])),
         ("28 by byte 3 of size 2".into(), String::new())
+    );
+    assert_eq!(
+        (read(&[(6, 3), (134, 1)]), read(&[(6, 4), (134, 1)])),
+        ("28 by byte 3 of size 3".into(), "size 4".into())
     );
     assert_eq!(read(&[(131, 0), (132, 1)]), "28 where the used bytes are 0; 28 by byte 1 of size 1");
     assert_eq!(read(&[(6, 2), (131, 0)]), "28 by fill 0, size 2");
@@ -71,11 +77,11 @@ fn records_that_are_written() {
         (written(1, 0, 135), written(1, 1, 131)),
         ("25 of 135 bytes, version 1".into(), "25 of 131 bytes, version 2".into())
     );
-    assert_eq!(written(3, 1, 134), "25 of 134 bytes, version 2; version 2: 25 and 2");
+    assert_eq!(written(5, 1, 134), "25 of 134 bytes, version 2; version 2: 25 and 2");
     assert_eq!(written(1, 256, 130), "version 2: 25 and 28");
     assert_eq!(
-        (written(3, 0, 131), written(3, 1, 135)),
-        ("version 1: element size that 2 refuses".into(), "version 2: 2".into())
+        (written(5, 0, 131), written(5, 1, 135)),
+        ("version 1: element size that 2 refuses".into(), "version 2: 2; version 2: 2 by 5".into())
     );
     assert_eq!(written(1, 256, 135), "version 2: 28 where the used bytes are 0; version 2: 28 by byte 1 of size 1");
     let fields = |version: u16, size: u8, fill: u32| {
@@ -128,7 +134,7 @@ fn inputs_of_rmvshow() {
         bytes[place] = value;
         met(&bytes[..length])
     };
-    assert_eq!((with(131, 0, 135), with(6, 3, 135)), ("28; 28 of version 2".into(), "2; 2 of version 2".into()));
+    assert_eq!((with(131, 0, 135), with(6, 5, 135)), ("28; 28 of version 2".into(), "2; 2 of version 2".into()));
     assert_eq!(
         (with(0, 0, 135), with(0, 0, 132)),
         ("26; 26 of version 2".into(), "25; version 2 cut behind another mark".into())

@@ -126,7 +126,7 @@ fn rmvshow_prints_one_line_for_a_refusal() {
     assert_eq!(show(&[record_a(), count_up(5)].concat()), "status 5 dim 0\n");
     // 28 comes before 2.
     let mut bytes = record_a();
-    (bytes[6], bytes[7 + 8]) = (3, 1);
+    (bytes[6], bytes[7 + 8]) = (5, 1);
     assert_eq!(show(&bytes), "status 28 dim 2\n");
     bytes[7 + 8] = 0;
     assert_eq!(show(&bytes), "status 2 dim 0\n");

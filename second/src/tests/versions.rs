@@ -106,27 +106,29 @@ fn lengths_and_versions_go_together() {
 #[test]
 fn version_2_looks_at_the_element_size() {
     assert_eq!((with(&[(5, 0)]), with(&[(5, 5)])), ((1, 0), (1, 0)));
-    assert_eq!((with(&[(6, 0)]), with(&[(6, 3)]), with(&[(6, 8)])), ((2, 0), (2, 0), (2, 0)));
+    assert_eq!((with(&[(6, 0)]), with(&[(6, 5)]), with(&[(6, 8)])), ((2, 0), (2, 0), (2, 0)));
     // 1 comes before 2, and 2 before both cases of 28.
-    assert_eq!(with(&[(5, 5), (6, 3)]), (1, 0));
-    assert_eq!((with(&[(6, 3), (7 + 8, 1)]), with(&[(6, 3), (131, 0)])), ((2, 0), (2, 0)));
-    assert_eq!(with(&[(6, 3), (134, 1)]), (2, 0));
+    assert_eq!(with(&[(5, 5), (6, 5)]), (1, 0));
+    assert_eq!((with(&[(6, 5), (7 + 8, 1)]), with(&[(6, 5), (131, 0)])), ((2, 0), (2, 0)));
+    assert_eq!(with(&[(6, 5), (134, 1)]), (2, 0));
     // Version 1 does not look at it.
-    assert_eq!(status(&d_with(&[(3, 1), (6, 3)])[..131]), (0, 0));
+    assert_eq!(status(&d_with(&[(3, 1), (6, 5)])[..131]), (0, 0));
 }
 
 #[test]
 fn version_2_has_a_fill_that_fits_its_elements() {
     // A fill of 0, whatever the size.
-    for size in [1, 2, 4] {
+    for size in [1, 2, 3, 4] {
         assert_eq!(with(&[(6, size), (131, 0)]), (28, 0));
     }
-    // Bytes 1 to 3 of the fill, by which it is too long for 1, and those too long for 2; 4 has none.
+    // Bytes 1 to 3 of the fill, by which it is too long for 1, and those too long for 2 and 3; 4 has none.
     let of_size = |size: u8| [132, 133, 134].map(|place| with(&[(6, size), (place, 1)]).0);
-    assert_eq!((of_size(1), of_size(2), of_size(4)), ([28, 28, 28], [0, 28, 28], [0, 0, 0]));
+    assert_eq!((of_size(1), of_size(2)), ([28, 28, 28], [0, 28, 28]));
+    assert_eq!((of_size(3), of_size(4)), ([0, 0, 28], [0, 0, 0]));
     // The used bytes may be 0 one by one, but not all of them, whatever the others are.
     let without_lowest = |size: u8| [132, 133, 134].map(|place| with(&[(6, size), (131, 0), (place, 1)]).0);
-    assert_eq!((without_lowest(1), without_lowest(2), without_lowest(4)), ([28, 28, 28], [0, 28, 28], [0, 0, 0]));
+    assert_eq!((without_lowest(1), without_lowest(2)), ([28, 28, 28], [0, 28, 28]));
+    assert_eq!((without_lowest(3), without_lowest(4)), ([0, 0, 28], [0, 0, 0]));
 }
 
 #[test]
@@ -161,8 +163,8 @@ fn write_refuses_as_read_does() {
     };
     let sized = |element_size: u8| Tensor { element_size, ..tensor };
     let ranked = |rank: u8| Tensor { rank, ..tensor };
-    assert_eq!((number(ranked(0), config), number(Tensor { rank: 5, ..sized(3) }, config)), ((1, 0), (1, 0)));
-    assert_eq!((number(sized(3), config), number(Tensor { rank: 1, ..sized(3) }, config)), ((2, 0), (2, 0)));
+    assert_eq!((number(ranked(0), config), number(Tensor { rank: 5, ..sized(5) }, config)), ((1, 0), (1, 0)));
+    assert_eq!((number(sized(5), config), number(Tensor { rank: 1, ..sized(5) }, config)), ((2, 0), (2, 0)));
     assert_eq!((number(ranked(1), config), number(ranked(1), config.with_fill(u32::MAX))), ((28, 1), (28, 1)));
     assert_eq!((number(tensor, config.with_fill(256)), number(sized(2), config.with_fill(65_536))), ((28, 0), (28, 0)));
     assert_eq!(
@@ -170,9 +172,9 @@ fn write_refuses_as_read_does() {
         ((0, 0), (0, 0))
     );
     // Fill 0 is of version 1, which does not look at the element size.
-    assert_eq!(number(sized(3), config.with_fill(0)), (0, 0));
+    assert_eq!(number(sized(5), config.with_fill(0)), (0, 0));
     // 25 comes first.
-    assert_eq!((written(&ranked(0), &config, 131).0, written(&sized(3), &config, 134).0), (25, 25));
+    assert_eq!((written(&ranked(0), &config, 131).0, written(&sized(5), &config, 134).0), (25, 25));
 }
 
 #[test]
@@ -182,7 +184,7 @@ fn what_reads_is_written_back() {
         record_d(),
         d_with(&[(6, 2), (132, 1)]),
         d_with(&[(6, 4), (131, 0), (134, 1)]),
-        d_with(&[(3, 1), (6, 3)])[..131].to_vec(),
+        d_with(&[(3, 1), (6, 5)])[..131].to_vec(),
     ];
     for bytes in records {
         let Reading { status, tensor, config, .. } = read(&bytes);
@@ -205,7 +207,7 @@ fn a_version_tells_the_length() {
 #[test]
 fn any_version_but_2_is_judged_as_1() {
     let (tensor, config) = d();
-    let odd = Tensor { element_size: 3, ..tensor };
+    let odd = Tensor { element_size: 5, ..tensor };
     for version in [0, 1, 3, 256, 258, 512, 65_535] {
         let fault = |tensor: &Tensor, config: &Config| fields_fault(version, tensor, config).status;
         assert_eq!((fault(&tensor, &config), fault(&odd, &config.with_fill(0)), fault(&odd, &config)), (0, 0, 0));
@@ -255,7 +257,7 @@ fn an_append_takes_no_fill() {
     assert_eq!(appended(Tensor { rank: 5, ..tensor }, config, 131), (1, 0));
     assert_eq!(appended(Tensor { rank: 1, ..tensor }, config, 131), (28, 1));
     // Nothing else is asked of a fill, nor of the element size.
-    let odd = Tensor { element_size: 3, ..tensor };
+    let odd = Tensor { element_size: 5, ..tensor };
     assert_eq!((appended(odd, config, 131), appended(tensor, config.with_fill(256), 131)), ((27, 0), (27, 0)));
     assert_eq!(appended(odd, config.with_fill(0), 131), (0, 0));
 }
@@ -294,7 +296,7 @@ fn rmvshow_takes_the_length_from_the_version() {
         assert_eq!((show(&bytes), show(&bytes[..133])), ("status 27 dim 0\n".into(), "status 27 dim 0\n".into()));
     }
     // 2 comes before 28 in version 2.
-    assert_eq!(show(&d_with(&[(6, 3), (131, 0)])), "status 2 dim 0\n");
+    assert_eq!(show(&d_with(&[(6, 5), (131, 0)])), "status 2 dim 0\n");
     assert_eq!(show(&d_with(&[(131, 0)])), "status 28 dim 0\n");
 }
 

@@ -1,15 +1,26 @@
--- `mover::elements::bytes` adds n up once, twice or four times. Assumes nothing.
+-- `mover::elements::bytes` adds n up as often as the size says. Assumes nothing.
 use Prim.Native.Nat.{_*_, _^_, _<_}
+use mathlib.Core.Path.{_≡_}
 use native.Mathlib.Omega.{arith}
-use Rattle.plane.proofs.Sizes.{sized-four}
+use Rattle.plane.proofs.Bounds.{element-small}
 use Rattle.mover.proofs.elements.bytes.Statement.{statement}
 use Rattle.mover.proofs.elements.bytes.Tie as tie
 
 two : (c : tie.Then2) → c .before .before .args .n * 2 < 2 ^ 64
 two c = rw (c .if2 .taken) at (c .before .before .pre .1)
 
-four : (c : tie.Else2) → c .before .before .args .n * 4 < 2 ^ 64
-four c = rw (sized-four (c .before .before .args .size) (c .before .before .pre .0) (c .before .if1 .left) (c .if2 .left)) at (c .before .before .pre .1)
+three : (c : tie.Then3) → c .before .before .before .args .n * 3 < 2 ^ 64
+three c = rw (c .if3 .taken) at (c .before .before .before .pre .1)
+
+-- what is left of 1 to 4
+last : (c : tie.Else3) → c .before .before .before .args .size ≡ 4
+last c =
+    let s = c .before .before .before in
+    let b = element-small (s .args .size) (s .pre .0) in
+    omega (arith, b .0, b .1, c .before .before .if1 .left, c .before .if2 .left, c .if3 .left)
+
+four : (c : tie.Else3) → c .before .before .before .args .n * 4 < 2 ^ 64
+four c = rw (last c) at (c .before .before .before .pre .1)
 
 pub bytes-spec : {M : Type 1} → statement M
 bytes-spec =
@@ -18,7 +29,10 @@ bytes-spec =
     (λ c. rw (c .if1 .taken) (omega arith))
     (λ c. omega (arith, two c))
     (λ c. rw (c .if2 .taken) (omega arith))
+    (λ c. omega (arith, three c))
+    (λ c. omega (arith, three c))
+    (λ c. rw (c .if3 .taken) (omega arith))
     (λ c. omega (arith, four c))
     (λ c. omega (arith, four c))
     (λ c. omega (arith, four c))
-    (λ c. rw (sized-four (c .before .before .args .size) (c .before .before .pre .0) (c .before .if1 .left) (c .if2 .left)) (omega arith)))
+    (λ c. rw (last c) (omega arith)))

@@ -1,14 +1,39 @@
 -- `mover::elements::copy` reads an element's bytes, and stores them. Assumes nothing.
-use Prim.Native.Nat.{_+_, _^_, _<_}
+use Prim.Native.Nat.{_+_, _^_, _≤_, _<_}
 use mathlib.Core.Path.{_≡_}
 use native.Mathlib.Omega.{arith}
 use borrow.Author.Needs.{needs}
 use lib.ListN.{length-set}
 use Rattle.mover.specs.Private.Elements.{sourceBytes}
-use Rattle.plane.proofs.Sizes.{sized-some, sized-two, sized-four}
-use Rattle.mover.proofs.Bytes.{copied-one, copied-two, copied-four, source-long}
+use Rattle.plane.proofs.Bounds.{element-small}
+use Rattle.mover.proofs.Bytes.{copied-one, copied-two, copied-three, copied-four, source-long}
 use Rattle.mover.proofs.elements.copy.Statement.{statement}
 use Rattle.mover.proofs.elements.copy.Tie as tie
+
+-- the start, from what is past each test
+abbrev start1 : tie.Else1 → tie.Start
+start1 c = c .before .before .before .before .before
+
+abbrev start2 : tie.Else2 → tie.Start
+start2 c = start1 (c .before .before .before)
+
+abbrev start3 : tie.Else3 → tie.Start
+start3 c = start2 (c .before .before .before)
+
+-- of 1 to 4 bytes: how many there are past each test
+one : (s : tie.Start) → 1 ≤ s .args .size
+one s = element-small (s .args .size) (s .pre .0) .0
+
+two : (c : tie.Else1) → 2 ≤ start1 c .args .size
+two c = omega (arith, one (start1 c), c .if1 .left)
+
+three : (c : tie.Else2) → 3 ≤ start2 c .args .size
+three c = omega (arith, two (c .before .before .before), c .if2 .left)
+
+four : (c : tie.Else3) → start3 c .args .size ≡ 4
+four c =
+    let s = start3 c in
+    omega (arith, three (c .before .before .before), element-small (s .args .size) (s .pre .0) .1, c .if3 .left)
 
 room : (s : tie.Start) → s .args .at + s .args .size < 2 ^ 64
 room s = omega (arith, s .pre .1 .0, source-long (s .args .origin) (s .args .src .now) (s .args .dst .now), s .good)
@@ -22,47 +47,63 @@ returns c =
 
 returns-2 : tie.Need-returns-2
 returns-2 c =
-    let s = c .before .before .before .before .before .before .before .before in
+    let e1 = c .before .before .before in
+    let s = start1 e1 in
     let a = s .args in
-    rw (c .if2 .taken, c .before .byte2 .ensures, c .before .before .before .before .byte .ensures)
+    rw (c .if2 .taken, c .before .byte2 .ensures, e1 .before .byte .ensures)
     (copied-two (a .dst .now) (sourceBytes (a .origin) (a .src .now) (a .dst .now)) (a .at) (a .to) (omega (arith, s .pre .1 .0, c .if2 .taken)))
-
--- what is neither 1 nor 2 is 4
-four : (c : tie.After-byte4) → c .before .before .before .before .before .before .before .before .before .before .before .before .args .size ≡ 4
-four c = sized-four (c .before .before .before .before .before .before .before .before .before .before .before .before .args .size) (c .before .before .before .before .before .before .before .before .before .before .before .before .pre .0) (c .before .before .before .before .before .before .before .if1 .left) (c .before .before .before .before .if2 .left)
 
 returns-3 : tie.Need-returns-3
 returns-3 c =
-    let s = c .before .before .before .before .before .before .before .before .before .before .before .before in
+    let e2 = c .before .before .before in
+    let e1 = e2 .before .before .before in
+    let s = start1 e1 in
     let a = s .args in
-    rw (four c, c .byte4 .ensures, c .before .before .byte3 .ensures, c .before .before .before .before .before .byte2 .ensures, c .before .before .before .before .before .before .before .before .byte .ensures)
-    (copied-four (a .dst .now) (sourceBytes (a .origin) (a .src .now) (a .dst .now)) (a .at) (a .to) (omega (arith, s .pre .1 .0, four c)))
+    rw (c .if3 .taken, c .before .byte3 .ensures, e2 .before .byte2 .ensures, e1 .before .byte .ensures)
+    (copied-three (a .dst .now) (sourceBytes (a .origin) (a .src .now) (a .dst .now)) (a .at) (a .to) (omega (arith, s .pre .1 .0, c .if3 .taken)))
+
+returns-4 : tie.Need-returns-4
+returns-4 c =
+    let e3 = c .before .before in
+    let e2 = e3 .before .before .before in
+    let e1 = e2 .before .before .before in
+    let s = start1 e1 in
+    let a = s .args in
+    rw (four e3, c .byte4 .ensures, e3 .before .byte3 .ensures, e2 .before .byte2 .ensures, e1 .before .byte .ensures)
+    (copied-four (a .dst .now) (sourceBytes (a .origin) (a .src .now) (a .dst .now)) (a .at) (a .to) (omega (arith, s .pre .1 .0, four e3)))
 
 pub copy-spec : {M : Type 1} → statement M
 copy-spec =
     tie.close
     (tie.spec
-    (λ c κs. let s = c .before .before .before in omega (arith, s .pre .1 .0, sized-some (s .args .size) (s .pre .0)))
+    (λ c κs. let s = c .before .before .before in omega (arith, s .pre .1 .0, one s))
     (λ c. search needs)
     (λ c. search needs)
     returns
-    (λ c. let s = c .before .before .before .before .before .before in omega (arith, room s, sized-two (s .args .size) (s .pre .0) (c .before .if1 .left)))
-    (λ c κs. let s = c .before .before .before .before .before .before in omega (arith, s .pre .1 .0, sized-two (s .args .size) (s .pre .0) (c .before .if1 .left)))
+    (λ c. omega (arith, room (start1 (c .before)), two (c .before)))
+    (λ c κs. omega (arith, start1 (c .before) .pre .1 .0, two (c .before)))
     (λ c. search needs)
     (λ c. search needs)
-    (λ c. let s = c .before .before .before .before .before .before .before .before in rw length-set (omega (arith, s .pre .1 .1, c .if2 .taken)))
+    (λ c. rw length-set (omega (arith, start1 (c .before .before .before) .pre .1 .1, c .if2 .taken)))
     (λ c. search needs)
     returns-2
-    (λ c. let s = c .before .before .before .before .before .before .before .before .before in omega (arith, room s, sized-four (s .args .size) (s .pre .0) (c .before .before .before .before .if1 .left) (c .before .if2 .left)))
-    (λ c κs. let s = c .before .before .before .before .before .before .before .before .before in omega (arith, s .pre .1 .0, sized-four (s .args .size) (s .pre .0) (c .before .before .before .before .if1 .left) (c .before .if2 .left)))
-    (λ c. let s = c .before .before .before .before .before .before .before .before .before .before .before in omega (arith, room s, sized-four (s .args .size) (s .pre .0) (c .before .before .before .before .before .before .if1 .left) (c .before .before .before .if2 .left)))
-    (λ c κs. let s = c .before .before .before .before .before .before .before .before .before .before .before in omega (arith, s .pre .1 .0, sized-four (s .args .size) (s .pre .0) (c .before .before .before .before .before .before .if1 .left) (c .before .before .before .if2 .left)))
-    (λ c. omega (arith, c .before .before .before .before .before .before .before .before .before .before .before .before .pre .1 .1, four c))
+    (λ c. omega (arith, room (start2 (c .before)), three (c .before)))
+    (λ c κs. omega (arith, start2 (c .before) .pre .1 .0, three (c .before)))
     (λ c. search needs)
-    (λ c. rw length-set (omega (arith, c .before .before .before .before .before .before .before .before .before .before .before .before .pre .1 .1, four c)))
     (λ c. search needs)
-    (λ c. simp length-set (omega (arith, c .before .before .before .before .before .before .before .before .before .before .before .before .pre .1 .1, four c)))
+    (λ c. rw length-set (omega (arith, start2 (c .before .before .before) .pre .1 .1, c .if3 .taken)))
     (λ c. search needs)
-    (λ c. simp length-set (omega (arith, c .before .before .before .before .before .before .before .before .before .before .before .before .pre .1 .1, four c)))
+    (λ c. simp length-set (omega (arith, start2 (c .before .before .before) .pre .1 .1, c .if3 .taken)))
     (λ c. search needs)
-    returns-3)
+    returns-3
+    (λ c. omega (arith, room (start3 (c .before)), four (c .before)))
+    (λ c κs. omega (arith, start3 (c .before) .pre .1 .0, four (c .before)))
+    (λ c. omega (arith, start3 (c .before .before) .pre .1 .1, four (c .before .before)))
+    (λ c. search needs)
+    (λ c. rw length-set (omega (arith, start3 (c .before .before) .pre .1 .1, four (c .before .before))))
+    (λ c. search needs)
+    (λ c. simp length-set (omega (arith, start3 (c .before .before) .pre .1 .1, four (c .before .before))))
+    (λ c. search needs)
+    (λ c. simp length-set (omega (arith, start3 (c .before .before) .pre .1 .1, four (c .before .before))))
+    (λ c. search needs)
+    returns-4)
