@@ -1,7 +1,6 @@
 -- Tests and what they tell. Assumes nothing.
 use Prim.Native.Nat.{ℕ, _≤_}
 use mathlib.Core.Path.{_≡_, refl, sym}
-use mathlib.Core.Logic.{_⊎_, inl, inr}
 use mathlib.Core.Bool.{Bool, true, false, _||_, _&&_, true≢false}
 use borrow.Author.Tests.{ltb-false}
 use lib.Dec.{ltb}
@@ -9,10 +8,6 @@ use lib.Dec.{ltb}
 pub either-clear : (a b : Bool) → (a || b) ≡ false → (a ≡ false) × (b ≡ false)
 either-clear true b e = absurd (true≢false e)
 either-clear false b e = (refl, e)
-
-pub either-cases : (a b : Bool) → (a || b) ≡ true → (a ≡ true) ⊎ (b ≡ true)
-either-cases true b e = inl refl
-either-cases false b e = inr e
 
 pub either-first : (a b : Bool) → a ≡ true → (a || b) ≡ true
 either-first a b e = simp e

@@ -380,11 +380,12 @@ table =
     -- D with fill 128: 128 128 128 5 6 128
     besides shows move (compact 2 1 (two 1 2)) (withFill (withPost (withPre defaults (two 1 0)) (two 0 1)) 128) (5 ∷ 6 ∷ []) (over 6)
     (acceptedMove 2 1 (2 ∷ 3 ∷ 0 ∷ 0 ∷ []) (3 ∷ 1 ∷ 0 ∷ 0 ∷ []) 6) (128 ∷ 128 ∷ 128 ∷ 5 ∷ 6 ∷ 128 ∷ []) ∷
-    -- one element, one before it and one after: of the fill as many low bytes as the element size, and no move refuses the others
-    besides shows move (compact 1 1 (one 1)) (withFill (withPost (withPre defaults (one 1)) (one 1)) 67305985) (9 ∷ []) (over 3)
-    (acceptedMove 1 1 (3 ∷ 0 ∷ 0 ∷ 0 ∷ []) (1 ∷ 0 ∷ 0 ∷ 0 ∷ []) 3) (1 ∷ 9 ∷ 1 ∷ []) ∷
-    besides shows move (compact 1 2 (one 1)) (withFill (withPost (withPre defaults (one 1)) (one 1)) 67305985) (9 ∷ 8 ∷ []) (over 6)
-    (acceptedMove 1 2 (3 ∷ 0 ∷ 0 ∷ 0 ∷ []) (1 ∷ 0 ∷ 0 ∷ 0 ∷ []) 6) (1 ∷ 2 ∷ 9 ∷ 8 ∷ 1 ∷ 2 ∷ []) ∷
+    -- one element, one before it and one after, the room longer than they need: of the fill as many low bytes as the element size are
+    -- stored, and no move refuses the others
+    besides shows move (compact 1 1 (one 1)) (withFill (withPost (withPre defaults (one 1)) (one 1)) 67305985) (9 ∷ []) (over 6)
+    (acceptedMove 1 1 (3 ∷ 0 ∷ 0 ∷ 0 ∷ []) (1 ∷ 0 ∷ 0 ∷ 0 ∷ []) 3) (1 ∷ 9 ∷ 1 ∷ 99 ∷ 99 ∷ 99 ∷ []) ∷
+    besides shows move (compact 1 2 (one 1)) (withFill (withPost (withPre defaults (one 1)) (one 1)) 67305985) (9 ∷ 8 ∷ []) (over 8)
+    (acceptedMove 1 2 (3 ∷ 0 ∷ 0 ∷ 0 ∷ []) (1 ∷ 0 ∷ 0 ∷ 0 ∷ []) 6) (1 ∷ 2 ∷ 9 ∷ 8 ∷ 1 ∷ 2 ∷ 99 ∷ 99 ∷ []) ∷
     besides shows move (compact 1 4 (one 1)) (withFill (withPre defaults (one 1)) 67305985) (9 ∷ 8 ∷ 7 ∷ 6 ∷ []) (over 8)
     (acceptedMove 1 4 (2 ∷ 0 ∷ 0 ∷ 0 ∷ []) (1 ∷ 0 ∷ 0 ∷ 0 ∷ []) 8) (1 ∷ 2 ∷ 3 ∷ 4 ∷ 9 ∷ 8 ∷ 7 ∷ 6 ∷ []) ∷
     -- (2,1) 1 2 with a 7 after each row, by strides (3,1): the gap between the rows stays
@@ -411,9 +412,9 @@ table =
     besides shows move (compact 2 3 (two 2 2)) (withFill (withPre defaults (two 0 1)) 3351057) (upTo 12) (over 18)
     (acceptedMove 2 3 (2 ∷ 3 ∷ 0 ∷ 0 ∷ []) (3 ∷ 1 ∷ 0 ∷ 0 ∷ []) 18)
     (17 ∷ 34 ∷ 51 ∷ 1 ∷ 2 ∷ 3 ∷ 4 ∷ 5 ∷ 6 ∷ 17 ∷ 34 ∷ 51 ∷ 7 ∷ 8 ∷ 9 ∷ 10 ∷ 11 ∷ 12 ∷ []) ∷
-    -- one pixel, one before it and one after: the fourth byte of the fill goes nowhere
-    besides shows move (compact 1 3 (one 1)) (withFill (withPost (withPre defaults (one 1)) (one 1)) 67305985) (9 ∷ 8 ∷ 7 ∷ []) (over 9)
-    (acceptedMove 1 3 (3 ∷ 0 ∷ 0 ∷ 0 ∷ []) (1 ∷ 0 ∷ 0 ∷ 0 ∷ []) 9) (1 ∷ 2 ∷ 3 ∷ 9 ∷ 8 ∷ 7 ∷ 1 ∷ 2 ∷ 3 ∷ []) ∷
+    -- one pixel, one before it and one after, into a byte more than they need: the fourth byte of the fill goes nowhere
+    besides shows move (compact 1 3 (one 1)) (withFill (withPost (withPre defaults (one 1)) (one 1)) 67305985) (9 ∷ 8 ∷ 7 ∷ []) (over 10)
+    (acceptedMove 1 3 (3 ∷ 0 ∷ 0 ∷ 0 ∷ []) (1 ∷ 0 ∷ 0 ∷ 0 ∷ []) 9) (1 ∷ 2 ∷ 3 ∷ 9 ∷ 8 ∷ 7 ∷ 1 ∷ 2 ∷ 3 ∷ 99 ∷ []) ∷
     -- (2,1), bytes 1..6, by strides (2,1): a gap of a pixel stays, and nine bytes are enough. Into eight: 13. From five: 5
     besides shows move (compact 2 3 (two 2 1)) (withDstStride defaults (two 2 1)) (upTo 6) (over 9)
     (acceptedMove 2 3 (2 ∷ 1 ∷ 0 ∷ 0 ∷ []) (2 ∷ 1 ∷ 0 ∷ 0 ∷ []) 9) (1 ∷ 2 ∷ 3 ∷ 99 ∷ 99 ∷ 99 ∷ 4 ∷ 5 ∷ 6 ∷ []) ∷

@@ -52,6 +52,10 @@ element-small z h = by-test (ltb z 1 || ltb 4 z) refl
     by-test true e = absurd (h (simp e))
     by-test false e = in-range z 1 4 e
 
+-- what is left of them past 1, 2 and 3
+pub element-four : (z : ℕ) → Sized z → (z ≡ 1 → ⊥) → (z ≡ 2 → ⊥) → (z ≡ 3 → ⊥) → z ≡ 4
+element-four z h one two three = omega (arith, element-small z h)
+
 -- 1 and n terms, each at most m, times an element size
 box-fits : (n : ℕ) (f : ℕ → ℕ) (z : ℕ) → n ≤ 4 → z ≤ 4 → ((d : ℕ) → d < n → f d ≤ 131070 * 2147483647) → (1 + sum n f) * z < 2 ^ 64
 box-fits n f z l s h =

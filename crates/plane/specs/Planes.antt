@@ -17,7 +17,7 @@ zeroTensor = record { rank = 0; «element_size» = 0; shape = zeros; stride = ze
 abbrev pub badRank : ℕ → Bool
 badRank n = ltb n 1 || ltb 4 n
 
--- an element size is 1 to 4; 0 for any other
+-- an element size that is taken, 1 to 4, and 0 for any other
 abbrev pub elementSize : ℕ → ℕ
 elementSize z = cond (ltb z 1 || ltb 4 z) 0 z
 

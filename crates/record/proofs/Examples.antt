@@ -1,4 +1,5 @@
--- Records written out: the bytes of example A, there and back, without and with a fill, and a refusal of each kind. Assumes nothing.
+-- Records written out: the bytes of example A, there and back, without and with a fill, and in elements of three bytes; and a refusal
+-- of each kind. Assumes nothing.
 use Prim.Native.Nat.{ℕ}
 use mathlib.Core.Path.{_≡_, refl}
 use mathlib.Core.List.{List, [], _∷_, _++_}

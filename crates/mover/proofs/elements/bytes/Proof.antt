@@ -2,7 +2,7 @@
 use Prim.Native.Nat.{_*_, _^_, _<_}
 use mathlib.Core.Path.{_≡_}
 use native.Mathlib.Omega.{arith}
-use Rattle.plane.proofs.Bounds.{element-small}
+use Rattle.plane.proofs.Bounds.{element-four}
 use Rattle.mover.proofs.elements.bytes.Statement.{statement}
 use Rattle.mover.proofs.elements.bytes.Tie as tie
 
@@ -16,8 +16,7 @@ three c = rw (c .if3 .taken) at (c .before .before .before .pre .1)
 last : (c : tie.Else3) → c .before .before .before .args .size ≡ 4
 last c =
     let s = c .before .before .before in
-    let b = element-small (s .args .size) (s .pre .0) in
-    omega (arith, b .0, b .1, c .before .before .if1 .left, c .before .if2 .left, c .if3 .left)
+    element-four (s .args .size) (s .pre .0) (c .before .before .if1 .left) (c .before .if2 .left) (c .if3 .left)
 
 four : (c : tie.Else3) → c .before .before .before .args .n * 4 < 2 ^ 64
 four c = rw (last c) at (c .before .before .before .pre .1)

@@ -5,7 +5,7 @@ use native.Mathlib.Omega.{arith}
 use borrow.Author.Needs.{needs}
 use lib.ListN.{length-set}
 use Rattle.mover.specs.Private.Elements.{sourceBytes}
-use Rattle.plane.proofs.Bounds.{element-small}
+use Rattle.plane.proofs.Bounds.{element-small, element-four}
 use Rattle.mover.proofs.Bytes.{copied-one, copied-two, copied-three, copied-four, source-long}
 use Rattle.mover.proofs.elements.copy.Statement.{statement}
 use Rattle.mover.proofs.elements.copy.Tie as tie
@@ -32,8 +32,8 @@ three c = omega (arith, two (c .before .before .before), c .if2 .left)
 
 four : (c : tie.Else3) → start3 c .args .size ≡ 4
 four c =
-    let s = start3 c in
-    omega (arith, three (c .before .before .before), element-small (s .args .size) (s .pre .0) .1, c .if3 .left)
+    let e2 = c .before .before .before in
+    element-four (start3 c .args .size) (start3 c .pre .0) (e2 .before .before .before .if1 .left) (e2 .if2 .left) (c .if3 .left)
 
 room : (s : tie.Start) → s .args .at + s .args .size < 2 ^ 64
 room s = omega (arith, s .pre .1 .0, source-long (s .args .origin) (s .args .src .now) (s .args .dst .now), s .good)

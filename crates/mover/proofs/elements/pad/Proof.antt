@@ -5,7 +5,7 @@ use native.Mathlib.Omega.{arith}
 use borrow.Author.Needs.{needs}
 use lib.ListN.{length-set}
 use Rattle.plane.specs.Arrays.{at, table}
-use Rattle.plane.proofs.Bounds.{element-small}
+use Rattle.plane.proofs.Bounds.{element-small, element-four}
 use Rattle.mover.proofs.Bytes.{copied-two, copied-three, copied-four}
 use Rattle.mover.proofs.elements.pad.Statement.{statement}
 use Rattle.mover.proofs.elements.pad.Tie as tie
@@ -23,7 +23,7 @@ three c = omega (arith, two (c .before), c .if2 .left)
 four : (c : tie.Else3) → c .before .before .before .args .size ≡ 4
 four c =
     let s = c .before .before .before in
-    omega (arith, three (c .before), element-small (s .args .size) (s .pre .0) .1, c .if3 .left)
+    element-four (s .args .size) (s .pre .0) (c .before .before .if1 .left) (c .before .if2 .left) (c .if3 .left)
 
 pub pad-spec : {M : Type 1} → statement M
 pad-spec =
