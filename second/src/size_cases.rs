@@ -78,7 +78,7 @@ fn tensor_of(number: u8, arguments: &[u8]) -> Option<Tensor> {
     }
 }
 
-/// "1, 2, 4, or 0 for others"
+/// "or 0 for others": the numbers just beside the sizes.
 fn of_helper(size: u8, answer: u8) -> Vec<Case> {
     BESIDE.map(|beside| (size == beside && answer == 0, format!("0 for {beside}"))).to_vec()
 }

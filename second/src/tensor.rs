@@ -20,8 +20,8 @@ wire_struct! {
     Source { status: u8, dimension: u8, stride: [u32; 4], span: u64 }
 }
 
-/// All element sizes that there are: "Element size 1, 2 or 4", and 3, which "2 no longer covers". Cases and draws go by
-/// this list.
+/// All element sizes that there are: "Element size 1, 2 or 4", and 3, which "2 no longer covers". The rule, the helper,
+/// cases and draws go by this list.
 pub const ELEMENT_SIZES: [u8; 4] = [1, 2, 3, 4];
 /// "Shape entries 1 to 65,535"; destination offsets, steps and extents have the same limit.
 pub const EXTENT_LIMIT: u64 = 65_535;

@@ -386,8 +386,9 @@ table =
     (acceptedMove 1 1 (3 ∷ 0 ∷ 0 ∷ 0 ∷ []) (1 ∷ 0 ∷ 0 ∷ 0 ∷ []) 3) (1 ∷ 9 ∷ 1 ∷ 99 ∷ 99 ∷ 99 ∷ []) ∷
     besides shows move (compact 1 2 (one 1)) (withFill (withPost (withPre defaults (one 1)) (one 1)) 67305985) (9 ∷ 8 ∷ []) (over 8)
     (acceptedMove 1 2 (3 ∷ 0 ∷ 0 ∷ 0 ∷ []) (1 ∷ 0 ∷ 0 ∷ 0 ∷ []) 6) (1 ∷ 2 ∷ 9 ∷ 8 ∷ 1 ∷ 2 ∷ 99 ∷ 99 ∷ []) ∷
-    besides shows move (compact 1 4 (one 1)) (withFill (withPre defaults (one 1)) 67305985) (9 ∷ 8 ∷ 7 ∷ 6 ∷ []) (over 8)
-    (acceptedMove 1 4 (2 ∷ 0 ∷ 0 ∷ 0 ∷ []) (1 ∷ 0 ∷ 0 ∷ 0 ∷ []) 8) (1 ∷ 2 ∷ 3 ∷ 4 ∷ 9 ∷ 8 ∷ 7 ∷ 6 ∷ []) ∷
+    besides shows move (compact 1 4 (one 1)) (withFill (withPost (withPre defaults (one 1)) (one 1)) 67305985) (9 ∷ 8 ∷ 7 ∷ 6 ∷ []) (over 13)
+    (acceptedMove 1 4 (3 ∷ 0 ∷ 0 ∷ 0 ∷ []) (1 ∷ 0 ∷ 0 ∷ 0 ∷ []) 12)
+    (1 ∷ 2 ∷ 3 ∷ 4 ∷ 9 ∷ 8 ∷ 7 ∷ 6 ∷ 1 ∷ 2 ∷ 3 ∷ 4 ∷ 99 ∷ []) ∷
     -- (2,1) 1 2 with a 7 after each row, by strides (3,1): the gap between the rows stays
     besides shows move (compact 2 1 (two 2 1)) (withDstStride (withFill (withPost defaults (two 0 1)) 7) (two 3 1)) (1 ∷ 2 ∷ []) (over 5)
     (acceptedMove 2 1 (2 ∷ 2 ∷ 0 ∷ 0 ∷ []) (3 ∷ 1 ∷ 0 ∷ 0 ∷ []) 5) (1 ∷ 7 ∷ 99 ∷ 2 ∷ 7 ∷ []) ∷

@@ -1,5 +1,5 @@
--- All sums and products of what is accepted fit 64 bits: inner products, spans, needs, the elements of a destination, and counts.
--- Assumes nothing.
+-- An element size is 1 to 4; and all sums and products of what is accepted fit 64 bits: inner products, spans, needs, the elements of
+-- a destination, and counts. Assumes nothing.
 use Prim.Native.Nat.{ℕ, zero, suc, _+_, _-_, _*_, _^_, _≤_, _<_}
 use native.Mathlib.Nat.{mul-le-mul, suc-mul, pow-suc, not-suc-le-zero, le-of-suc-le-suc}
 use native.Mathlib.Decide.{ℕ-discrete}

@@ -8,7 +8,7 @@ use crate::random::Random;
 use crate::ready_made::copy;
 use crate::record::{at, length_in, pack, LENGTH, LENGTH_WITH_FILL};
 use crate::show::{cases, met, number, ROOM, SOURCE_LIMIT};
-use crate::tensor::Tensor;
+use crate::tensor::{Tensor, ELEMENT_SIZES};
 
 /// The inputs to show, one process each.
 pub fn show_inputs(count: usize, seed: u64) -> Vec<Vec<u8>> {
@@ -89,9 +89,11 @@ fn cut(random: &mut Random, input: &mut Vec<u8>) {
     input.truncate(random.pick(&[LENGTH, 132, 133, 134, LENGTH_WITH_FILL, shorter]));
 }
 
-/// A source of just as many bytes as are read, or more; a destination that just fits, or doesn't.
+/// In whole elements, a source of just as many bytes as are read, or more; a destination that just fits, or doesn't.
 fn draw_at_limits(random: &mut Random) -> Drawn {
-    let mut tensor = Tensor { rank: 1, element_size: random.pick(&[1, 1, 1, 2, 3, 4]), ..Tensor::default() };
+    // Elements of one byte more often: of them alone a source can be just a byte longer.
+    let element_size = if random.chance(40) { 1 } else { random.pick(&ELEMENT_SIZES) };
+    let mut tensor = Tensor { rank: 1, element_size, ..Tensor::default() };
     let mut config = copy(1).config.with_fill(any_fill(random));
     let more = random.pick(&[0, 0, 1]);
     if random.chance(50) {

@@ -39,52 +39,55 @@ fn a_run_that_is_long_enough_meets_everything() {
     }
 }
 
+/// Some of what has to be met.
+const SOME_CASES: [&str; 39] = [
+    "00 version: made",
+    "02 room: 12",
+    "03 judge: 12 too large at 0",
+    "03 judge: 13 by a byte with 3-byte elements",
+    "04 element_size: 0 for 5",
+    "05 element_count: the most",
+    "06 sub_tensor: 3-byte sub-tensor from inside",
+    "20 move_plane: 12 past the row at 3",
+    "20 move_plane: 3 with 3-byte elements",
+    "20 move_plane: 3-byte row thinned",
+    "20 move_plane: 2-byte padding",
+    "22 advance: past the end of a slab",
+    "24 sub_part: 15",
+    "41 prepare: 22",
+    "41 prepare: ff04",
+    "43 step: slot in no state",
+    "43 step: begins in mid-row",
+    "43 step: 3-byte elements kept",
+    "45 poll: running",
+    "no call: ff02",
+    "rmvshow: 13",
+    "rmvshow: version 2 cut after 133 bytes",
+    "rmvshow: 3-byte padding",
+    "30 record::read: 27 of 135 bytes, version 1",
+    "30 record::read: version 2: 28 by byte 3 of size 3",
+    "31 record::write: 25 of 131 bytes, version 2",
+    "33 record_count: 30",
+    "34 record_at: 39 where k x 131 wraps",
+    "35 place_after: 39",
+    "36 first_two: 2 records",
+    "38 append: 38 and 1",
+    "38 append: 27 by a fill whose used bytes are 0 and others not",
+    "38 append: 28 and 27 by a fill",
+    "39 length_in: version 2 behind another mark",
+    "45 poll: 18 by the fill of a free slot",
+    "rmvlist: room 12",
+    "rmvlist: 1000 records",
+    "rmvlist: record of version 2",
+    "rmvlist: room for 3-byte elements",
+];
+
 #[test]
 fn what_was_not_met_is_named() {
     let calls = Calls::all();
     let mut coverage = Coverage::new(&calls);
     let missing = coverage.missing();
-    for case in [
-        "00 version: made",
-        "02 room: 12",
-        "03 judge: 12 too large at 0",
-        "03 judge: 13 by a byte with 3-byte elements",
-        "04 element_size: 0 for 5",
-        "05 element_count: the most",
-        "06 sub_tensor: 3-byte sub-tensor from inside",
-        "20 move_plane: 12 past the row at 3",
-        "20 move_plane: 3 with 3-byte elements",
-        "20 move_plane: 3-byte row thinned",
-        "20 move_plane: 2-byte padding",
-        "22 advance: past the end of a slab",
-        "24 sub_part: 15",
-        "41 prepare: 22",
-        "41 prepare: ff04",
-        "43 step: slot in no state",
-        "43 step: begins in mid-row",
-        "43 step: 3-byte elements kept",
-        "45 poll: running",
-        "no call: ff02",
-        "rmvshow: 13",
-        "rmvshow: version 2 cut after 133 bytes",
-        "rmvshow: 3-byte padding",
-        "30 record::read: 27 of 135 bytes, version 1",
-        "30 record::read: version 2: 28 by byte 3 of size 3",
-        "31 record::write: 25 of 131 bytes, version 2",
-        "33 record_count: 30",
-        "34 record_at: 39 where k x 131 wraps",
-        "35 place_after: 39",
-        "36 first_two: 2 records",
-        "38 append: 38 and 1",
-        "38 append: 27 by a fill whose used bytes are 0 and others not",
-        "38 append: 28 and 27 by a fill",
-        "39 length_in: version 2 behind another mark",
-        "45 poll: 18 by the fill of a free slot",
-        "rmvlist: room 12",
-        "rmvlist: 1000 records",
-        "rmvlist: record of version 2",
-        "rmvlist: room for 3-byte elements",
-    ] {
+    for case in SOME_CASES {
         assert!(missing.contains(&case.to_string()), "{case}");
     }
     coverage.call(&calls, b"00", &[0, 1, 0]);
