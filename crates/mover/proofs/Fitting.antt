@@ -28,7 +28,7 @@ last-kept shape offset size step hz hs h =
 
 module _ {t : Tensor} {c : Config} (g : GoodConfig t c) where
   -- in a source dimension, k from 0 to count - 1 stays below the shape
-  kept-within : (d k : ℕ) → d < t .rank → k ≤ count t c d - 1 → at (c .offset) d + k * at (c .step) d ≤ shapeAt t d - 1
+  pub kept-within : (d k : ℕ) → d < t .rank → k ≤ count t c d - 1 → at (c .offset) d + k * at (c .step) d ≤ shapeAt t d - 1
   unfolding count
   kept-within d k h l =
       let w = size-fits in

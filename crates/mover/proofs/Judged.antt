@@ -168,7 +168,7 @@ part-length : (m : List ℕ) (b k : ℕ) → b + k ≤ length m → length (byte
 part-length m b k h = length-take-le k (drop b m) (simp length-drop (omega arith))
 
 -- a part stored where it stands
-part-same : (m : List ℕ) (b k : ℕ) → b + k ≤ length m → sets m b (bytesAt m b k) ≡ m
+pub part-same : (m : List ℕ) (b k : ℕ) → b + k ≤ length m → sets m b (bytesAt m b k) ≡ m
 part-same m b k h =
     let len = part-length m b k h in
     sets-eq (bytesAt m b k) m b (omega arith) ∙
@@ -190,7 +190,7 @@ module _ (j : Job) (from budget : ℕ) (m : List ℕ) {a : Answer} (e : a ≡ an
     clear : jobFault (length m) j .status ≡ 0
     clear = job-clear (length m) j e z
 
-    advanced : {r : ℕ} {out : List ℕ} → r ≡ further j from budget → out ≡ advancedBy j from r m → (record { status = 0; dim = 0; count = r } ≡ advanceOf j from budget m) × (out ≡ advanceMemory j from budget m)
+    pub advanced : {r : ℕ} {out : List ℕ} → r ≡ further j from budget → out ≡ advancedBy j from r m → (record { status = 0; dim = 0; count = r } ≡ advanceOf j from budget m) × (out ≡ advanceMemory j from budget m)
     unfolding advanceOf advanceMemory
     advanced er eo =
         let none = job-none (length m) j e z in

@@ -28,3 +28,7 @@ pub mod Planned
 pub mod Making
 pub mod Judged
 pub mod SubParts
+-- Of the plain engine.
+pub mod Rows
+pub mod Storing
+pub mod Stretches

@@ -21,11 +21,11 @@ number (suc n) e x = number n e x * e n + x n
 
 -- the last coordinate is the fastest, and the others are those of the rows
 module _ (n : ℕ) (e : ℕ → ℕ) (q : ℕ) where
-  digit-last : digit (suc n) e q n ≡ q % e n
+  pub digit-last : digit (suc n) e q n ≡ q % e n
   unfolding product
   digit-last = let z : suc n - suc n ≡ 0 = omega arith in rw (z, div-one)
 
-  digit-row : (i : ℕ) → i < n → digit (suc n) e q i ≡ digit n e (q / e n) i
+  pub digit-row : (i : ℕ) → i < n → digit (suc n) e q i ≡ digit n e (q / e n) i
   unfolding product
   digit-row i h =
       let a : suc n - suc i ≡ suc (n - suc i) = omega arith in

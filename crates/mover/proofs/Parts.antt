@@ -33,7 +33,7 @@ sets-middle (v ∷ vs) x d y i h =
     rw (set-past x (d ++ y) i v, set-append-left d y i v k, ← add-suc) (sets-middle vs x (set d i v) y (suc i) (rw length-set (omega arith)))
 
 -- bytes within a part are bytes of the whole
-bytes-within : (m : List ℕ) (a l h z : ℕ) → a + l ≤ length m → h + z ≤ l → take z (drop (a + h) m) ≡ take z (drop h (take l (drop a m)))
+pub bytes-within : (m : List ℕ) (a l h z : ℕ) → a + l ≤ length m → h + z ≤ l → take z (drop (a + h) m) ≡ take z (drop h (take l (drop a m)))
 bytes-within m a l h z w k =
     let u : length (take z (drop (a + h) m)) ≡ z = length-take-le z (drop (a + h) m) (simp length-drop (omega arith)) in
     let n : length (take l (drop a m)) ≡ l = length-take-le l (drop a m) (simp length-drop (omega arith)) in

@@ -4,3 +4,5 @@ pub mod Elements
 pub mod Adding
 pub mod Runs
 pub mod Ready
+-- and as the plain engine does
+pub mod Rows

@@ -9,6 +9,7 @@ mod engine; // the loops over four destination coordinates
 mod moves; // a whole move between two lent slices
 mod within; // a move between two parts of one memory, a stretch at a time
 mod sub; // a sub-tensor of a lent source
+pub mod plain; // the plain engine, for readers: the same two calls
 
 pub use moves::move_plane;
 pub use plane::Answer;

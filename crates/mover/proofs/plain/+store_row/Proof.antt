@@ -1,0 +1,122 @@
+use Prim.Native.Nat.{ℕ, _+_, _-_, _*_, _≤_, _<_}
+use native.Mathlib.Omega.{arith}
+use mathlib.Core.Path.{_≡_, refl, sym, ap, subst, _∙_}
+use mathlib.Core.Logic.{⊎-elim}
+use lib.ListN.{length}
+use Rattle.plane.specs.Arrays.{at}
+use Rattle.mover.specs.Private.Rows.{inside, Stands}
+use Rattle.mover.proofs.Stretches.{Comes, storable, number-small, left-few, here-four, extent-most, some, passable, inward-stands, comes-start, comes-more, ends-most, comes-stopped, comes-end, comes-stored, comes-passed, told-one, told-inside, told-none, told-more, told-end}
+use borrow.Fn.Kinds.{In}
+use borrow.Fn.PlainCycle.{Measures, is, falls, and}
+use Rattle.mover.proofs.plain.store_row.Reads as store-row
+use Rattle.mover.proofs.plain.store_row.Kinds as store-row-kinds
+use Rattle.mover.proofs.plain.+store_row.Lts-store_row as store-row-lts
+use Rattle.mover.proofs.plain.inward.Reads as inward-reads
+use Rattle.mover.proofs.plain.store.Reads as store-reads
+use Rattle.mover.proofs.plain.+store_row.{statement}
+use Rattle.mover.proofs.plain.+store_row.Tie.{close}
+
+abbrev μ-store-row : Measures 2 store-row-kinds.ps ℕ
+μ-store-row κs a = a .1 .1 .1 .0
+
+abbrev store-row-at : ℕ → In 2 store-row-kinds.ps
+store-row-at t = and 2 store-row-kinds.ps (is 2 store-row-kinds.ps μ-store-row t) store-row.Pre
+
+abbrev store-row-below : ℕ → In 2 store-row-kinds.ps
+store-row-below t =
+    and 2 store-row-kinds.ps (falls 2 store-row-kinds.ps _<_ μ-store-row t) store-row.Pre
+
+abbrev store-row-Inv-loop : store-row-lts.InvT-loop
+store-row-Inv-loop src dst₀ row left first last i c₀ c-end dst c =
+    let a = row .room .answer in
+    let n = (row .number * at (a .extent) (a .rank - left) + c) * inside a (left - 1) in
+    (c ≤ at (a .extent) (a .rank - left)) × (length dst ≡ length dst₀) × (0 < c → n < last) ×
+    ((h : Stands row left src dst₀) → Comes h first last (row .number * inside a left) n dst)
+
+abbrev store-row-μ-loop : store-row-lts.MeasureT-loop
+store-row-μ-loop src dst₀ row left first last i c₀ c-end dst c = at (row .room .answer .extent) (row .room .answer .rank - left) - c
+
+pub +store-row-spec : {M : Type 1} → statement M
++store-row-spec = close μ-store-row λ t. store-row-lts.spec (
+  store-reads.Asked,
+  store-reads.Learnt,
+  inward-reads.Asked,
+  inward-reads.Learnt,
+  store-row-below t,
+  store-row.Post,
+)
+    (store-row-at t)
+    store-row.Post
+    store-row-Inv-loop
+    store-row-μ-loop
+    (λ c κs. let s = c .before .before .before .before .before .before .before in storable (s .pre .1) (c .before .before .before .before .if1 .taken))
+    (λ c. let s = c .before .before .before .before .before .before .before in record { fits = number-small (s .pre .1) (c .before .before .before .before .if1 .taken) })
+    (λ c. ⊎-elim (λ w. ap length (w .5) ∙ w .2 .kept .1 .0) (λ w. ap length (w .1)) (c .before .if2 .came))
+    (λ c.
+    let v = c .before .before .before .before .before .before .before .args in
+    let z = c .before .before .before .before .if1 .taken in (
+      told-one (v .row .room .answer) (v .left) (v .row .number + 1) (v .last) z,
+      λ h m u. ⊎-elim
+          (λ w. comes-stored h z (v .first) (v .last) (w .0 .taken) (w .5 ∙ w .2 .ensures) m u)
+          (λ w. comes-passed h z (v .first) (v .last) (w .0 .left) (w .1) m u)
+          (c .before .if2 .came),
+    ))
+    (λ c. let s = c .before .before .before .before in left-few (s .pre .1) (c .before .if1 .left))
+    (λ c. let s = c .before .before .before .before in record { fits = omega (arith, here-four (s .pre .1) (c .before .if1 .left)) })
+    (λ c. let s = c .before .before .before .before in record { fits = omega (arith, here-four (s .pre .1) (c .before .if1 .left)) })
+    (λ c. let s = c .before .before .before .before in here-four (s .pre .1) (c .before .if1 .left))
+    (λ c. let v = c .before .before .before .before .before .args in (omega arith, refl, (λ l. absurd (omega arith)), λ h. comes-start h (c .before .before .if1 .left) (v .first) (v .last)))
+    (λ c κs. let s = c .before .before .before .before .before .before .before in passable (s .pre .1) (c .before .before .before .before .if1 .left) (c .before .loop .c) (c .loop-test .taken) (s .good .0 .0) (s .good .1 .0 .0))
+    (λ c. let z = c .before .before .before .before .before .before .if1 .left in omega arith)
+    (λ c κs.
+    let k = c .before .before .before in
+    let s = k .before .before .before .before .before .before in
+    let z = k .before .before .before .if1 .left in (
+      subst (λ (j : ℕ). s .args .left - 1 < j) (s .pre .0) (omega arith),
+      inward-stands (s .pre .1) z (k .loop .c) (c .before .before .loop-test .taken) (c .before .inward .ensures) (k .loop .inv .1),
+    ))
+    (λ c. c .before .before .before .store-row .kept .1 .0 ∙ c .before .before .before .before .before .before .before .loop .inv .1)
+    (λ c.
+    let r = c .before .before .before in
+    let i = r .before .before in
+    let k = i .before .before in
+    let s = k .before .before .before .before .before .before in
+    let v = s .args in
+    let a = v .row .room .answer in
+    let z = k .before .before .before .if1 .left in
+    let l = i .before .loop-test .taken in
+    let x = k .loop .c in
+    let n = told-none (r .store-row .result) _ _ (v .last) (c .if3 .taken) (told-inside (v .row) (a .rank - v .left) x (v .left - 1) (v .last) (i .inward .ensures) (r .store-row .ensures .0)) (ends-most (s .pre .1) z (v .first) (v .last) x l) in (
+      n .1,
+      λ h. comes-stopped h z (v .first) (v .last) x l (n .0)
+          (comes-more h z (v .first) (v .last) x l (i .inward .ensures) (k .loop .inv .1) (k .loop .inv .3 h) (r .store-row .ensures .1)),
+    ))
+    (λ c.
+    let k = c .before .before .before .before .before .before .before in
+    let s = k .before .before .before .before .before .before in
+    record { fits = omega (arith, c .before .before .before .before .before .before .loop-test .taken, extent-most (s .pre .1) (k .before .before .before .if1 .left)) })
+    (λ c. omega (arith, c .before .before .before .before .before .before .loop-test .taken))
+    (λ c.
+    let r = c .before .before .before in
+    let i = r .before .before in
+    let k = i .before .before in
+    let v = k .before .before .before .before .before .before .args in
+    let a = v .row .room .answer in
+    let z = k .before .before .before .if1 .left in
+    let l = i .before .loop-test .taken in
+    let x = k .loop .c in (
+      omega (arith, l),
+      r .store-row .kept .1 .0 ∙ k .loop .inv .1,
+      (λ _. told-more (r .store-row .result) _ (v .last) (c .if3 .left) (told-inside (v .row) (a .rank - v .left) x (v .left - 1) (v .last) (i .inward .ensures) (r .store-row .ensures .0))),
+      λ h. comes-more h z (v .first) (v .last) x l (i .inward .ensures) (k .loop .inv .1) (k .loop .inv .3 h) (r .store-row .ensures .1),
+    ))
+    (λ c. c .before .loop .inv .1)
+    (λ c.
+    let k = c .before in
+    let s = k .before .before .before .before .before .before in
+    let v = s .args in
+    let z = k .before .before .before .if1 .left in
+    let e : k .loop .c ≡ at (v .row .room .answer .extent) (v .row .room .answer .rank - v .left) = omega (arith, k .loop .inv .0, c .loop-test .left) in (
+      told-end (s .pre .1) z (v .last) (k .loop .c) e (k .loop .inv .2),
+      λ h. comes-end h z (v .first) (v .last) e (k .loop .inv .3 h),
+    ))
