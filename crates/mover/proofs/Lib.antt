@@ -32,3 +32,4 @@ pub mod SubParts
 pub mod Rows
 pub mod Storing
 pub mod Stretches
+pub mod WholeRows

@@ -83,15 +83,15 @@ module _ {t : Tensor} {c : Config} (g : GoodSource t) (k : GoodConfig t c) where
   ]
 
 module _ (t : Tensor) (c : Config) (z : roomFault t c .status ≡ 0) where
-  room-source : GoodSource t
+  pub room-source : GoodSource t
   unfolding roomFault
   room-source = source-good t (or-clear _ _ z .0)
 
-  room-config : GoodConfig t c
+  pub room-config : GoodConfig t c
   unfolding roomFault
   room-config = config-good t c (or-clear _ _ (or-clear _ _ z .1) .0)
 
-  room-dst : GoodDst t c
+  pub room-dst : GoodDst t c
   unfolding roomFault
   room-dst = dst-good t c (or-clear _ _ (or-clear _ _ z .1) .1)
 

@@ -1,58 +1,83 @@
+-- `mover::plain::advance` stores what the budget allows of a job's elements from a number on. Assumes nothing.
+use Prim.Native.Nat.{_+_, _-_, min, _<_}
+use native.Mathlib.Omega.{arith}
+use mathlib.Core.Path.{_≡_, ap, _∙_}
+use mathlib.Core.Logic.{⊎-elim}
 use borrow.Author.Needs.{needs}
+use Rattle.mover.specs.declared.plain.Row.{Row}
+use Rattle.mover.specs.Private.Rows.{rowOf}
+use Rattle.mover.proofs.WholeRows.{rowAt, advance-told, advance-none, advance-fits, advance-stands, advance-stored}
 use Rattle.mover.proofs.plain.advance.Statement.{statement}
 use Rattle.mover.proofs.plain.advance.Tie as tie
-use Rattle.mover.proofs.plain.advance.Reads as reads
-use Rattle.mover.proofs.plain.advance.Lts as lts
-use Rattle.mover.proofs.plain.store_row.Reads as store-row-reads
-use Rattle.mover.proofs.plain.whole.Reads as whole-reads
-use Rattle.mover.proofs.within.judge_job.Reads as judge-job-reads
 
--- src/plain.rt:129:9
-judge-job-requires : tie.Need-judge-job-requires
-judge-job-requires c κs = search needs
+-- how many are left, and how many of them are moved
+left : (c : tie.Joined1) → c .if1 .left ≡ c .before .before .judge-job .result .total - c .before .before .before .before .args .from
+left c = ⊎-elim (λ w. w .2) (λ w. w .1 ∙ omega (arith, w .0 .left)) (c .if1 .came)
 
--- src/plain.rt:130:36
-sub-left : tie.Need-sub-left
-sub-left c = search needs
+count : (c : tie.Joined2) → let a = c .before .before .before .before .before .args in
+    c .if2 .count ≡ min (a .budget) (c .before .before .before .judge-job .result .total - a .from)
+count c =
+    let e = left (c .before) in
+    ⊎-elim (λ w. w .1 ∙ omega (arith, w .0 .taken)) (λ w. w .1 ∙ omega (arith, w .0 .left)) (c .if2 .came)
 
--- src/plain.rt:133:13
-whole-requires : tie.Need-whole-requires
-whole-requires c κs = search needs
+-- the row that the code makes
+row : (c : tie.After-whole) → let j = c .before .before .before .before .before .before .before .args .job in
+    record {
+      config = c .whole .result .config;
+      room = c .whole .result .room;
+      source = c .whole .result .source;
+      number = c .whole .result .number;
+      kept = c .whole .result .kept;
+      from = j .source .start;
+      to = j .destination .start;
+    } ≡ rowAt (j .tensor) (j .config) (j .source .start) (j .destination .start)
+unfolding rowOf
+row c =
+    let j = c .before .before .before .before .before .before .before .args .job in
+    ap (λ (w : Row). record { config = w .config; room = w .room; source = w .source; number = w .number; kept = w .kept; from = j .source .start; to = j .destination .start }) (c .whole .ensures)
 
--- src/plain.rt:136:19
-slice-aggregate-store-row : tie.Need-slice-aggregate-store-row
-slice-aggregate-store-row c = search needs
-
--- src/plain.rt:136:63
 add-store-row : tie.Need-add-store-row
-add-store-row c = ?
+add-store-row c =
+    let i = c .before .before .before .before in
+    let k = i .before in
+    let a = k .before .before .before .before .before .args in
+    record { fits = advance-fits (a .job) (a .from) (a .budget) (a .mem .now) (k .before .before .before .judge-job .ensures) (count k) (i .if3 .taken) }
 
--- src/plain.rt:136:9
 store-row-requires : tie.Need-store-row-requires
-store-row-requires c κs = ?
+store-row-requires c κs =
+    let i = c .before .before .before .before in
+    let k = i .before in
+    let a = k .before .before .before .before .before .args in
+    advance-stands (a .job) (a .from) (a .budget) (a .mem .now) (k .before .before .before .judge-job .ensures) (count k) (i .if3 .taken) (row (c .before .before .before))
 
--- src/plain.rt:125:1
-same-length : tie.Need-same-length
-same-length c = search needs
-
--- src/plain.rt:125:1
 returns : tie.Need-returns
-returns c = ?
+returns c =
+    let r = c .before .before in
+    let i = r .before .before .before .before .before in
+    let k = i .before in
+    let a = k .before .before .before .before .before .args in
+    let e = k .before .before .before .judge-job .ensures in (
+      advance-told (a .job) (a .from) (a .budget) (a .mem .now) e (count k),
+      advance-stored (a .job) (a .from) (a .budget) (a .mem .now) e (count k) (i .if3 .taken) (row (r .before .before .before .before)) (r .store-row .ensures .1),
+    )
 
--- src/plain.rt:125:1
 returns-2 : tie.Need-returns-2
-returns-2 c = ?
+returns-2 c =
+    let k = c .before in
+    let a = k .before .before .before .before .before .args in
+    let e = k .before .before .before .judge-job .ensures in
+    (advance-told (a .job) (a .from) (a .budget) (a .mem .now) e (count k), advance-none (a .job) (a .from) (a .budget) (a .mem .now) e (count k) (c .if3 .left))
 
 pub advance-spec : {M : Type 1} → statement M
 advance-spec =
     tie.close
     (tie.spec
-    judge-job-requires
-    sub-left
-    whole-requires
-    slice-aggregate-store-row
+    (λ c κs. search needs)
+    (λ c. search needs)
+    (λ c κs. search needs)
+    (λ c. search needs)
     add-store-row
     store-row-requires
-    same-length
+    (λ c. search needs)
     returns
     returns-2)

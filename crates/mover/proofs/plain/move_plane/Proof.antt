@@ -1,37 +1,49 @@
+-- `mover::plain::move_plane` stores all the elements of an accepted move, and none of a refused one. Assumes nothing.
+use mathlib.Core.Path.{_≡_, sym, ap}
+use lib.ListN.{length}
 use borrow.Author.Needs.{needs}
+use Rattle.plane.specs.declared.Answer.{Answer}
+use Rattle.plane.specs.Good.{GoodMove}
+use Rattle.mover.proofs.Laws.{moved-refused}
+use Rattle.mover.proofs.Judged.{judged-stopped, judged-move, judged-accepted}
+use Rattle.mover.proofs.WholeRows.{move-stands, move-stored, total-small}
 use Rattle.mover.proofs.plain.move_plane.Statement.{statement}
 use Rattle.mover.proofs.plain.move_plane.Tie as tie
-use Rattle.mover.proofs.plain.move_plane.Reads as reads
-use Rattle.mover.proofs.plain.move_plane.Lts as lts
-use Rattle.mover.proofs.plain.store_row.Reads as store-row-reads
-use Rattle.mover.proofs.plain.whole.Reads as whole-reads
-use Rattle.plane.proofs.judge.Reads as judge-reads
 
--- src/plain.rt:117:9
-judge-requires : tie.Need-judge-requires
-judge-requires c κs = search needs
+-- past the check, the move is accepted
+good : (c : tie.Then1) → let a = c .before .before .before .before .before .args in GoodMove (a .t) (a .c) (length (a .src .now)) (length (a .dst .now))
+good c =
+    let a = c .before .before .before .before .before .args in
+    judged-move (a .t) (a .c) _ _ (c .before .before .judge .ensures) (c .if1 .taken)
 
--- src/plain.rt:119:29
-whole-requires : tie.Need-whole-requires
-whole-requires c κs = search needs
+rank : (c : tie.Then1) → c .before .before .judge .result .rank ≡ c .before .before .before .before .before .args .t .rank
+rank c =
+    let a = c .before .before .before .before .before .args in
+    ap (λ (x : Answer). x .rank) (judged-accepted (a .t) (a .c) _ _ (c .before .before .judge .ensures) (c .if1 .taken) .1)
 
--- src/plain.rt:119:9
 store-row-requires : tie.Need-store-row-requires
-store-row-requires c κs = ?
+store-row-requires c κs =
+    let i = c .before .before in
+    let a = i .before .before .before .before .before .args in
+    move-stands (a .t) (a .c) (a .src .now) (a .dst .now) (good i) (rank i) (c .whole .ensures)
 
--- src/plain.rt:113:1
-same-length : tie.Need-same-length
-same-length c = search needs
-
--- src/plain.rt:113:1
 returns : tie.Need-returns
-returns c = ?
+returns c =
+    let r = c .before .before in
+    let i = r .before .before .before in
+    let a = i .before .before .before .before .before .args in (
+      i .before .before .judge .ensures,
+      move-stored (a .t) (a .c) (a .src .now) (a .dst .now) (good i) (rank i) (r .before .whole .ensures) 18446744073709551615
+          (total-small (a .t) (a .c) (a .src .now) (a .dst .now) (good i)) (r .store-row .ensures .1),
+    )
 
--- src/plain.rt:113:1
 returns-2 : tie.Need-returns-2
-returns-2 c = ?
+returns-2 c =
+    let j = c .before .before in
+    let a = j .before .before .before .args in
+    (j .judge .ensures, sym (moved-refused (a .t) (a .c) (a .src .now) (a .dst .now) (judged-stopped (a .t) (a .c) _ _ (j .judge .ensures) (c .if1 .left))))
 
 pub move-plane-spec : {M : Type 1} → statement M
 move-plane-spec =
     tie.close
-    (tie.spec judge-requires whole-requires store-row-requires same-length returns returns-2)
+    (tie.spec (λ c κs. search needs) (λ c κs. search needs) store-row-requires (λ c. search needs) returns returns-2)
