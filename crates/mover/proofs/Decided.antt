@@ -7,6 +7,8 @@ use Rattle.mover.proofs.moves.move_plane.Reads as move-plane
 use Rattle.mover.proofs.within.judge_job.Reads as judge-job
 use Rattle.mover.proofs.within.meets.Reads as meets
 use Rattle.mover.proofs.within.advance.Reads as advance
+use Rattle.mover.proofs.plain.move_plane.Reads as plain-move-plane
+use Rattle.mover.proofs.plain.advance.Reads as plain-advance
 use Rattle.mover.proofs.sub.sub_tensor.Reads as sub-tensor
 use Rattle.mover.proofs.sub.sub_part.Reads as sub-part
 
@@ -29,6 +31,19 @@ advance-decided = by-first
 -- the memory
 pub advance-memory : OneLeft advance.Post (λ κ r s. s .0 .now)
 advance-memory = record { one = λ κ a x y s t p q. p .1 ∙ sym (q .1) }
+
+-- the plain engine's
+pub plain-move-plane-decided : Decided plain-move-plane.Pre plain-move-plane.Post
+plain-move-plane-decided = by-first
+
+pub plain-move-plane-memory : OneLeft plain-move-plane.Post (λ κ r s. s .1 .1 .1 .0 .now)
+plain-move-plane-memory = record { one = λ κ a x y s t p q. p .1 ∙ sym (q .1) }
+
+pub plain-advance-decided : Decided plain-advance.Pre plain-advance.Post
+plain-advance-decided = by-first
+
+pub plain-advance-memory : OneLeft plain-advance.Post (λ κ r s. s .0 .now)
+plain-advance-memory = record { one = λ κ a x y s t p q. p .1 ∙ sym (q .1) }
 
 pub sub-tensor-decided : Decided sub-tensor.Pre sub-tensor.Post
 sub-tensor-decided = record { free = λ κ a. tt; one = λ κ a x y s t p q. p ∙ sym q }

@@ -9,6 +9,7 @@ pub mod Unseen
 pub mod Reaching
 pub mod Meeting
 pub mod Laws
+pub mod Engines
 -- Laws over plain values, which the functions' proofs cite.
 pub mod Bytes
 pub mod Places

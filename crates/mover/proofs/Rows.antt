@@ -1,10 +1,10 @@
 -- Rows of the plain engine: what a row comes to one dimension further in, and that it lies in what the checks worked out. Assumes
 -- nothing.
-use Prim.Native.Nat.{ℕ, zero, suc, _+_, _-_, _*_, _/_, _%_, _^_, _≤_, _<_}
+use Prim.Native.Nat.{ℕ, zero, suc, _+_, _-_, _*_, _/_, _^_, _≤_, _<_}
 use native.Mathlib.Nat.{add-mul, one-mul, mod-lt, mul-le-mul, mul-le-mul-right}
 use native.Mathlib.Decide.{decLe, decLt}
 use native.Mathlib.Omega.{arith}
-use mathlib.Core.Path.{_≡_, refl, sym, ap, ap₂, subst, _∙_}
+use mathlib.Core.Path.{_≡_, refl, sym, ap, ap₂, _∙_}
 use mathlib.Core.Bool.{Bool, true, false, cond, _&&_}
 use mathlib.Core.List.{List}
 use lib.Dec.{leb, ltb}
@@ -16,8 +16,7 @@ use Rattle.plane.specs.declared.Config.{Config}
 use Rattle.plane.specs.declared.Answer.{Answer}
 use Rattle.plane.specs.Arrays.{at, sum, product, every}
 use Rattle.plane.specs.Planes.{shapeAt, strideAt, resolved, srcStrides, sourceAt, span}
-use Rattle.plane.specs.Moves.{count, dstExtents, dstStrides, need, accepted}
-use Rattle.plane.specs.Good.{GoodSource, GoodConfig, GoodDst}
+use Rattle.plane.specs.Moves.{count, dstExtents, dstStrides, need}
 use Rattle.plane.proofs.Arrays.{firsts-at, sum-same, every-same, every-each}
 use Rattle.plane.proofs.Bounds.{element-small, product-most}
 use Rattle.plane.proofs.Rules.{dst-extent}

@@ -11,7 +11,6 @@ use lib.ListN.{length, getD, set, take, drop, length-drop}
 use lib.Seq.{sets, length-sets, length-take-le, take-all, getD-take, getD-drop}
 use Rattle.plane.specs.Numbers.{little}
 use Rattle.plane.proofs.Numbers.{length-little}
-use Rattle.plane.proofs.Bounds.{element-small}
 use Rattle.mover.specs.declared.plain.Row.{Row}
 use Rattle.mover.specs.Private.Rows.{sourceIn, ApartIn, sizeOf, rowBytes, Storable}
 use Rattle.mover.proofs.Bytes.{getD-sets-out, copy-more, length-take-most}

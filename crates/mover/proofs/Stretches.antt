@@ -2,23 +2,20 @@
 -- Assumes nothing.
 use Prim.Native.Nat.{ℕ, zero, suc, _+_, _-_, _*_, _^_, min, _≤_, _<_}
 use native.Mathlib.Nat.{add-zero, add-assoc, add-mul, one-mul, mul-one, mul-assoc, mul-le-mul-right, min-eq-left, min-eq-right, min-le-right}
-use native.Mathlib.Decide.{decLt, decLe}
 use native.Mathlib.Omega.{arith}
 use mathlib.Core.Path.{_≡_, refl, sym, ap, ap₂, subst, _∙_}
 use mathlib.Core.Logic.{_⊎_, ⊎-elim, inl, inr}
-use mathlib.Core.Bool.{Bool, true, false, cond, not, _&&_, true≢false}
+use mathlib.Core.Bool.{Bool, true, false, cond, not, true≢false}
 use mathlib.Core.List.{List, [], _∷_, _++_, append-assoc}
-use lib.Dec.{leb, ltb}
+use lib.Dec.{ltb}
 use lib.ListN.{length, take, drop, length-drop}
 use lib.Seq.{sets, sets-eq, length-sets, length-take-le}
-use borrow.Author.Tests.{lt-ltb, le-ltb, le-leb, ltb-true, ltb-false, leb-true}
-use Rattle.faults.proofs.Bools.{both-first, both-second}
+use borrow.Author.Tests.{lt-ltb, le-ltb, ltb-true, ltb-false}
 use Rattle.plane.specs.declared.Tensor.{Tensor}
 use Rattle.plane.specs.declared.Config.{Config}
 use Rattle.plane.specs.declared.Answer.{Answer}
 use Rattle.plane.specs.Arrays.{at, sum, product}
 use Rattle.plane.specs.Numbers.{little}
-use Rattle.plane.specs.Planes.{span}
 use Rattle.plane.specs.Moves.{need, accepted}
 use Rattle.plane.proofs.Arrays.{product-same}
 use Rattle.plane.proofs.Bounds.{product-most}
@@ -34,7 +31,7 @@ use Rattle.mover.proofs.Bytes.{length-cond, pick-same}
 use Rattle.mover.proofs.Laws.{moved-length}
 use Rattle.mover.proofs.Parts.{sets-middle, bytes-within, part-other}
 use Rattle.mover.proofs.Rows.{sourceTerm, placeTerm, its-size, its-extent, extent-small, inward-row, to-fits, from-fits}
-use Rattle.mover.proofs.Storing.{source-long, still-long}
+use Rattle.mover.proofs.Storing.{still-long}
 
 -- ---- how many elements lie inside a row
 
@@ -88,13 +85,9 @@ module _ (t : Tensor) (c : Config) (src : List ℕ) (first last q : ℕ) (d : Li
       let f : first + (q - first) ≡ q = omega arith in
       rw (a, b, e, f)
 
--- an element that is not of the stretch
-not-of-it : (first last q : ℕ) → (q < first) ⊎ (last ≤ q) → min last q - first ≡ min last (q + 1) - first
-not-of-it first last q (inl h) = omega (arith, min-le-right last q, min-le-right last (q + 1))
-not-of-it first last q (inr h) =
-    let a : min last q ≡ last = min-eq-left (omega arith) in
-    let b : min last (q + 1) ≡ last = min-eq-left (omega arith) in
-    rw (a, b)
+-- an element before the stretch
+before-it : (first last q : ℕ) → q < first → min last q - first ≡ min last (q + 1) - first
+before-it first last q h = omega (arith, min-le-right last q, min-le-right last (q + 1))
 
 -- the row of one element, as a list's
 row-stored : {t : Tensor} {p r : ℕ} {w : Row} → RowOf t p r (t .rank) w → (src d : List ℕ)
@@ -199,10 +192,10 @@ module _ {w : Row} {left : ℕ} {s d : List ℕ} (h : Stands w left s d) where
           moved-length (h .t) (w .config) source first (min last n - first) (bytesOf (h .r) m) ∙
           length-take-le (h .r .length) (drop (h .r .start) m) (rw length-drop (omega (arith, h .destination, same)))
 
-      pub not-stored : (w .number < first) ⊎ (last ≤ w .number) → d ≡ stretchIn (h .t) (w .config) (h .p) (h .r) s first last ((w .number + 1) * inside (w .room .answer) left) m
+      not-stored : w .number < first → d ≡ stretchIn (h .t) (w .config) (h .p) (h .r) s first last ((w .number + 1) * inside (w .room .answer) left) m
       unfolding stretchIn
       not-stored o =
-          stands ∙ ap (λ (n : ℕ). sets m (h .r .start) (moved (h .t) (w .config) source first n (bytesOf (h .r) m))) (not-of-it first last (w .number) o) ∙
+          stands ∙ ap (λ (n : ℕ). sets m (h .r .start) (moved (h .t) (w .config) source first n (bytesOf (h .r) m))) (before-it first last (w .number) o) ∙
           ap (λ (n : ℕ). sets m (h .r .start) (part n)) (sym (one (w .number + 1)))
 
       module _ (i : first ≤ w .number) (j : w .number < last) where
@@ -235,7 +228,7 @@ module _ {w : Row} {left : ℕ} {s d : List ℕ} (h : Stands w left s d) where
         unfolding bytes
         bytes-short = length-cond (w .kept) size _ (little size (w .config .fill)) (rw length-little (omega arith))
 
-        pub is-stored : {e : List ℕ} → e ≡ sets d (w .to) (rowBytes w (sourceIn s d))
+        is-stored : {e : List ℕ} → e ≡ sets d (w .to) (rowBytes w (sourceIn s d))
             → e ≡ stretchIn (h .t) (w .config) (h .p) (h .r) s first last ((w .number + 1) * inside (w .room .answer) left) m
         unfolding stretchIn bytes
         is-stored e =
@@ -255,8 +248,8 @@ module _ {w : Row} {left : ℕ} {s d : List ℕ} (h : Stands w left s d) where
     dim : h .t .rank - left < h .t .rank
     dim = omega (arith, h .few)
 
-    pub left-few : left ≤ w .room .answer .rank
-    left-few = omega (arith, h .few, rank-is)
+    pub left-few : (left ≤ w .room .answer .rank) × (w .room .answer .rank ≤ 4)
+    left-few = (omega (arith, h .few, rank-is), omega (arith, rank-is, h .row .good-source .rank .1))
 
     -- the dimension as the code has it
     here : RowOf (h .t) (h .p .start) (h .r .start) (w .room .answer .rank - left) w
@@ -265,12 +258,6 @@ module _ {w : Row} {left : ℕ} {s d : List ℕ} (h : Stands w left s d) where
 
     here-dim : w .room .answer .rank - left < h .t .rank
     here-dim = omega (arith, rank-is, dim)
-
-    pub here-four : w .room .answer .rank - left < 4
-    here-four = omega (arith, here-dim, h .row .good-source .rank .1)
-
-    pub some : 0 < at (w .room .answer .extent) (w .room .answer .rank - left)
-    some = rw (its-extent here here-dim) (extent-small here here-dim .0)
 
     pub extent-most : at (w .room .answer .extent) (w .room .answer .rank - left) ≤ 65535
     extent-most = rw (its-extent here here-dim) (extent-small here here-dim .1)
@@ -326,7 +313,7 @@ module _ {w : Row} {left : ℕ} {s d : List ℕ} (h : Stands w left s d) (z : le
 
   -- before the first turn
   pub comes-start : Comes h first last (w .number * inside a left) ((w .number * extent + 0) * inside a (left - 1)) d
-  comes-start m u = u ∙ ap (λ (n : ℕ). stretchIn (h .t) (w .config) (h .p) (h .r) s first last n m) (starts a left (w .number) z (left-few h z))
+  comes-start m u = u ∙ ap (λ (n : ℕ). stretchIn (h .t) (w .config) (h .p) (h .r) s first last n m) (starts a left (w .number) z (left-few h z .0))
 
   -- after a turn
   pub comes-more : (x : ℕ) (l : x < extent) {n : Row} (e : n ≡ inwardOf w (a .rank - left) x) {d' e' : List ℕ} (ld : length d' ≡ length d)
@@ -352,7 +339,7 @@ module _ {w : Row} {left : ℕ} {s d : List ℕ} (h : Stands w left s d) (z : le
 
   -- a row that is left early, and one that is gone through
   pub ends-most : (x : ℕ) → x < extent → (w .number * extent + (x + 1)) * inside a (left - 1) ≤ (w .number + 1) * inside a left
-  ends-most x l = rw (ends a left (w .number) z (left-few h z)) (mul-le-mul-right (inside a (left - 1)) (omega arith))
+  ends-most x l = rw (ends a left (w .number) z (left-few h z .0)) (mul-le-mul-right (inside a (left - 1)) (omega arith))
 
   pub comes-stopped : (x : ℕ) → x < extent → {e : List ℕ} → last ≤ (w .number * extent + (x + 1)) * inside a (left - 1)
       → Comes h first last (w .number * inside a left) ((w .number * extent + (x + 1)) * inside a (left - 1)) e
@@ -363,28 +350,18 @@ module _ {w : Row} {left : ℕ} {s d : List ℕ} (h : Stands w left s d) (z : le
       → Comes h first last (w .number * inside a left) ((w .number + 1) * inside a left) e
   comes-end {x} p f m u =
       f m u ∙ ap (λ (n : ℕ). stretchIn (h .t) (w .config) (h .p) (h .r) s first last n m)
-      (ap (λ (y : ℕ). (w .number * extent + y) * inside a (left - 1)) p ∙ sym (ends a left (w .number) z (left-few h z)))
+      (ap (λ (y : ℕ). (w .number * extent + y) * inside a (left - 1)) p ∙ sym (ends a left (w .number) z (left-few h z .0)))
 
 -- ---- a row that is one element
 
--- an element that is not of the stretch
-outside : (first last q : ℕ) → (leb first q && ltb q last) ≡ false → (q < first) ⊎ (last ≤ q)
-outside first last q e = elim (decLt q first) [
-  | yes l ↦ inl l
-  | no l ↦ inr (ltb-false q last (rw (le-leb first q (omega arith)) at e))
-]
-
 module _ {w : Row} {left : ℕ} {s d : List ℕ} (h : Stands w left s d) (z : left ≡ 0) (first last : ℕ) where
-  pub comes-stored : {e : List ℕ} → (leb first (w .number) && ltb (w .number) last) ≡ true → e ≡ sets d (w .to) (rowBytes w (sourceIn s d))
+  pub comes-stored : {e : List ℕ} → first ≤ w .number → w .number * inside (w .room .answer) left < last → e ≡ sets d (w .to) (rowBytes w (sourceIn s d))
       → Comes h first last (w .number * inside (w .room .answer) left) ((w .number + 1) * inside (w .room .answer) left) e
-  comes-stored b f m u =
-      let i = leb first (w .number) in
-      let j = ltb (w .number) last in
-      is-stored h z first last m u (leb-true first (w .number) (both-first i j b)) (ltb-true (w .number) last (both-second i j b)) f
+  comes-stored i j f m u = is-stored h z first last m u i (rw (one h z first last m u (w .number)) at j) f
 
-  pub comes-passed : {e : List ℕ} → (leb first (w .number) && ltb (w .number) last) ≡ false → e ≡ d
+  pub comes-passed : {e : List ℕ} → w .number < first → e ≡ d
       → Comes h first last (w .number * inside (w .room .answer) left) ((w .number + 1) * inside (w .room .answer) left) e
-  comes-passed b f m u = f ∙ not-stored h z first last m u (outside first last (w .number) b)
+  comes-passed i f m u = f ∙ not-stored h z first last m u i
 
 -- ---- whether more are to come
 
@@ -409,13 +386,23 @@ pub told-more : (b : Bool) (n last : ℕ) → not b ≡ false → b ≡ ltb n la
 told-more true n last e t = ltb-true n last (sym t)
 told-more false n last e t = absurd (true≢false e)
 
--- after the last row inside
+-- before the first row inside, and after the last
 module _ {w : Row} {left : ℕ} {s d : List ℕ} (h : Stands w left s d) (z : left ≡ 0 → ⊥) (last : ℕ) where
+  pub before-first : w .number * inside (w .room .answer) left < last
+      → (w .number * at (w .room .answer .extent) (w .room .answer .rank - left) + 0) * inside (w .room .answer) (left - 1) < last
+  before-first i = rw (starts (w .room .answer) left (w .number) z (left-few h z .0)) at i
+
   pub told-end : (x : ℕ) → x ≡ at (w .room .answer .extent) (w .room .answer .rank - left)
-      → (0 < x → (w .number * at (w .room .answer .extent) (w .room .answer .rank - left) + x) * inside (w .room .answer) (left - 1) < last)
+      → (w .number * at (w .room .answer .extent) (w .room .answer .rank - left) + x) * inside (w .room .answer) (left - 1) < last
       → true ≡ ltb ((w .number + 1) * inside (w .room .answer) left) last
   told-end x e f =
       let a = w .room .answer in
       let n : (w .number * at (a .extent) (a .rank - left) + x) * inside a (left - 1) ≡ (w .number + 1) * inside a left =
-      ap (λ (y : ℕ). (w .number * at (a .extent) (a .rank - left) + y) * inside a (left - 1)) e ∙ sym (ends a left (w .number) z (left-few h z)) in
-      sym (lt-ltb ((w .number + 1) * inside a left) last (omega (arith, n, f (omega (arith, some h z)))))
+      ap (λ (y : ℕ). (w .number * at (a .extent) (a .rank - left) + y) * inside a (left - 1)) e ∙ sym (ends a left (w .number) z (left-few h z .0)) in
+      sym (lt-ltb ((w .number + 1) * inside a left) last (omega (arith, n, f)))
+
+-- a row inside comes before the last of the stretch
+pub before-inside : (w : Row) {n : Row} (i x left last : ℕ) → n ≡ inwardOf w i x
+    → (w .number * at (w .room .answer .extent) i + x) * inside (w .room .answer) left < last → n .number * inside (n .room .answer) left < last
+unfolding inwardOf
+before-inside w i x left last e l = subst (λ (v : Row). v .number * inside (v .room .answer) left < last) (sym e) l

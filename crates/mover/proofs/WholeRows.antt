@@ -134,6 +134,11 @@ module _ (t : Tensor) (c : Config) (src dst : List ℕ) (g : GoodMove t c (lengt
         whole-stands t c (move-room t c g) (whole src) (whole dst) src dst (rw (lent src dst not-empty) (omega arith)) (omega arith)
         (lent-apart src 0 (0 + length src) 0 (0 + length dst) not-empty) (g .long) (g .room) en as-row
 
+    -- element 0 comes before any end but 0
+    pub move-before : (last : ℕ) → 0 < last → w .number * inside (w .room .answer) n < last
+    unfolding rowOf
+    move-before last l = subst (λ (v : Row). v .number * inside (v .room .answer) n < last) (sym ew) (rw (zero-mul (inside (rowOf t c .room .answer) n)) l)
+
     -- all elements of it
     pub move-stored : (last : ℕ) {out : List ℕ} → total t c ≤ last
         → ((h : Stands w n src dst) → Comes h 0 last (w .number * inside (w .room .answer) n) ((w .number + 1) * inside (w .room .answer) n) out)
@@ -217,6 +222,11 @@ module _ (j : Job) (from budget : ℕ) (m : List ℕ) {v : Verdict} (ev : v ≡ 
           whole-stands (j .tensor) (j .config) (move-room (j .tensor) (j .config) good) (j .source) (j .destination) [] m
           (source-fits (length m) j advance-clear) (destination-fits (length m) j advance-clear) (job-apart (length m) j advance-clear)
           (good .long) (good .room) refl ew
+
+      pub advance-before : w .number * inside (w .room .answer) (j .tensor .rank) < from + count
+      advance-before =
+          subst (λ (v : Row). v .number * inside (v .room .answer) (j .tensor .rank) < from + count) (sym ew)
+          (rw (zero-mul (inside (roomOf (j .tensor) (j .config) .answer) (j .tensor .rank))) (omega (arith, some)))
 
       pub advance-stored : {out : List ℕ}
           → ((h : Stands w (j .tensor .rank) [] m) → Comes h from (from + count) (w .number * inside (w .room .answer) (j .tensor .rank)) ((w .number + 1) * inside (w .room .answer) (j .tensor .rank)) out)

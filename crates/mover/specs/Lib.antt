@@ -1,5 +1,5 @@
 -- What a reader must believe. Then what the theorems claim: Orders (the rules of a job, in order), Demand2, Work (how much is moved),
--- Claims (all else). Private holds what only private functions cite.
+-- Engines (the plain engine and the first are one), Claims (all else). Private holds what only private functions cite.
 pub mod Element
 pub mod Moved
 pub mod Within
@@ -8,4 +8,5 @@ pub mod Orders
 pub mod Demand2
 pub mod Work
 pub mod Claims
+pub mod Engines
 pub mod Private

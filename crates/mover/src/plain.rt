@@ -74,11 +74,12 @@ fn inward(mut row: Row, i: usize, c: u32) -> Row
 // Stores those of the elements first to last - 1 that lie in a row with so many dimensions left; tells whether more come after it.
 fn store_row(src: &[u8], dst: &mut [u8], row: Row, left: u8, first: u64, last: u64) -> bool
     requires { ⌜ Stands row left (now src) (now dst) ⌝ }
+    requires { ⌜ row .number * inside (row .room .answer) left < last ⌝ }
     ensures told { λ r. ⌜ r ≡ ltb ((row .number + 1) * inside (row .room .answer) left) last ⌝ }
     ensures stored { λ _. ⌜ ((h : Stands row left (now (src .entry)) (now (dst .entry))) (m : List ℕ) → now (dst .entry) ≡ upTo h first last (row .number * inside (row .room .answer) left) m → now (dst .exit) ≡ upTo h first last ((row .number + 1) * inside (row .room .answer) left) m) ⌝ }
 {
     if left == 0 {
-        if (first <= row.number) & (row.number < last) {
+        if first <= row.number {
             store(src, dst, row);
         }
         return row.number + 1 < last;

@@ -1,12 +1,12 @@
 -- `mover::plain::advance` stores what the budget allows of a job's elements from a number on. Assumes nothing.
-use Prim.Native.Nat.{_+_, _-_, min, _<_}
+use Prim.Native.Nat.{_-_, min}
 use native.Mathlib.Omega.{arith}
 use mathlib.Core.Path.{_≡_, ap, _∙_}
 use mathlib.Core.Logic.{⊎-elim}
 use borrow.Author.Needs.{needs}
 use Rattle.mover.specs.declared.plain.Row.{Row}
 use Rattle.mover.specs.Private.Rows.{rowOf}
-use Rattle.mover.proofs.WholeRows.{rowAt, advance-told, advance-none, advance-fits, advance-stands, advance-stored}
+use Rattle.mover.proofs.WholeRows.{rowAt, advance-told, advance-none, advance-fits, advance-stands, advance-before, advance-stored}
 use Rattle.mover.proofs.plain.advance.Statement.{statement}
 use Rattle.mover.proofs.plain.advance.Tie as tie
 
@@ -48,7 +48,10 @@ store-row-requires c κs =
     let i = c .before .before .before .before in
     let k = i .before in
     let a = k .before .before .before .before .before .args in
-    advance-stands (a .job) (a .from) (a .budget) (a .mem .now) (k .before .before .before .judge-job .ensures) (count k) (i .if3 .taken) (row (c .before .before .before))
+    let e = k .before .before .before .judge-job .ensures in (
+      advance-stands (a .job) (a .from) (a .budget) (a .mem .now) e (count k) (i .if3 .taken) (row (c .before .before .before)),
+      advance-before (a .job) (a .from) (a .budget) (a .mem .now) e (count k) (i .if3 .taken) (row (c .before .before .before)),
+    )
 
 returns : tie.Need-returns
 returns c =

@@ -1,7 +1,6 @@
 -- `mover::plain::byte` is a byte of an element. Assumes nothing.
 use Prim.Native.Nat.{_+_, _<_}
 use native.Mathlib.Omega.{arith}
-use mathlib.Core.Path.{_≡_, sym}
 use borrow.Author.Needs.{needs}
 use lib.ListN.{length}
 use Rattle.mover.specs.Private.Rows.{sourceIn}

@@ -1,10 +1,9 @@
 -- `mover::plain::inward` goes one dimension further in. Assumes nothing.
-use Prim.Native.Nat.{_+_, _*_, _≤_, _<_}
 use native.Mathlib.Omega.{arith}
 use mathlib.Core.Path.{_≡_}
 use mathlib.Core.Bool.{true}
 use borrow.Author.Needs.{needs}
-use Rattle.mover.specs.Private.Rows.{inwardOf, Passable}
+use Rattle.mover.specs.Private.Rows.{inwardOf}
 use Rattle.mover.proofs.Rows.{pass-dim, pass-size, pass-parts, pass-extent, pass-number, pass-offset, pass-stride, pass-place, pass-to, pass-source-stride, pass-pre, pass-at, pass-source, pass-from}
 use Rattle.mover.proofs.plain.inward.Statement.{statement}
 use Rattle.mover.proofs.plain.inward.Tie as tie

@@ -1,4 +1,5 @@
 -- `mover::plain::move_plane` stores all the elements of an accepted move, and none of a refused one. Assumes nothing.
+use native.Mathlib.Omega.{arith}
 use mathlib.Core.Path.{_≡_, sym, ap}
 use lib.ListN.{length}
 use borrow.Author.Needs.{needs}
@@ -6,7 +7,7 @@ use Rattle.plane.specs.declared.Answer.{Answer}
 use Rattle.plane.specs.Good.{GoodMove}
 use Rattle.mover.proofs.Laws.{moved-refused}
 use Rattle.mover.proofs.Judged.{judged-stopped, judged-move, judged-accepted}
-use Rattle.mover.proofs.WholeRows.{move-stands, move-stored, total-small}
+use Rattle.mover.proofs.WholeRows.{move-stands, move-before, move-stored, total-small}
 use Rattle.mover.proofs.plain.move_plane.Statement.{statement}
 use Rattle.mover.proofs.plain.move_plane.Tie as tie
 
@@ -25,7 +26,10 @@ store-row-requires : tie.Need-store-row-requires
 store-row-requires c κs =
     let i = c .before .before in
     let a = i .before .before .before .before .before .args in
-    move-stands (a .t) (a .c) (a .src .now) (a .dst .now) (good i) (rank i) (c .whole .ensures)
+    let g = good i in (
+      move-stands (a .t) (a .c) (a .src .now) (a .dst .now) g (rank i) (c .whole .ensures),
+      move-before (a .t) (a .c) (a .src .now) (a .dst .now) g (rank i) (c .whole .ensures) 18446744073709551615 (omega arith),
+    )
 
 returns : tie.Need-returns
 returns c =

@@ -1,11 +1,11 @@
 -- `mover::plain::store` stores an element byte by byte: those of the source that are still to be read are as they were. Assumes nothing.
-use Prim.Native.Nat.{ℕ, _+_, _-_, _≤_, _<_}
+use Prim.Native.Nat.{ℕ, _-_, _≤_}
 use native.Mathlib.Omega.{arith}
-use mathlib.Core.Path.{_≡_, refl, sym, ap, _∙_}
+use mathlib.Core.Path.{_≡_, refl, ap, _∙_}
 use lib.ListN.{length, take}
-use lib.Seq.{sets, length-sets}
+use lib.Seq.{sets}
 use Rattle.plane.proofs.Bounds.{element-small}
-use Rattle.mover.specs.Private.Rows.{sourceIn, sizeOf, rowBytes, Storable}
+use Rattle.mover.specs.Private.Rows.{sourceIn, sizeOf, rowBytes}
 use Rattle.mover.proofs.Storing.{still-long, byte-next, stored-long, stored-all}
 use Rattle.mover.proofs.plain.store.Statement.{statement}
 use Rattle.mover.proofs.plain.store.Tie as tie
