@@ -28,6 +28,8 @@ use crate::mover_calls::SOURCE_COUNT;
 use crate::mover_calls::advance;
 use crate::mover_calls::move_plane;
 use crate::mover_calls::mover_call;
+use crate::mover_calls::plain_advance;
+use crate::mover_calls::plain_move_plane;
 use crate::plane_calls::plane_call;
 use crate::record_calls::read;
 use crate::record_calls::record_call;
@@ -111,9 +113,9 @@ fn fixed(number: u8) -> usize {
         0x17 => ALL,
         0x18 | 0x19 | 0x1a | 0x1b | 0x1c => SET_WORDS,
         0x1d | 0x1e | 0x1f => SET_BYTES,
-        0x20 => MOVE,
+        0x20 | 0x26 => MOVE,
         0x21 => JUDGE_JOB,
-        0x22 => ADVANCE,
+        0x22 | 0x27 => ADVANCE,
         0x23 => MEETS,
         0x24 | 0x25 => OF_SUB,
         0x34 | 0x35 | 0x40 => OF_LONG,
@@ -158,7 +160,7 @@ pub(crate) fn no_call(out: &mut Out, reason: u8) -> usize {
 
 // The version of docs/CALLS.md.
 fn version(out: &mut Out) -> usize {
-    let p = byte(out, FIRST, 3);
+    let p = byte(out, FIRST, 4);
     byte(out, p, 0)
 }
 
@@ -176,6 +178,8 @@ fn change(number: u8, body: &Body, source: &[u8], mem: &mut [u8], out: &mut Out)
     match number {
         0x20 => move_plane(body, source, mem, out),
         0x22 => advance(body, mem, out),
+        0x26 => plain_move_plane(body, source, mem, out),
+        0x27 => plain_advance(body, mem, out),
         0x31 => write(body, mem, out),
         0x37 => start_list(mem, out),
         0x38 => append(body, mem, out),
@@ -212,13 +216,13 @@ fn change_lent(number: u8, body: &Body, source: &[u8], mem: &[u8], out: &mut Out
     change_in(number, body, source, mem, &mut room, out)
 }
 
-// 20: n source bytes, and then the destination.
-fn move_lent(body: &Body, rest: &[u8], out: &mut Out) -> usize {
+// 20 and 26: n source bytes, and then the destination.
+fn move_lent(number: u8, body: &Body, rest: &[u8], out: &mut Out) -> usize {
     let n = args::word(body, SOURCE_COUNT) as usize;
     if rest.len() < n {
         return no_call(out, 4);
     }
-    change_lent(0x20, body, &rest[0..n], &rest[n..], out)
+    change_lent(number, body, &rest[0..n], &rest[n..], out)
 }
 
 // Any other call that changes no memory: the first digit of its number says whose it is.
@@ -236,10 +240,10 @@ fn ask(number: u8, body: &Body, rest: &[u8], out: &mut Out) -> usize {
 fn call(number: u8, body: &Body, rest: &[u8], out: &mut Out) -> usize {
     match number {
         0x00 => version(out),
-        0x20 => move_lent(body, rest, out),
+        0x20 | 0x26 => move_lent(number, body, rest, out),
         0x30 => read(rest, out),
         0x39 | 0x3a | 0x3b => record_call(number, body, rest, out),
-        0x22 | 0x31 | 0x37 | 0x38 | 0x43 => change_lent(number, body, rest, rest, out),
+        0x22 | 0x27 | 0x31 | 0x37 | 0x38 | 0x43 => change_lent(number, body, rest, rest, out),
         _ => ask(number, body, rest, out),
     }
 }

@@ -1,4 +1,4 @@
-// 20 to 25: moves, and sub-tensors of a lent source. Every answer starts after the call's number.
+// 20 to 27: moves by either engine, and sub-tensors of a lent source. Every answer starts after the call's number.
 use crate::answers;
 use crate::answers::Out;
 use crate::args;
@@ -77,6 +77,28 @@ fn sub_tensor(b: &Body, source: &[u8], out: &mut Out) -> usize {
         source,
     );
     put_sub(out, s)
+}
+
+// 26
+pub(crate) fn plain_move_plane(b: &Body, src: &[u8], dst: &mut [u8], out: &mut Out) -> usize {
+    let a = mover::plain::move_plane(
+        args::tensor(b, FIRST),
+        args::config(b, AFTER_TENSOR),
+        src,
+        dst,
+    );
+    answers::answer(out, FIRST, a)
+}
+
+// 27
+pub(crate) fn plain_advance(b: &Body, mem: &mut [u8], out: &mut Out) -> usize {
+    let a = mover::plain::advance(
+        mem,
+        args::job(b, FIRST),
+        args::long(b, FROM),
+        args::long(b, BUDGET),
+    );
+    answers::counted(out, FIRST, a.status, a.dim, a.count)
 }
 
 // 21 and 23 to 25; rest is the source of a sub-tensor.
