@@ -4,6 +4,7 @@ use crate::helpers::{self, Count, SubConfig, SubTensor};
 use crate::job::{self, Advanced, Job, Judged, Part};
 use crate::list::{self, Appended, FirstTwo, Numbered, Started};
 use crate::moves::{self, Answer, Config, Room};
+use crate::plain;
 use crate::ready_made::{self, Made, Padding};
 use crate::record::{self, Reading};
 use crate::tensor::{self, Fault, Source, Tensor};
@@ -158,6 +159,7 @@ impl Calls {
         calls.extend(ready_made_calls());
         calls.extend(setting_calls());
         calls.extend(mover_calls());
+        calls.extend(plain_calls());
         calls.extend(record_calls());
         calls.extend(list_calls());
         calls.extend(table_calls());
@@ -167,7 +169,7 @@ impl Calls {
 
 fn plane_calls() -> Vec<Call> {
     vec![
-        call(0x00, "version", Gives::OneKind, |_: ()| -> u16 { 3 }),
+        call(0x00, "version", Gives::OneKind, |_: ()| -> u16 { 4 }),
         call(0x01, "source_of", SOURCE, |tensor: Tensor| -> Source { tensor::source_of(&tensor) }),
         call(0x02, "room", ROOM, |(tensor, config): (Tensor, Config)| -> Room { moves::room(&tensor, &config) }),
         call(0x03, "judge", MOVE, |(tensor, config, source, destination): (Tensor, Config, u64, u64)| -> Answer {
@@ -256,6 +258,25 @@ fn mover_calls() -> Vec<Call> {
                 helpers::sub_tensor(&tensor, &config, source.0.len() as u64)
             },
         ),
+    ]
+}
+
+/// "It is proved to give the same status, answer and memory as the first on all inputs, refused ones included."
+fn plain_calls() -> Vec<Call> {
+    vec![
+        call(
+            0x26,
+            "plain::move_plane",
+            MOVE,
+            |(tensor, config, source, room): (Tensor, Config, Counted, Memory)| -> Moved {
+                let mut destination = room;
+                let answer = plain::move_plane(&tensor, &config, &source.0, &mut destination.0);
+                Moved { answer, destination }
+            },
+        ),
+        call(0x27, "plain::advance", JOB, |(job, from, budget, memory): (Job, u64, u64, Memory)| -> Advanced {
+            plain::advance(&job, from, budget, memory.0)
+        }),
     ]
 }
 

@@ -21,6 +21,8 @@ const LAST_SETTING: u8 = 0x1f;
 const MOVE_PLANE: u8 = 0x20;
 const JUDGE_JOB: u8 = 0x21;
 const ADVANCE: u8 = 0x22;
+const PLAIN_MOVE: u8 = 0x26;
+const PLAIN_ADVANCE: u8 = 0x27;
 const APPEND: u8 = 0x38;
 const PREPARE: u8 = 0x41;
 const START: u8 = 0x42;
@@ -50,7 +52,7 @@ fn all(number: u8, arguments: &[u8], status: u8) -> Vec<Case> {
             let (_, job): (u64, Job) = begin(arguments);
             of_unused(&(job.tensor, job.config), status)
         }
-        MOVE_PLANE | ADVANCE => of_padding(number, arguments, status),
+        MOVE_PLANE | PLAIN_MOVE | ADVANCE | PLAIN_ADVANCE => of_padding(number, arguments, status),
         WITH_FILL | ALL | FIRST_SETTING..=LAST_SETTING => of_configuration(number, arguments, status),
         APPEND => of_append(begin(arguments), status),
         PREPARE => of_prepare(arguments, status),

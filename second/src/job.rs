@@ -32,7 +32,7 @@ impl Part {
     }
 
     /// The bytes of a part that has passed 20.
-    fn range(&self) -> std::ops::Range<usize> {
+    pub fn range(&self) -> std::ops::Range<usize> {
         self.start as usize..(self.start + self.length) as usize
     }
 

@@ -16,6 +16,7 @@ mod list;
 mod list_cases;
 mod moves;
 mod offset_cases;
+mod plain;
 mod random;
 mod ready_made;
 mod record;

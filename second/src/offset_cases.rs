@@ -1,5 +1,5 @@
 //! The cases of a destination offset, which the number 12 alone does not tell apart. A long comparison has to meet each
-//! in a move that is judged and in one that is made.
+//! in a move that is judged and in one that is made, by either engine.
 
 use crate::moves::{offset_too_large, room, runs_past_row, Answer, Config};
 use crate::tensor::{inner_product, wide, Tensor};
@@ -7,6 +7,7 @@ use crate::wire::{whole, Counted, Memory};
 
 const JUDGE: u8 = 0x03;
 const MOVE_PLANE: u8 = 0x20;
+const PLAIN_MOVE: u8 = 0x26;
 
 const TOO_LARGE: &str = "12 too large at";
 const PAST: &str = "12 past the row at";
@@ -29,7 +30,7 @@ const OTHERS: [&str; 8] =
 /// All cases of the call of this number.
 pub fn cases(number: u8) -> Vec<String> {
     let mut cases = Vec::new();
-    if ![JUDGE, MOVE_PLANE].contains(&number) {
+    if ![JUDGE, MOVE_PLANE, PLAIN_MOVE].contains(&number) {
         return cases;
     }
     for (case, first) in BY_DIMENSION {
@@ -70,7 +71,7 @@ fn asked(bytes: &[u8]) -> Option<Asked> {
             let (tensor, config, _, destination): (Tensor, Config, u64, u64) = whole(arguments)?;
             Some(Asked { tensor, config, destination })
         }
-        MOVE_PLANE => {
+        MOVE_PLANE | PLAIN_MOVE => {
             let (tensor, config, _, room): (Tensor, Config, Counted, Memory) = whole(arguments)?;
             Some(Asked { tensor, config, destination: room.0.len() as u64 })
         }

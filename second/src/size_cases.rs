@@ -21,6 +21,8 @@ const JUDGE_JOB: u8 = 0x21;
 const ADVANCE: u8 = 0x22;
 const SUB_PART: u8 = 0x24;
 const MOVER_SUB_TENSOR: u8 = 0x25;
+const PLAIN_MOVE: u8 = 0x26;
+const PLAIN_ADVANCE: u8 = 0x27;
 const PREPARE: u8 = 0x41;
 const START: u8 = 0x42;
 const STEP: u8 = 0x43;
@@ -50,7 +52,7 @@ fn all(number: u8, arguments: &[u8], status: u8) -> Vec<Case> {
     all.extend(match number {
         ELEMENT_SIZE => of_helper(begin(arguments), status),
         JUDGE => of_lengths(begin(arguments), status),
-        MOVE_PLANE => {
+        MOVE_PLANE | PLAIN_MOVE => {
             let (tensor, config, source, room): (Tensor, Config, Counted, Memory) = begin(arguments);
             of_lengths((tensor, config, source.0.len() as u64, room.0.len() as u64), status)
         }
@@ -70,9 +72,9 @@ fn all(number: u8, arguments: &[u8], status: u8) -> Vec<Case> {
 /// The tensor record that a call asks about, if its answer tells 2 and 3.
 fn tensor_of(number: u8, arguments: &[u8]) -> Option<Tensor> {
     match number {
-        SOURCE_OF | ROOM | JUDGE | SUB_TENSOR | MOVE_PLANE | MOVER_SUB_TENSOR => Some(begin(arguments)),
+        SOURCE_OF | ROOM | JUDGE | SUB_TENSOR | MOVE_PLANE | MOVER_SUB_TENSOR | PLAIN_MOVE => Some(begin(arguments)),
         JUDGE_JOB => Some(begin::<(u64, Job)>(arguments).1.tensor),
-        ADVANCE => Some(begin::<Job>(arguments).tensor),
+        ADVANCE | PLAIN_ADVANCE => Some(begin::<Job>(arguments).tensor),
         PREPARE => Some(begin::<(Table, Job)>(arguments).1.tensor),
         _ => None,
     }

@@ -10,6 +10,8 @@ use crate::wire::{whole, Counted, Memory};
 
 const MOVE_PLANE: u8 = 0x20;
 const ADVANCE: u8 = 0x22;
+const PLAIN_MOVE: u8 = 0x26;
+const PLAIN_ADVANCE: u8 = 0x27;
 const STEP: u8 = 0x43;
 
 const BEGINS: &str = "begins in mid-row";
@@ -33,8 +35,8 @@ const TURNED: &str = "turned";
 const BEFORE: &str = "padded before";
 const BEHIND: &str = "padded behind";
 const BOTH: &str = "padded on both sides";
-/// Of rows, in a move by itself and in one within a memory, with elements of each size. Wider, thinned and turned are
-/// each met by itself.
+/// Of rows, in a move by itself and in one within a memory, by either engine, with elements of each size. Wider,
+/// thinned and turned are each met by itself.
 const OF_ROW: [&str; 7] = [SIDE_BY_SIDE, WIDER, THINNED, TURNED, BEFORE, BEHIND, BOTH];
 
 /// All cases of the call of this number.
@@ -52,11 +54,11 @@ pub fn cases(number: u8) -> Vec<String> {
 }
 
 fn is_stretch(number: u8) -> bool {
-    [ADVANCE, STEP].contains(&number)
+    [ADVANCE, PLAIN_ADVANCE, STEP].contains(&number)
 }
 
 fn tells_rows(number: u8) -> bool {
-    [MOVE_PLANE, ADVANCE].contains(&number)
+    [MOVE_PLANE, PLAIN_MOVE, ADVANCE, PLAIN_ADVANCE].contains(&number)
 }
 
 fn of_size(size: usize, case: &str) -> String {
@@ -99,11 +101,11 @@ pub fn met(bytes: &[u8], expected: &[u8]) -> Vec<String> {
 /// What an accepted call moves: a whole plane, or from an element number on as many as its budget has.
 pub fn moved(number: u8, arguments: &[u8]) -> Option<Moved> {
     match number {
-        MOVE_PLANE => {
+        MOVE_PLANE | PLAIN_MOVE => {
             let (tensor, config, _, _): (Tensor, Config, Counted, Memory) = whole(arguments)?;
             elements_moved(&tensor, &config, 0, u64::MAX)
         }
-        ADVANCE => {
+        ADVANCE | PLAIN_ADVANCE => {
             let (job, from, budget, _): (Job, u64, u64, Memory) = whole(arguments)?;
             elements_moved(&job.tensor, &job.config, from, budget)
         }

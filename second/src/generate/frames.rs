@@ -1,6 +1,6 @@
 //! Lines that are no calls, between good ones, and the longest lines there may be.
 
-use super::Work;
+use super::{Work, ADVANCE, MOVE};
 use crate::calls::Calls;
 use crate::lines::{hex, DIGITS_LIMIT};
 use crate::moves::Config;
@@ -30,7 +30,7 @@ fn damage(work: &mut Work, mut line: Vec<u8>) -> Vec<u8> {
         6 => line.extend(hex(&random.bytes(1))),
         7 => line.clear(),
         8..=9 => {
-            let number = random.pick(&[0x0c, 0x0f, 0x26, 0x2f, 0x3c, 0x3f, 0x46, 0x80, 0xfe, 0xff]);
+            let number = random.pick(&[0x0c, 0x0f, 0x28, 0x2f, 0x3c, 0x3f, 0x46, 0x80, 0xfe, 0xff]);
             line.splice(..line.len().min(2), hex(&[number]));
         }
         10 => line = hex(&[random.any() as u8]),
@@ -83,15 +83,13 @@ pub fn longest(work: &mut Work) {
 fn too_long_memories(work: &mut Work) {
     let (tensor, config) = (Tensor::default(), Config::default());
     let memory = Memory(vec![1; MEMORY_LIMIT + 1]);
-    work.call(0x20, &(tensor, config, Counted(vec![2; 3]), memory.clone()));
-    work.call(0x20, &(tensor, config, Counted(vec![2; 3]), Memory(vec![1; MEMORY_LIMIT])));
+    work.by_both(MOVE, &(tensor, config, Counted(vec![2; 3]), memory.clone()));
+    work.by_both(MOVE, &(tensor, config, Counted(vec![2; 3]), Memory(vec![1; MEMORY_LIMIT])));
     work.call(0x43, &(Table::default(), 0u32, 1u64, memory.clone()));
-    work.call(0x22, &(crate::job::Job::default(), 0u64, 1u64, memory.clone()));
+    work.by_both(ADVANCE, &(crate::job::Job::default(), 0u64, 1u64, memory.clone()));
     let mut room = memory.clone();
     room.0.resize(MEMORY_LIMIT + record::LENGTH, 0);
     work.call(0x31, &(tensor, config, room));
     // More source bytes are named than there are.
-    let mut line = vec![0x20];
-    crate::wire::Wire::write(&(tensor, config, u32::MAX), &mut line);
-    work.lines.push(hex(&line));
+    work.by_both(MOVE, &(tensor, config, u32::MAX));
 }

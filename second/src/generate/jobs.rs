@@ -5,7 +5,7 @@ use super::numbers::{draw_numbers, start_beside};
 use super::planes::{good, Drawn, Scale};
 use super::spoil::{vary, Lent};
 use super::values::any_u64;
-use super::Work;
+use super::{Work, ADVANCE};
 use crate::job::{judge_job as judge, Job, Part};
 use crate::random::Random;
 use crate::transfers::fresh;
@@ -118,7 +118,7 @@ fn advance_job(work: &mut Work, job: Job, length: u64) {
     };
     let budget = draw_budget(random, total.saturating_sub(from));
     let memory = random.bytes(length as usize);
-    work.call(0x22, &(job, from, budget, Memory(memory)));
+    work.by_both(ADVANCE, &(job, from, budget, Memory(memory)));
 }
 
 /// A budget for a transfer that has so much left.

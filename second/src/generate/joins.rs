@@ -1,7 +1,7 @@
 //! Planes joined along a dimension.
 
 use super::planes::{draw_destination_strides, good, Scale};
-use super::Work;
+use super::{Work, MOVE};
 use crate::moves::{move_plane, room};
 use crate::offset_cases::without_offsets;
 use crate::tensor::wide;
@@ -25,7 +25,7 @@ pub fn join(work: &mut Work) {
     let mut memory = random.bytes(need as usize);
     for half in [first, second] {
         let source = work.random.bytes(half.source as usize);
-        work.call(0x20, &(half.tensor, half.config, Counted(source.clone()), Memory(memory.clone())));
+        work.by_both(MOVE, &(half.tensor, half.config, Counted(source.clone()), Memory(memory.clone())));
         move_plane(&half.tensor, &half.config, &source, &mut memory);
     }
 }

@@ -26,6 +26,10 @@ use crate::wire::Wire;
 pub use list_shows::list_inputs;
 pub use shows::show_inputs;
 
+/// The calls of a whole move and of a stretch, for each of the two engines.
+pub const MOVE: [u8; 2] = [0x20, 0x26];
+pub const ADVANCE: [u8; 2] = [0x22, 0x27];
+
 /// The lines drawn so far, without their newlines.
 pub struct Work {
     pub random: Random,
@@ -43,6 +47,14 @@ impl Work {
             line.make_ascii_uppercase();
         }
         self.lines.push(line);
+    }
+
+    /// Adds the calls of both engines with the very same arguments, in either order, so that neither can live on what
+    /// the other left.
+    pub fn by_both<A: Wire>(&mut self, numbers: [u8; 2], arguments: &A) {
+        let first = self.random.index(2);
+        self.call(numbers[first], arguments);
+        self.call(numbers[1 - first], arguments);
     }
 
     /// Adds a call with so many bytes of arguments, whatever they are.

@@ -4,7 +4,7 @@ use super::limits::offset_at_bound;
 use super::numbers::draw_sub_config;
 use super::planes::{good, Drawn, Scale};
 use super::spoil::{vary, Lent};
-use super::Work;
+use super::{Work, MOVE};
 use crate::helpers::{sub_part, sub_tensor};
 use crate::moves::Config;
 use crate::random::Random;
@@ -31,7 +31,7 @@ pub fn large(work: &mut Work) {
 pub fn move_drawn(work: &mut Work, drawn: &Drawn) {
     let source = work.random.bytes(drawn.source.min(SOURCE_LIMIT) as usize);
     let destination = work.random.bytes(drawn.destination.min(MEMORY_LIMIT as u64) as usize);
-    work.call(0x20, &(drawn.tensor, drawn.config, Counted(source), Memory(destination)));
+    work.by_both(MOVE, &(drawn.tensor, drawn.config, Counted(source), Memory(destination)));
 }
 
 /// "size 65,280 with pre 255 is accepted, 65,281 gives 10", in any of the dimensions and with any step.
@@ -116,5 +116,5 @@ pub fn move_sub_tensor(work: &mut Work) {
         drawn.config.perm[..sub.tensor.rank as usize].reverse();
     }
     let destination = work.random.bytes(drawn.destination as usize);
-    work.call(0x20, &(drawn.tensor, drawn.config, Counted(part.to_vec()), Memory(destination)));
+    work.by_both(MOVE, &(drawn.tensor, drawn.config, Counted(part.to_vec()), Memory(destination)));
 }

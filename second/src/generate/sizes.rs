@@ -5,7 +5,7 @@ use super::jobs::lay_out;
 use super::moving::move_drawn;
 use super::planes::Drawn;
 use super::values::telling_fill;
-use super::Work;
+use super::{Work, ADVANCE};
 use crate::helpers::SubConfig;
 use crate::job::Job;
 use crate::random::Random;
@@ -67,7 +67,7 @@ fn ask_all(work: &mut Work, drawn: &Drawn) {
     let (job, length) = lay_out(&mut work.random, drawn);
     let memory = work.random.bytes(length as usize);
     work.call(0x21, &(length, job));
-    work.call(0x22, &(job, 1u64, 2u64, Memory(memory.clone())));
+    work.by_both(ADVANCE, &(job, 1u64, 2u64, Memory(memory.clone())));
     work.call(0x41, &(fresh(length).table, job, Rest(memory)));
 }
 
@@ -107,7 +107,7 @@ pub fn every_row(work: &mut Work) {
             move_drawn(work, &drawn);
             let (job, length) = lay_out(&mut work.random, &drawn);
             let memory = work.random.bytes(length as usize);
-            work.call(0x22, &(job, 0u64, u64::MAX, Memory(memory)));
+            work.by_both(ADVANCE, &(job, 0u64, u64::MAX, Memory(memory)));
         }
     }
 }

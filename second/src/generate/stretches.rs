@@ -2,7 +2,7 @@
 
 use super::jobs::lay_out;
 use super::planes::{good, Drawn, Scale};
-use super::Work;
+use super::{Work, ADVANCE};
 use crate::job::{judge_job, Job};
 use crate::moves::{kept_counts, room};
 use crate::random::Random;
@@ -50,7 +50,7 @@ pub fn advance(work: &mut Work) {
     let from = if random.chance(20) { 0 } else { random.below(total) };
     let budget = draw_budget(random, &job, total.saturating_sub(from));
     let memory = random.bytes(length as usize);
-    work.call(0x22, &(job, from, budget, Memory(memory)));
+    work.by_both(ADVANCE, &(job, from, budget, Memory(memory)));
 }
 
 /// A transfer, step by step.

@@ -40,7 +40,7 @@ fn a_run_that_is_long_enough_meets_everything() {
 }
 
 /// Some of what has to be met.
-const SOME_CASES: [&str; 39] = [
+const SOME_CASES: [&str; 44] = [
     "00 version: made",
     "02 room: 12",
     "03 judge: 12 too large at 0",
@@ -54,6 +54,11 @@ const SOME_CASES: [&str; 39] = [
     "20 move_plane: 2-byte padding",
     "22 advance: past the end of a slab",
     "24 sub_part: 15",
+    "26 plain::move_plane: ff04",
+    "26 plain::move_plane: 12 past the row at 3",
+    "26 plain::move_plane: 3-byte row thinned",
+    "27 plain::advance: past the end of a slab",
+    "27 plain::advance: 2-byte padding",
     "41 prepare: 22",
     "41 prepare: ff04",
     "43 step: slot in no state",

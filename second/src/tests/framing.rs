@@ -12,7 +12,7 @@ fn answer(input: &[u8]) -> Vec<String> {
 #[test]
 fn the_examples_of_the_page() {
     assert_eq!(answer(b"0403\n0405\nzz\n"), ["0403", "0400", "ff01"]);
-    assert_eq!(answer(b"00\n"), ["000300"]);
+    assert_eq!(answer(b"00\n"), ["000400"]);
 }
 
 #[test]
@@ -62,7 +62,7 @@ fn every_call_has_its_own_number() {
     let mut numbers: Vec<u8> = Calls::all().0.iter().map(|call| call.number).collect();
     numbers.sort();
     let expected: Vec<u8> =
-        (0..=0x0b).chain(0x10..=0x1f).chain(0x20..=0x25).chain(0x30..=0x3b).chain(0x40..=0x45).collect();
+        (0..=0x0b).chain(0x10..=0x1f).chain(0x20..=0x27).chain(0x30..=0x3b).chain(0x40..=0x45).collect();
     assert_eq!(numbers, expected);
 }
 

@@ -9,6 +9,7 @@ mod fills;
 mod framing;
 mod lists;
 mod offsets;
+mod plain;
 mod readings;
 mod record_cases;
 mod records;
