@@ -1,5 +1,5 @@
-// Runs the paper's examples through the public calls, and prints what each answers: A to J (moves), K (a sub-tensor), L (two
-// transfers), and those that the paper only runs.
+// Runs the paper's examples through the public calls, and prints what each answers: A to J (moves, some by the plain engine too),
+// K (a sub-tensor), L (two transfers), and those that the paper only runs.
 use libc::STDOUT_FILENO;
 use plane::Config;
 use plane::SubConfig;
@@ -49,14 +49,25 @@ fn print_bytes(bytes: &[u8]) {
     }
 }
 
+// A name, two numbers, and what a memory holds.
+fn tell(name: &[u8], first: u64, second: u64, bytes: &[u8]) {
+    print(name, first);
+    print(b"", second);
+    io::write_all(STDOUT_FILENO, b":");
+    print_bytes(bytes);
+    end_line();
+}
+
 // A move: its name, the number and dimension of the answer, and the destination.
 fn run(name: &[u8], t: Tensor, c: Config, src: &[u8], dst: &mut [u8]) {
     let a = mover::move_plane(t, c, src, dst);
-    print(name, a.status as u64);
-    print(b"", a.dim as u64);
-    io::write_all(STDOUT_FILENO, b":");
-    print_bytes(dst);
-    end_line();
+    tell(name, a.status as u64, a.dim as u64, dst);
+}
+
+// The same by the plain engine.
+fn run_plain(name: &[u8], t: Tensor, c: Config, src: &[u8], dst: &mut [u8]) {
+    let a = mover::plain::move_plane(t, c, src, dst);
+    tell(name, a.status as u64, a.dim as u64, dst);
 }
 
 // A: turned, and with a permutation that is none. B: cut.
@@ -168,6 +179,50 @@ fn pixels() {
     run(b"pixels", t, c, &twelve, &mut [0u8; 18]);
 }
 
+// A, D, F and G by the plain engine, and F where the room is too short.
+fn plainly() {
+    let turn = ready_made::permute(2, [1, 0, 0, 0]);
+    let six = [1u8, 2, 3, 4, 5, 6];
+    let a = compact(2, 1, [2, 3, 0, 0]);
+    run_plain(b"plain A", a, turn.config, &six, &mut [0u8; 6]);
+    let row = compact(2, 1, [1, 2, 0, 0]);
+    let c = copy_of(2).with_pre([1, 0, 0, 0]);
+    let d = c.with_post([0, 1, 0, 0]);
+    run_plain(b"plain D", row, d, &[5u8, 6], &mut [9u8; 6]);
+    let t = compact(2, 1, [2, 2, 0, 0]);
+    let gap = copy_of(2).with_dst_stride([3, 1, 0, 0]);
+    run_plain(b"plain F", t, gap, &[1u8, 2, 3, 4], &mut [7u8; 5]);
+    run_plain(b"plain F", t, gap, &[1u8, 2, 3, 4], &mut [7u8; 4]);
+    let turned = c.with_perm([1, 0, 0, 0]);
+    run_plain(b"plain G", row, turned, &[5u8, 6], &mut [9u8; 4]);
+}
+
+// D's six elements between two parts of one memory, by turns: 2 to 4 by the plain engine, 0 and 1 by the first, the rest by the plain.
+fn stretches() {
+    let c = copy_of(2).with_pre([1, 0, 0, 0]);
+    let source = Part {
+        start: 0,
+        length: 2,
+    };
+    let destination = Part {
+        start: 2,
+        length: 6,
+    };
+    let d = Job {
+        source,
+        destination,
+        tensor: compact(2, 1, [1, 2, 0, 0]),
+        config: c.with_post([0, 1, 0, 0]),
+    };
+    let mut mem = [5u8, 6, 9, 9, 9, 9, 9, 9];
+    let a = mover::plain::advance(&mut mem, d, 2, 3);
+    tell(b"stretch", a.status as u64, a.count, &mem);
+    let b = mover::advance(&mut mem, d, 0, 2);
+    tell(b"stretch", b.status as u64, b.count, &mem);
+    let rest = mover::plain::advance(&mut mem, d, 5, 9);
+    tell(b"stretch", rest.status as u64, rest.count, &mem);
+}
+
 // K: a row of a plane as a tensor of its own. A copy of it reads the source from its byte on.
 fn sub() {
     let twelve = TWELVE;
@@ -247,6 +302,8 @@ fn main() {
     set_in();
     more();
     pixels();
+    plainly();
+    stretches();
     sub();
     run_only();
     two_at_once();

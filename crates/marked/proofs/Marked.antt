@@ -7,7 +7,7 @@ use Rattle.plane.specs.Moves.{count, extent, dstExtents, need, badDstOffsetAt, 
 use Rattle.plane.specs.Helpers.{elements, countFault, countAnswer, countOf, staying, rankFault, subFault, subOf, subByte, subAnswer, subTensorOf}
 use Rattle.mover.specs.Element.{isKept, areKept, sourcePlace, place, padded, element}
 use Rattle.mover.specs.Moved.{total, perStep, coordOf, stored, moved, moveMemory}
-use Rattle.mover.specs.Within.{jobFault, advancedBy}
+use Rattle.mover.specs.Within.{jobFault, advancedBy, advanceOf, advanceMemory}
 use Rattle.mover.specs.SubPart.{subPart}
 use Rattle.plane.specs.Numbers.{little, number}
 use Rattle.record.specs.Layout.{joined, start}
@@ -20,5 +20,5 @@ use Rattle.transfers.specs.Demand3.{begin, after}
 use Rattle.marked.specs.Examples.{AllRight, table}
 
 pub all-right : AllRight table
-unfolding judgeOf roomOf moveFault roomFault sourceFault configFault dstFault when _orElse_ lowest first outward answerOf span need sum product howMany some firstsOr badStrideAt badDstOffsetAt resolved inner extent count dstExtents countOf countFault countAnswer elements subTensorOf subFault rankFault subAnswer subOf subByte staying moveMemory moved stored coordOf perStep total element place sourcePlace padded areKept isKept every subPart jobFault advancedBy freshOf openFault prepareFault callFault prepareOf changed startOf releaseOf later stepOf stepMemory pollSlot pollOf withSlot lowestFree breaks clashes isZeroTensor isZeroConfig isZeroJob movedRight slotSound soundAt tableSound begin after little number joined start tensorIn configIn recordBytes stray fieldsFault readFault readOf listFault recordCount recordAt placeAfter startFault startedBuffer memberFault appendFault appendOf appendedBuffer
+unfolding judgeOf roomOf moveFault roomFault sourceFault configFault dstFault when _orElse_ lowest first outward answerOf span need sum product howMany some firstsOr badStrideAt badDstOffsetAt resolved inner extent count dstExtents countOf countFault countAnswer elements subTensorOf subFault rankFault subAnswer subOf subByte staying moveMemory moved stored coordOf perStep total element place sourcePlace padded areKept isKept every subPart jobFault advancedBy advanceOf advanceMemory freshOf openFault prepareFault callFault prepareOf changed startOf releaseOf later stepOf stepMemory pollSlot pollOf withSlot lowestFree breaks clashes isZeroTensor isZeroConfig isZeroJob movedRight slotSound soundAt tableSound begin after little number joined start tensorIn configIn recordBytes stray fieldsFault readFault readOf listFault recordCount recordAt placeAfter startFault startedBuffer memberFault appendFault appendOf appendedBuffer
 all-right = refl

@@ -18,7 +18,9 @@ use Rattle.ready_made.specs.ReadyMade.{defaults}
 use Rattle.plane.specs.Settings.{zeroConfig, withOffset, withSize, withStep, withDstOffset, withDstStride, withPerm, withPre, withPost, withFill}
 use Rattle.plane.specs.Helpers.{noCount, countOf, subTensorOf}
 use Rattle.mover.specs.declared.Job.{Job}
+use Rattle.mover.specs.declared.Advanced.{Advanced}
 use Rattle.mover.specs.Moved.{moveMemory}
+use Rattle.mover.specs.Within.{advanceOf, advanceMemory}
 use Rattle.mover.specs.SubPart.{subPart}
 use Rattle.record.specs.Records.{noReading, reading}
 use Rattle.list.specs.declared.Numbered.{Numbered}
@@ -38,6 +40,8 @@ pub data Asked : Type 0 where
 pub data Example : Type 0 where
   -- tensor, configuration, source, destination before; the answer, the destination after
   move : Tensor → Config → List ℕ → List ℕ → Answer → List ℕ → Example
+  -- job, the element to start from, budget, memory before; the answer, memory after
+  stretch : Job → ℕ → ℕ → List ℕ → Advanced → List ℕ → Example
   -- tensor, which part of it, source; the answer, the part of the source handed back
   sub : Tensor → SubConfig → List ℕ → SubTensor → List ℕ → Example
   -- memory before, calls on a fresh table for it; memory after
@@ -67,6 +71,7 @@ pub data Row : Type 0 where
 -- what comes out of an example
 pub data Outcome : Type 0 where
   of-move : Answer → List ℕ → Outcome
+  of-stretch : Advanced → List ℕ → Outcome
   of-sub : SubTensor → List ℕ → Outcome
   -- what each call answers, and at last the memory
   of-calls : List (List ℕ) → Outcome
@@ -101,6 +106,7 @@ handed bs k (suc n) = recordAt bs k ∷ handed bs (placeAfter bs k) n
 -- what the definitions give, and what the example says
 abbrev pub given : Example → Outcome
 given (move t c source over a out) = of-move (judgeOf t c (length source) (length over)) (moveMemory t c source over)
+given (stretch j from budget m a out) = of-stretch (advanceOf j from budget m) (advanceMemory j from budget m)
 given (sub t s source a part) = of-sub (subTensorOf t s (length source)) (subPart t s source)
 given (transfers m cs out) = of-calls (replies cs (begin (length m) m))
 given (room t c a) = of-room (roomOf t c)
@@ -111,6 +117,7 @@ given (append buffer n t c a out) = of-append (appendOf buffer n t c) (appendedB
 
 abbrev pub said : Example → Outcome
 said (move t c source over a out) = of-move a out
+said (stretch j from budget m a out) = of-stretch a out
 said (sub t s source a part) = of-sub a part
 said (transfers m cs out) = of-calls (expected cs out)
 said (room t c a) = of-room a
@@ -171,6 +178,15 @@ thinTransfer = record {
   destination = record { start = 10; length = 10 };
   tensor = compact 2 1 (two 2 5);
   config = thinConfig;
+}
+
+-- D between two parts of one memory: from byte 0 on, to byte 2 on
+abbrev pub paddedTransfer : Job
+paddedTransfer = record {
+  source = record { start = 0; length = 2 };
+  destination = record { start = 2; length = 6 };
+  tensor = compact 2 1 (two 1 2);
+  config = withPost (withPre defaults (two 1 0)) (two 0 1);
 }
 
 -- one byte, from byte 0 on, with a fill of 7 before and after it, to byte 1 on
@@ -376,6 +392,19 @@ table =
     poll 0 answers (0 ∷ 2 ∷ 4 ∷ []) ∷
     [])
     (upTo 10 ++ (0 ∷ 1 ∷ 3 ∷ 5 ∷ 0 ∷ 0 ∷ 99 ∷ 99 ∷ 99 ∷ 99 ∷ [])) ∷
+    -- ---- stretches of a move, by either engine: elements are numbered in destination order, the last coordinate fastest
+    -- four elements of the same from number 3 on, 5 0 0 6: they begin in mid-row and stop in the next one's
+    besides shows stretch thinTransfer 3 4 (upTo 10 ++ over 10)
+    (record { status = 0; dim = 0; count = 4 }) (upTo 10 ++ (99 ∷ 99 ∷ 99 ∷ 5 ∷ 0 ∷ 0 ∷ 6 ∷ 99 ∷ 99 ∷ 99 ∷ [])) ∷
+    -- a budget above what is left from number 7 on: 8 10 0
+    besides shows stretch thinTransfer 7 100 (upTo 10 ++ over 10)
+    (record { status = 0; dim = 0; count = 3 }) (upTo 10 ++ over 7 ++ (8 ∷ 10 ∷ 0 ∷ [])) ∷
+    -- three of D, whose first row is padding: the last of that row and the two kept elements of the next, 0 5 6
+    besides shows stretch paddedTransfer 2 3 (5 ∷ 6 ∷ over 6)
+    (record { status = 0; dim = 0; count = 3 }) (5 ∷ 6 ∷ 99 ∷ 99 ∷ 0 ∷ 5 ∷ 6 ∷ 99 ∷ []) ∷
+    -- past the last of its six: none; in a memory that its destination leaves: 20, and nothing changes
+    besides shows stretch paddedTransfer 6 1 (5 ∷ 6 ∷ over 6) (record { status = 0; dim = 0; count = 0 }) (5 ∷ 6 ∷ over 6) ∷
+    besides shows stretch paddedTransfer 0 1 (5 ∷ 6 ∷ over 5) (record { status = 20; dim = 0; count = 0 }) (5 ∷ 6 ∷ over 5) ∷
     -- ---- padding that isn't black. 67,305,985 is 4 x 2^24 + 3 x 2^16 + 2 x 2^8 + 1, so its bytes are 1 2 3 4, the lowest first
     -- D with fill 128: 128 128 128 5 6 128
     besides shows move (compact 2 1 (two 1 2)) (withFill (withPost (withPre defaults (two 1 0)) (two 0 1)) 128) (5 ∷ 6 ∷ []) (over 6)
