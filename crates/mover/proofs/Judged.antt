@@ -27,7 +27,7 @@ use Rattle.mover.specs.Within.{leaves, meets, jobFault, totalOf, verdict
 use Rattle.mover.specs.Private.Plans.{planOf}
 use Rattle.mover.specs.Private.Elements.{planTotal, movedBy}
 use Rattle.mover.specs.Private.Ready.{Ready}
-use Rattle.mover.proofs.Laws.{judged, judged-good, moved-whole, moved-none, source-fits, destination-fits, job-good, total-positive}
+use Rattle.mover.proofs.Laws.{judged, judged-good, moved-whole, moved-none, put-back, source-fits, destination-fits, job-good, total-positive}
 use Rattle.mover.proofs.Parts.{bytesAt}
 use Rattle.mover.proofs.Planned.{planned-total, planned-ready, moved-planned}
 
@@ -167,13 +167,6 @@ module _ (n : ℕ) (j : Job) where
 part-length : (m : List ℕ) (b k : ℕ) → b + k ≤ length m → length (bytesAt m b k) ≡ k
 part-length m b k h = length-take-le k (drop b m) (simp length-drop (omega arith))
 
--- a part stored where it stands
-pub part-same : (m : List ℕ) (b k : ℕ) → b + k ≤ length m → sets m b (bytesAt m b k) ≡ m
-part-same m b k h =
-    let len = part-length m b k h in
-    sets-eq (bytesAt m b k) m b (omega arith) ∙
-    rw (len, append-assoc) (ap (λ (r : List ℕ). take b m ++ r) (ap (λ (r : List ℕ). bytesAt m b k ++ r) (sym (drop-drop k b m)) ∙ take-append-drop k (drop b m)) ∙ take-append-drop b m)
-
 module _ (j : Job) (from budget : ℕ) (m : List ℕ) {a : Answer} (e : a ≡ answerAt (length m) j) where
   pub advance-refused : (a .status ≡ 0 → ⊥) → (record { status = a .status; dim = a .dim; count = 0 } ≡ advanceOf j from budget m) × (m ≡ advanceMemory j from budget m)
   unfolding advanceOf advanceMemory
@@ -206,7 +199,7 @@ module _ (j : Job) (from budget : ℕ) (m : List ℕ) {a : Answer} (e : a ≡ an
     advance-past p l =
         advanced (omega arith)
         (sym (ap (λ (x : List ℕ). sets m (j .destination .start) x) (moved-none (j .tensor) (j .config) (bytesOf (j .source) m) from (bytesOf (j .destination) m)) ∙
-        part-same m (j .destination .start) (j .destination .length) (destination-fits (length m) j clear)))
+        put-back m (j .destination .start) (j .destination .length) (destination-fits (length m) j clear)))
 
     module _ {plan : Plan} (ep : plan ≡ planOf (j .tensor) (j .config)) where
       all-is : planTotal plan ≡ totalOf j

@@ -148,7 +148,7 @@ module _ (j : Job) (from n : ℕ) (m : List ℕ) where
       (⊎-elim (λ u. inl u) (λ v. inr (omega arith)) o)
 
 -- a part read and stored again
-put-back : (m : List ℕ) (b l : ℕ) → b + l ≤ length m → sets m b (take l (drop b m)) ≡ m
+pub put-back : (m : List ℕ) (b l : ℕ) → b + l ≤ length m → sets m b (take l (drop b m)) ≡ m
 put-back m b l h =
     let e : length (take l (drop b m)) ≡ l = length-take-le l (drop b m) (simp length-drop (omega arith)) in
     rw (sets-eq (take l (drop b m)) m b (omega arith), e, ← drop-drop l b m, append-assoc, take-append-drop l (drop b m))

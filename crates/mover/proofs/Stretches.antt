@@ -124,9 +124,9 @@ apart-inside : (s : List ℕ) (a a' b b' x x' y y' : ℕ) → ApartIn s a a' b b
 apart-inside [] a a' b b' x x' y y' h i j k l = ⊎-elim (λ u. inl (omega arith)) (λ v. inr (omega arith)) h
 apart-inside (_ ∷ _) a a' b b' x x' y y' h i j k l = tt
 
-source-fits : (s d : List ℕ) → length s < 2 ^ 64 → length d < 2 ^ 64 → length (sourceIn s d) < 2 ^ 64
-source-fits [] d h k = k
-source-fits (b ∷ s) d h k = h
+source-64 : (s d : List ℕ) → length s < 2 ^ 64 → length d < 2 ^ 64 → length (sourceIn s d) < 2 ^ 64
+source-64 [] d h k = k
+source-64 (b ∷ s) d h k = h
 
 module _ {w : Row} {left : ℕ} {s d : List ℕ} (h : Stands w left s d) where
   pub rank-is : w .room .answer .rank ≡ h .t .rank
@@ -274,7 +274,7 @@ module _ {w : Row} {left : ℕ} {s d : List ℕ} (h : Stands w left s d) where
         row = here;
         dim = here-dim;
         below = below;
-        source-end = omega (arith, source-fits s d ls ld, h .source, h .long);
+        source-end = omega (arith, source-64 s d ls ld, h .source, h .long);
         end = omega (arith, h .destination, h .enough);
       }
 

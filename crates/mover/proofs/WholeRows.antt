@@ -27,8 +27,8 @@ use Rattle.mover.specs.declared.plain.Row.{Row}
 use Rattle.mover.specs.Moved.{extentAt, total, moved, moveMemory}
 use Rattle.mover.specs.Within.{jobFault, totalOf, verdictOf, bytesOf, advancedBy, further, advanceOf, advanceMemory}
 use Rattle.mover.specs.Private.Rows.{sourceIn, ApartIn, rowOf, inside, RowOf, Stands, stretchIn}
-use Rattle.mover.proofs.Judged.{move-room, part-same}
-use Rattle.mover.proofs.Laws.{moved-length, moved-whole, source-fits, destination-fits, job-good, job-apart, advanced-none}
+use Rattle.mover.proofs.Judged.{move-room}
+use Rattle.mover.proofs.Laws.{moved-length, moved-whole, put-back, source-fits, destination-fits, job-good, job-apart, advanced-none}
 use Rattle.mover.proofs.Making.{room-source, room-config, room-dst, room-strides}
 use Rattle.mover.proofs.Parts.{part-own}
 use Rattle.mover.proofs.Storing.{lent, lent-apart}
@@ -89,7 +89,7 @@ module _ (t : Tensor) (c : Config) (z : roomFault t c .status ≡ 0) where
     none-yet first last =
         subst (λ (v : Row). d ≡ stretchIn t (v .config) p r s first last (v .number * inside (v .room .answer) n) d) (sym ew)
         (let k : min last (0 * inside (roomOf t c .answer) n) - first ≡ 0 = omega (arith, min-le-right last (0 * inside (roomOf t c .answer) n), zero-mul (inside (roomOf t c .answer) n)) in
-        sym (ap (λ (i : ℕ). sets d (r .start) (moved t c (bytesOf p (sourceIn s d)) first i (bytesOf r d))) k ∙ part-same d (r .start) (r .length) rd))
+        sym (ap (λ (i : ℕ). sets d (r .start) (moved t c (bytesOf p (sourceIn s d)) first i (bytesOf r d))) k ∙ put-back d (r .start) (r .length) rd))
 
     pub whole-stored : (first last : ℕ) {out : List ℕ}
         → ((h : Stands w n s d) → Comes h first last (w .number * inside (w .room .answer) n) ((w .number + 1) * inside (w .room .answer) n) out)

@@ -58,10 +58,13 @@ fn inward(mut row: Row, i: usize, c: u32) -> Row
     let source = row.source;
     let s = config.perm[i] as usize;
     let size = answer.element_size as usize;
+    // extent = pre + count + post
     let pre = config.pre[s] as u32;
     let count = answer.extent[i] - pre - config.post[s] as u32;
     row.number = row.number * answer.extent[i] as u64 + c as u64;
+    // its place: (destination offset + c) x stride, here in bytes
     row.to += (config.dst_offset[i] + c) as usize * answer.stride[i] as usize * size;
+    // kept if k = c - pre is from 0 to count - 1: the source's at offset + k x step
     row.kept = row.kept & (pre <= c) & (c < pre + count);
     if row.kept {
         let k = c - pre;

@@ -1,3 +1,5 @@
+-- `mover::plain::store_row`, which calls itself: the number of dimensions left falls, and a row leaves the memory where its elements end.
+-- Assumes nothing.
 use Prim.Native.Nat.{ℕ, _+_, _-_, _*_, _≤_, _<_}
 use native.Mathlib.Omega.{arith}
 use mathlib.Core.Path.{_≡_, refl, ap, subst, _∙_}
@@ -49,6 +51,7 @@ pub +store-row-spec : {M : Type 1} → statement M
     store-row.Post
     store-row-Inv-loop
     store-row-μ-loop
+    -- with no dimension left: the element can be stored, its number fits, and what is left of the memory
     (λ c κs. let s = c .before .before .before .before .before .before in storable (s .pre .1 .0) (c .before .before .before .if1 .taken))
     (λ c. let s = c .before .before .before .before .before .before in record { fits = number-small (s .pre .1 .0) (c .before .before .before .if1 .taken) })
     (λ c. ⊎-elim (λ w. ap length (w .5) ∙ w .2 .kept .1 .0) (λ w. ap length (w .1)) (c .before .if2 .came))
@@ -62,15 +65,18 @@ pub +store-row-spec : {M : Type 1} → statement M
           (λ w. comes-passed h z (v .first) (v .last) (w .0 .left) (w .1) m u)
           (c .before .if2 .came),
     ))
+    -- else: which dimension it is, and its extent
     (λ c. let s = c .before .before .before .before in omega (arith, left-few (s .pre .1 .0) (c .before .if1 .left), c .before .if1 .left))
     (λ c. let s = c .before .before .before .before in record { fits = omega (arith, left-few (s .pre .1 .0) (c .before .if1 .left), c .before .if1 .left) })
     (λ c. let s = c .before .before .before .before in record { fits = omega (arith, left-few (s .pre .1 .0) (c .before .if1 .left), c .before .if1 .left) })
     (λ c. let s = c .before .before .before .before in omega (arith, left-few (s .pre .1 .0) (c .before .if1 .left), c .before .if1 .left))
+    -- before the first coordinate
     (λ c.
     let s = c .before .before .before .before .before in
     let v = s .args in
     let z = c .before .before .if1 .left in
     (omega arith, refl, before-first (s .pre .1 .0) z (v .last) (s .pre .1 .1), λ h. comes-start h z (v .first) (v .last)))
+    -- at a coordinate: the row inside, and one dimension fewer
     (λ c κs. let s = c .before .before .before .before .before .before .before in passable (s .pre .1 .0) (c .before .before .before .before .if1 .left) (c .before .loop .c) (c .loop-test .taken) (s .good .0 .0) (s .good .1 .0 .0))
     (λ c. let z = c .before .before .before .before .before .before .if1 .left in omega arith)
     (λ c κs.
@@ -83,6 +89,7 @@ pub +store-row-spec : {M : Type 1} → statement M
         before-inside (s .args .row) (s .args .row .room .answer .rank - s .args .left) (k .loop .c) (s .args .left - 1) (s .args .last) (c .before .inward .ensures) (k .loop .inv .2),
       ),
     ))
+    -- no more are to come: it stops
     (λ c. c .before .before .before .store-row .kept .1 .0 ∙ c .before .before .before .before .before .before .before .loop .inv .1)
     (λ c.
     let r = c .before .before .before in
@@ -99,6 +106,7 @@ pub +store-row-spec : {M : Type 1} → statement M
       λ h. comes-stopped h z (v .first) (v .last) x l (n .0)
           (comes-more h z (v .first) (v .last) x l (i .inward .ensures) (k .loop .inv .1) (k .loop .inv .3 h) (r .store-row .ensures .1)),
     ))
+    -- more are: the next coordinate
     (λ c.
     let k = c .before .before .before .before .before .before .before in
     let s = k .before .before .before .before .before .before in
@@ -118,6 +126,7 @@ pub +store-row-spec : {M : Type 1} → statement M
       told-more (r .store-row .result) _ (v .last) (c .if3 .left) (told-inside (v .row) (a .rank - v .left) x (v .left - 1) (v .last) (i .inward .ensures) (r .store-row .ensures .0)),
       λ h. comes-more h z (v .first) (v .last) x l (i .inward .ensures) (k .loop .inv .1) (k .loop .inv .3 h) (r .store-row .ensures .1),
     ))
+    -- after the last coordinate
     (λ c. c .before .loop .inv .1)
     (λ c.
     let k = c .before in
