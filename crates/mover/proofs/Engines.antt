@@ -1,16 +1,17 @@
 -- The plain engine's two calls give the same status, answer and memory as the first engine's on all inputs, refused ones included, and
--- for every number of elements at which they stop; so steps may be taken by either, in any mixture. Assumes nothing.
+-- for every number of elements at which they stop; so stretches may be moved by either, in any mixture. Assumes nothing.
 use Prim.Native.Nat.{ℕ, _+_, _-_}
 use native.Mathlib.Nat.{zero-add}
 use native.Mathlib.Decide.{ℕ-discrete, decLe}
 use native.Mathlib.Omega.{arith}
-use mathlib.Core.Path.{_≡_, sym, ap, ap₂, _∙_}
+use mathlib.Core.Path.{_≡_, sym, ap, _∙_}
 use mathlib.Core.List.{List}
 use lib.ListN.{length}
-use Rattle.faults.proofs.Faults.{if-fault, if-none}
+use Rattle.faults.proofs.Faults.{if-none}
 use Rattle.mover.specs.declared.Job.{Job}
-use Rattle.mover.specs.Within.{jobFault, totalOf, further, advancedBy, advanceMemory}
-use Rattle.mover.specs.Engines.{SameOnAll, StretchesJoin, SameFirsts}
+use Rattle.mover.specs.Within.{jobFault, totalOf, further, advancedBy, advanceOf, advanceMemory}
+use Rattle.mover.proofs.Exact.{advance-kept}
+use Rattle.mover.specs.Engines.{SameOnAll, SameFirsts, StretchesJoin, GoesOn}
 use Rattle.mover.proofs.Laws.{advanced-length, advanced-none, advanced-more}
 use Rattle.mover.proofs.moves.move_plane.Reads as move-plane
 use Rattle.mover.proofs.plain.move_plane.Reads as plain-move-plane
@@ -26,68 +27,58 @@ move-plane-same = record { there = λ κ a x s p. p; back = λ κ a x s p. p; an
 pub advance-same : SameOnAll advance.Post plain-advance.Post (λ κ s. s .0 .now)
 advance-same = record { there = λ κ a x s p. p; back = λ κ a x s p. p; answer = λ κ a x y s t p q. p .0 ∙ sym (q .0); memory = λ κ a x y s t p q. p .1 ∙ sym (q .1) }
 
+-- the first elements, as many as the budget says
+pub advance-firsts : SameFirsts advance.Post plain-advance.Post (λ κ a. a .1 .1 .0) (λ κ s. s .0 .now)
+advance-firsts = record { memory = λ κ a x y s t z p q. p .1 ∙ sym (q .1) }
+
 -- ---- stretches join
 
-module _ (j : Job) (k l : ℕ) (m : List ℕ) where
-  -- where no number refuses the job
-  whole-of : (from budget : ℕ) (e : List ℕ) → jobFault (length e) j .status ≡ 0 → advanceMemory j from budget e ≡ advancedBy j from (further j from budget) e
-  unfolding advanceMemory
-  whole-of from budget e z = if-none (jobFault (length e) j) e (advancedBy j from (further j from budget) e) z
+-- what a stretch leaves where no number refuses the job
+accepted : (j : Job) (from budget : ℕ) (m : List ℕ) → jobFault (length m) j .status ≡ 0 → advanceMemory j from budget m ≡ advancedBy j from (further j from budget) m
+unfolding advanceMemory
+accepted j from budget m z = if-none (jobFault (length m) j) m (advancedBy j from (further j from budget) m) z
 
-  -- and where one does
-  none-of : (from budget : ℕ) (e : List ℕ) → (jobFault (length e) j .status ≡ 0 → ⊥) → advanceMemory j from budget e ≡ e
-  unfolding advanceMemory
-  none-of from budget e z = if-fault (jobFault (length e) j) e (advancedBy j from (further j from budget) e) z
+module _ (j : Job) (k l : ℕ) (m : List ℕ) (z : jobFault (length m) j .status ≡ 0) where
+  abbrev then : List ℕ
+  then = advancedBy j 0 (further j 0 k) m
 
-  module _ (z : jobFault (length m) j .status ≡ 0) where
-    abbrev then : List ℕ
-    then = advancedBy j 0 (further j 0 k) m
+  then-clear : jobFault (length then) j .status ≡ 0
+  then-clear = rw (advanced-length j 0 (further j 0 k) m) z
 
-    then-clear : jobFault (length then) j .status ≡ 0
-    then-clear = rw (advanced-length j 0 (further j 0 k) m) z
-
-    joined : advancedBy j k (further j k l) then ≡ advancedBy j 0 (further j 0 (k + l)) m
-    joined = elim (decLe k (totalOf j)) [
-      | yes h ↦
-          let a : further j 0 k ≡ k = omega arith in
-          let b : k + further j k l ≡ further j 0 (k + l) = omega arith in
-          ap (λ (n : ℕ). advancedBy j k (further j k l) (advancedBy j 0 n m)) a ∙
-          rw (zero-add k) at (advanced-more m j z 0 k (further j k l)) ∙ ap (λ (n : ℕ). advancedBy j 0 n m) b
-      | no h ↦
-          let a : further j k l ≡ 0 = omega arith in
-          let b : further j 0 k ≡ further j 0 (k + l) = omega arith in
-          ap (λ (n : ℕ). advancedBy j k n then) a ∙ advanced-none then j then-clear k ∙ ap (λ (n : ℕ). advancedBy j 0 n m) b
-    ]
+  joined : advancedBy j k (further j k l) then ≡ advancedBy j 0 (further j 0 (k + l)) m
+  joined = elim (decLe k (totalOf j)) [
+    | yes h ↦
+        let a : further j 0 k ≡ k = omega arith in
+        let b : k + further j k l ≡ further j 0 (k + l) = omega arith in
+        ap (λ (n : ℕ). advancedBy j k (further j k l) (advancedBy j 0 n m)) a ∙
+        rw (zero-add k) at (advanced-more m j z 0 k (further j k l)) ∙ ap (λ (n : ℕ). advancedBy j 0 n m) b
+    | no h ↦
+        let a : further j k l ≡ 0 = omega arith in
+        let b : further j 0 k ≡ further j 0 (k + l) = omega arith in
+        ap (λ (n : ℕ). advancedBy j k n then) a ∙ advanced-none then j then-clear k ∙ ap (λ (n : ℕ). advancedBy j 0 n m) b
+  ]
 
 pub stretches-join : StretchesJoin
+unfolding advanceOf
 stretches-join j k l m = elim (ℕ-discrete (jobFault (length m) j .status) 0) [
   | yes z ↦
-      ap (λ (e : List ℕ). advanceMemory j k l e) (whole-of j k l m 0 k m z) ∙ whole-of j k l m k l (advancedBy j 0 (further j 0 k) m) (then-clear j k l m z) ∙
-      joined j k l m z ∙ sym (whole-of j k l m 0 (k + l) m z)
-  | no z ↦ ap (λ (e : List ℕ). advanceMemory j k l e) (none-of j k l m 0 k m z) ∙ none-of j k l m k l m z ∙ sym (none-of j k l m 0 (k + l) m z)
+      ap (λ (e : List ℕ). advanceMemory j k l e) (accepted j 0 k m z) ∙ accepted j k l (advancedBy j 0 (further j 0 k) m) (then-clear j k l m z) ∙
+      joined j k l m z ∙ sym (accepted j 0 (k + l) m z)
+  | no z ↦ ap (λ (e : List ℕ). advanceMemory j k l e) (advance-kept j 0 k m z) ∙ advance-kept j k l m z ∙ sym (advance-kept j 0 (k + l) m z)
 ]
 
--- ---- the same first elements, by whichever engine
-
--- two contracts that say of the memory left what a stretch's does
+-- a contract that says of the memory left what a stretch's does
 module _ {K : Type 0} {A R E : K → Type 0} (told : (κ : K) → A κ → R κ → E κ → Type 0)
     (lent : (κ : K) → A κ → List ℕ) (job : (κ : K) → A κ → Job) (from budget : (κ : K) → A κ → ℕ) (left : (κ : K) → E κ → List ℕ) where
-  abbrev contract : (κ : K) → A κ → R κ → E κ → Type 0
-  contract κ a x s = told κ a x s × (left κ s ≡ advanceMemory (job κ a) (from κ a) (budget κ a) (lent κ a))
-
-  by-memory : SameFirsts contract contract lent job from budget left
+  by-memory : GoesOn (λ κ a x s. told κ a x s × (left κ s ≡ advanceMemory (job κ a) (from κ a) (budget κ a) (lent κ a))) lent job from budget left
   by-memory = record {
-    firsts = λ κ a x y s t z p q.
-        let e = ap (λ (n : ℕ). advanceMemory (job κ a) n (budget κ a) (lent κ a)) z in (p .1 ∙ e, q .1 ∙ e);
-    onward = λ κ a b x y s t z p em ej ef q.
-        q .1 ∙ ap₂ (λ (i : Job) (n : ℕ). advanceMemory i n (budget κ b) (lent κ b)) ej ef ∙
-        ap (λ (l : List ℕ). advanceMemory (job κ a) (budget κ a) (budget κ b) l)
-        (em ∙ p .1 ∙ ap (λ (n : ℕ). advanceMemory (job κ a) n (budget κ a) (lent κ a)) z) ∙
-        stretches-join (job κ a) (budget κ a) (budget κ b) (lent κ a);
+    onward = λ κ a x s m e p.
+        p .1 ∙ ap (λ (l : List ℕ). advanceMemory (job κ a) (from κ a) (budget κ a) l) e ∙
+        stretches-join (job κ a) (from κ a) (budget κ a) m;
   }
 
-pub first-then-plain : SameFirsts advance.Post plain-advance.Post (λ κ a. a .0 .now) (λ κ a. a .1 .0) (λ κ a. a .1 .1 .0) (λ κ a. a .1 .1 .1 .0) (λ κ s. s .0 .now)
-first-then-plain = by-memory _ _ _ _ _ _
+pub advance-goes-on : GoesOn advance.Post (λ κ a. a .0 .now) (λ κ a. a .1 .0) (λ κ a. a .1 .1 .0) (λ κ a. a .1 .1 .1 .0) (λ κ s. s .0 .now)
+advance-goes-on = by-memory _ _ _ _ _ _
 
-pub plain-then-first : SameFirsts plain-advance.Post advance.Post (λ κ a. a .0 .now) (λ κ a. a .1 .0) (λ κ a. a .1 .1 .0) (λ κ a. a .1 .1 .1 .0) (λ κ s. s .0 .now)
-plain-then-first = by-memory _ _ _ _ _ _
+pub plain-advance-goes-on : GoesOn plain-advance.Post (λ κ a. a .0 .now) (λ κ a. a .1 .0) (λ κ a. a .1 .1 .0) (λ κ a. a .1 .1 .1 .0) (λ κ s. s .0 .now)
+plain-advance-goes-on = by-memory _ _ _ _ _ _

@@ -4,9 +4,9 @@ use Prim.Native.Nat.{ℕ, _+_, _-_, _≤_, _<_, min}
 use native.Mathlib.Omega.{arith}
 use mathlib.Core.Path.{_≡_, sym, ap, ap₂, subst, _∙_}
 use mathlib.Core.Bool.{true, false}
-use mathlib.Core.List.{List, _++_, append-assoc}
-use lib.ListN.{length, take, drop, length-drop, take-append-drop}
-use lib.Seq.{sets, sets-eq, drop-drop, length-take-le}
+use mathlib.Core.List.{List}
+use lib.ListN.{length, drop, length-drop}
+use lib.Seq.{sets, length-take-le}
 use Rattle.plane.specs.declared.Tensor.{Tensor}
 use Rattle.plane.specs.declared.Config.{Config}
 use Rattle.faults.specs.declared.Fault.{Fault}
@@ -183,7 +183,7 @@ module _ (j : Job) (from budget : ℕ) (m : List ℕ) {a : Answer} (e : a ≡ an
     clear : jobFault (length m) j .status ≡ 0
     clear = job-clear (length m) j e z
 
-    pub advanced : {r : ℕ} {out : List ℕ} → r ≡ further j from budget → out ≡ advancedBy j from r m → (record { status = 0; dim = 0; count = r } ≡ advanceOf j from budget m) × (out ≡ advanceMemory j from budget m)
+    advanced : {r : ℕ} {out : List ℕ} → r ≡ further j from budget → out ≡ advancedBy j from r m → (record { status = 0; dim = 0; count = r } ≡ advanceOf j from budget m) × (out ≡ advanceMemory j from budget m)
     unfolding advanceOf advanceMemory
     advanced er eo =
         let none = job-none (length m) j e z in

@@ -1,7 +1,7 @@
 -- Rows of the plain engine: what a row comes to one dimension further in, and that it lies in what the checks worked out. Assumes
 -- nothing.
 use Prim.Native.Nat.{ℕ, zero, suc, _+_, _-_, _*_, _/_, _^_, _≤_, _<_}
-use native.Mathlib.Nat.{add-mul, one-mul, mod-lt, mul-le-mul, mul-le-mul-right}
+use native.Mathlib.Nat.{add-mul, mod-lt, mul-le-mul}
 use native.Mathlib.Decide.{decLe, decLt}
 use native.Mathlib.Omega.{arith}
 use mathlib.Core.Path.{_≡_, refl, sym, ap, ap₂, _∙_}
@@ -9,7 +9,7 @@ use mathlib.Core.Bool.{Bool, true, false, cond, _&&_}
 use mathlib.Core.List.{List}
 use lib.Dec.{leb, ltb}
 use lib.Arith.{digits-lt, digits-div, digits-mod}
-use borrow.Author.Tests.{lt-ltb, le-ltb, le-leb, lt-leb, leb-true, ltb-true}
+use borrow.Author.Tests.{lt-ltb, le-ltb, le-leb, lt-leb}
 use Rattle.faults.proofs.Bools.{both-first, both-second}
 use Rattle.plane.specs.declared.Tensor.{Tensor}
 use Rattle.plane.specs.declared.Config.{Config}
@@ -23,17 +23,12 @@ use Rattle.plane.proofs.Rules.{dst-extent}
 use Rattle.mover.specs.declared.plain.Row.{Row}
 use Rattle.mover.specs.Element.{dimOf, kOf, isKept, place}
 use Rattle.mover.specs.Moved.{extentAt}
-use Rattle.mover.specs.Private.Rows.{sizeOf, inwardOf, coordTo, RowOf, Passable}
+use Rattle.mover.specs.Private.Rows.{sizeOf, inwardOf, coordTo, sourceTerm, placeTerm, RowOf, Passable}
 use Rattle.mover.proofs.Fitting.{kept-within, home-fits, place-fits}
+use Rattle.mover.proofs.Keeping.{test-range}
 use Rattle.mover.proofs.Making.{extent-is}
 use Rattle.mover.proofs.Numbers.{digit-last, digit-row}
-
--- what coordinate x of dimension i adds to the places, in elements
-abbrev pub sourceTerm : Tensor → Config → ℕ → ℕ → ℕ
-sourceTerm t c i x = sourceAt t (dimOf c i) (at (c .offset) (dimOf c i) + kOf c i x * at (c .step) (dimOf c i))
-
-abbrev pub placeTerm : Tensor → Config → ℕ → ℕ → ℕ
-placeTerm t c i x = (at (c .«dst_offset») i + x) * at (dstStrides t c) i
+use Rattle.mover.proofs.Sums.{before-in-bytes}
 
 -- ---- one coordinate more
 
@@ -86,14 +81,14 @@ module _ {t : Tensor} {p r i : ℕ} {w : Row} (g : RowOf t p r i w) where
   pub its-size : sizeOf w ≡ t .«element_size»
   its-size = ap (λ (a : Answer). a .«element_size») (g .answer)
 
-  pub size-small : (1 ≤ sizeOf w) × (sizeOf w ≤ 4)
+  size-small : (1 ≤ sizeOf w) × (sizeOf w ≤ 4)
   size-small = rw its-size (element-small (t .«element_size») (g .good-source .element))
 
   module _ (h : i < t .rank) where
-    pub four : i < 4
+    four : i < 4
     four = omega (arith, g .good-source .rank .1)
 
-    pub dim-four : dimOf (w .config) i < 4
+    dim-four : dimOf (w .config) i < 4
     dim-four = omega (arith, g .good-config .perm i h, g .good-source .rank .1)
 
     pub its-extent : at (w .room .answer .extent) i ≡ extentAt t (w .config) i
@@ -109,7 +104,7 @@ module _ {t : Tensor} {p r i : ℕ} {w : Row} (g : RowOf t p r i w) where
     extent-small = dst-extent (g .good-config) i (g .good-source .rank .1) h
 
     -- padding and what is kept make up the extent
-    pub parts : at (w .room .answer .extent) i ≡ at (w .config .pre) (dimOf (w .config) i) + count t (w .config) (dimOf (w .config) i) + at (w .config .post) (dimOf (w .config) i)
+    parts : at (w .room .answer .extent) i ≡ at (w .config .pre) (dimOf (w .config) i) + count t (w .config) (dimOf (w .config) i) + at (w .config .post) (dimOf (w .config) i)
     parts = its-extent ∙ extent-is (w .config) (g .good-source) i h
 
     stride-small : at (w .room .answer .stride) i ≤ 2147483647
@@ -143,17 +138,17 @@ module _ {t : Tensor} {p r i : ℕ} {w : Row} (g : RowOf t p r i w) where
           ap (λ (n : ℕ). w .kept && leb pre x && ltb x (pre + n)) count-is ∙
           tested (w .kept) pre (count t (w .config) (dimOf (w .config) i)) x
 
-      its-from : inwardOf w i x .kept ≡ true → inwardOf w i x .from ≡ w .from + sourceTerm t (w .config) i x * t .«element_size»
+      its-from : inwardOf w i x .kept ≡ true → inwardOf w i x .at ≡ w .at + sourceTerm t (w .config) i x * t .«element_size»
       unfolding inwardOf
       its-from k =
           let c = w .config in
           let at-x = at (c .offset) (dimOf c i) + (x - at (c .pre) (dimOf c i)) * at (c .step) (dimOf c i) in
-          ap (λ (b : Bool). cond b (w .from + at-x * at (w .source .stride) (dimOf c i) * sizeOf w) (w .from)) k ∙
-          ap₂ (λ (s z : ℕ). w .from + at-x * s * z) its-source-stride its-size
+          ap (λ (b : Bool). cond b (w .at + at-x * at (w .source .stride) (dimOf c i) * sizeOf w) (w .at)) k ∙
+          ap₂ (λ (s z : ℕ). w .at + at-x * s * z) its-source-stride its-size
 
-      its-to : inwardOf w i x .to ≡ w .to + placeTerm t (w .config) i x * t .«element_size»
+      its-to : inwardOf w i x .place ≡ w .place + placeTerm t (w .config) i x * t .«element_size»
       unfolding inwardOf
-      its-to = ap₂ (λ (s z : ℕ). w .to + (at (w .config .«dst_offset») i + x) * s * z) its-stride its-size
+      its-to = ap₂ (λ (s z : ℕ). w .place + (at (w .config .«dst_offset») i + x) * s * z) its-stride its-size
 
       pub inward-row : RowOf t p r (suc i) (inwardOf w i x)
       unfolding inwardOf product
@@ -187,16 +182,11 @@ module _ {t : Tensor} {p r i : ℕ} {w : Row} (g : RowOf t p r i w) where
 -- what is kept of dimension i
 kept-below : (t : Tensor) (c : Config) (i x : ℕ) → isKept t c i x ≡ true → (at (c .pre) (dimOf c i) ≤ x) × (kOf c i x < count t c (dimOf c i))
 unfolding isKept
-kept-below t c i x e =
-    let a = leb (at (c .pre) (dimOf c i)) x in
-    let b = ltb (kOf c i x) (count t c (dimOf c i)) in
-    (leb-true (at (c .pre) (dimOf c i)) x (both-first a b e), ltb-true (kOf c i x) (count t c (dimOf c i)) (both-second a b e))
+kept-below t c i x e = test-range (at (c .pre) (dimOf c i)) x (count t c (dimOf c i)) e
 
--- the first elements of n end before all of them do
-ends-before : (b : ℕ) {s n : ℕ} (z : ℕ) {m : ℕ} → s ≤ n → (1 + n) * z ≤ m → b + s * z + z ≤ b + m
-ends-before b {s} {n} z h k =
-    let u : 1 + s ≤ 1 + n = omega arith in
-    omega (arith, rw (add-mul 1 s z, one-mul z) at (mul-le-mul-right z u))
+-- an element at s, no further than n, ends within m bytes, where the one at n does
+ends-within : (b : ℕ) {s n : ℕ} (z : ℕ) {m : ℕ} → s ≤ n → (1 + n) * z ≤ m → b + s * z + z ≤ b + m
+ends-within b {s} {n} z h k = let u : s < 1 + n = omega arith in omega (arith, before-in-bytes z u)
 
 -- a function of j up to i, and 0 from there
 abbrev upto : ℕ → (ℕ → ℕ) → ℕ → ℕ
@@ -209,16 +199,16 @@ upto-most i f m j h = elim (decLt j i) [
 ]
 
 module _ {t : Tensor} {p r i : ℕ} {w : Row} (g : RowOf t p r i w) (h : i ≤ t .rank) where
-  pub to-fits : w .to + t .«element_size» ≤ r + need t (w .config)
+  pub to-fits : w .place + t .«element_size» ≤ r + need t (w .config)
   unfolding place
   to-fits =
       let c = w .config in
       let x = coordTo t c i (w .number) in
       rw (g .at-place)
-      (ends-before r (t .«element_size») (sum-first (λ j. placeTerm t c j (x j)) i (t .rank) h)
+      (ends-within r (t .«element_size») (sum-first (λ j. placeTerm t c j (x j)) i (t .rank) h)
       (place-fits (g .good-config) x (λ j k. mod-lt (w .number / product (i - suc j) (λ k. extentAt t c (suc j + k))) (dst-extent (g .good-config) j (g .good-source .rank .1) k .0))))
 
-  pub from-fits : w .kept ≡ true → w .from + t .«element_size» ≤ p + span t
+  pub from-fits : w .kept ≡ true → w .at + t .«element_size» ≤ p + span t
   from-fits e =
       let c = w .config in
       let k : ℕ → ℕ = λ j. kOf c j (coordTo t c i (w .number) j) in
@@ -226,7 +216,7 @@ module _ {t : Tensor} {p r i : ℕ} {w : Row} (g : RowOf t p r i w) (h : i ≤ t
       let same : sum i (λ j. term j (k j)) ≡ sum i (λ j. term j (upto i k j)) = sum-same i _ _ (λ j l. rw (lt-ltb j i l)) in
       let each = every-each (λ j. isKept t c j (coordTo t c i (w .number) j)) i (sym (g .all-kept) ∙ e) in
       rw (g .at-source e, same)
-      (ends-before p (t .«element_size») (sum-first (λ j. term j (upto i k j)) i (t .rank) h)
+      (ends-within p (t .«element_size») (sum-first (λ j. term j (upto i k j)) i (t .rank) h)
       (home-fits (g .good-config) (upto i k)
       (λ j _. upto-most i k (λ j. count t c (dimOf c j) - 1) j (λ l. omega (arith, kept-below t c j (coordTo t c i (w .number) j) (each j l) .1)))))
 
@@ -267,7 +257,7 @@ module _ {w : Row} {i x : ℕ} (g : Passable w i x) where
   pub pass-place : (at (w .config .«dst_offset») i + x) * at (w .room .answer .stride) i ≤ 131070 * 2147483647
   pass-place = mul-le-mul pass-offset pass-stride
 
-  pub pass-to : w .to + (at (w .config .«dst_offset») i + x) * at (w .room .answer .stride) i * sizeOf w < 2 ^ 64
+  pub pass-to : w .place + (at (w .config .«dst_offset») i + x) * at (w .room .answer .stride) i * sizeOf w < 2 ^ 64
   unfolding inwardOf
   pass-to = omega (arith, to-fits next (g .dim), g .end)
 
@@ -295,11 +285,11 @@ module _ {w : Row} {i x : ℕ} (g : Passable w i x) where
     pub pass-source : (at (w .config .offset) (dimOf (w .config) i) + (x - at (w .config .pre) (dimOf (w .config) i)) * at (w .config .step) (dimOf (w .config) i)) * at (w .source .stride) (dimOf (w .config) i) ≤ 65535 * 2147483647
     pass-source = mul-le-mul pass-at pass-source-stride
 
-    pub pass-from : w .from + (at (w .config .offset) (dimOf (w .config) i) + (x - at (w .config .pre) (dimOf (w .config) i)) * at (w .config .step) (dimOf (w .config) i)) * at (w .source .stride) (dimOf (w .config) i) * sizeOf w < 2 ^ 64
+    pub pass-from : w .at + (at (w .config .offset) (dimOf (w .config) i) + (x - at (w .config .pre) (dimOf (w .config) i)) * at (w .config .step) (dimOf (w .config) i)) * at (w .source .stride) (dimOf (w .config) i) * sizeOf w < 2 ^ 64
     pass-from =
         let e = its-from (g .row) (g .dim) x (g .below) k in
         let c = w .config in
         let at-x = at (c .offset) (dimOf c i) + (x - at (c .pre) (dimOf c i)) * at (c .step) (dimOf c i) in
-        let f : w .from + at-x * at (w .source .stride) (dimOf c i) * sizeOf w ≡ inwardOf w i x .from =
-        ap₂ (λ (s z : ℕ). w .from + at-x * s * z) (its-source-stride (g .row) (g .dim)) (its-size (g .row)) ∙ sym e in
+        let f : w .at + at-x * at (w .source .stride) (dimOf c i) * sizeOf w ≡ inwardOf w i x .at =
+        ap₂ (λ (s z : ℕ). w .at + at-x * s * z) (its-source-stride (g .row) (g .dim)) (its-size (g .row)) ∙ sym e in
         omega (arith, f, from-fits next (g .dim) k, g .source-end)

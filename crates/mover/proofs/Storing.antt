@@ -12,7 +12,7 @@ use lib.Seq.{sets, length-sets, length-take-le, take-all, getD-take, getD-drop}
 use Rattle.plane.specs.Numbers.{little}
 use Rattle.plane.proofs.Numbers.{length-little}
 use Rattle.mover.specs.declared.plain.Row.{Row}
-use Rattle.mover.specs.Private.Rows.{sourceIn, ApartIn, sizeOf, rowBytes, Storable}
+use Rattle.mover.specs.Private.Rows.{sourceIn, ApartIn, sizeOf, rowBytes, rowByte, Storable}
 use Rattle.mover.proofs.Bytes.{getD-sets-out, copy-more, length-take-most}
 
 -- ---- the source's bytes
@@ -57,42 +57,42 @@ apart-seen [] vs d from to n b h l o =
 apart-seen (v ∷ s) vs d from to n b h l o = refl
 
 module _ (w : Row) (s d : List ℕ) (g : Storable w s d) where
-  pub bytes-long : length (rowBytes w (sourceIn s d)) ≡ sizeOf w
+  bytes-long : length (rowBytes w (sourceIn s d)) ≡ sizeOf w
   bytes-long = by-cases (w .kept) (g .source)
     where
-      by-cases : (k : Bool) → (k ≡ true → w .from + sizeOf w ≤ length (sourceIn s d))
-          → length (cond k (take (sizeOf w) (drop (w .from) (sourceIn s d))) (little (sizeOf w) (w .config .fill))) ≡ sizeOf w
-      by-cases true h = length-take-le (sizeOf w) (drop (w .from) (sourceIn s d)) (rw length-drop (omega (arith, h refl)))
+      by-cases : (k : Bool) → (k ≡ true → w .at + sizeOf w ≤ length (sourceIn s d))
+          → length (cond k (take (sizeOf w) (drop (w .at) (sourceIn s d))) (little (sizeOf w) (w .config .fill))) ≡ sizeOf w
+      by-cases true h = length-take-le (sizeOf w) (drop (w .at) (sourceIn s d)) (rw length-drop (omega (arith, h refl)))
       by-cases false h = length-little (sizeOf w) (w .config .fill)
 
   -- the destination with the first b bytes of the element stored
   abbrev stored : ℕ → List ℕ
-  stored b = sets d (w .to) (take b (rowBytes w (sourceIn s d)))
+  stored b = sets d (w .place) (take b (rowBytes w (sourceIn s d)))
 
   -- a byte of the source is then as it was
-  seen : (b : ℕ) → b < sizeOf w → w .kept ≡ true → getD (sourceIn s (stored b)) (w .from + b) 0 ≡ getD (sourceIn s d) (w .from + b) 0
+  seen : (b : ℕ) → b < sizeOf w → w .kept ≡ true → getD (sourceIn s (stored b)) (w .at + b) 0 ≡ getD (sourceIn s d) (w .at + b) 0
   seen b l k =
-      apart-seen s (take b (rowBytes w (sourceIn s d))) d (w .from) (w .to) (sizeOf w) b (length-take-most b (rowBytes w (sourceIn s d))) l (g .apart k)
+      apart-seen s (take b (rowBytes w (sourceIn s d))) d (w .at) (w .place) (sizeOf w) b (length-take-most b (rowBytes w (sourceIn s d))) l (g .apart k)
 
   -- byte b, read from the destination as it is then
   pub byte-next : (b : ℕ) {v : ℕ} → b < sizeOf w
-      → v ≡ cond (w .kept) (getD (sourceIn s (stored b)) (w .from + b) 0) (w .config .fill / 2 ^ (8 * b) % 256)
-      → set (stored b) (w .to + b) v ≡ stored (b + 1)
+      → v ≡ rowByte w (sourceIn s (stored b)) b
+      → set (stored b) (w .place + b) v ≡ stored (b + 1)
   byte-next b {v} l e =
       let vs = rowBytes w (sourceIn s d) in
       let h : b < length vs = rw bytes-long l in
-      rw (e ∙ picked (w .kept) (seen b l)) (rw (zero-add b) at (copy-more d vs 0 (w .to) b (rw zero-add h)))
+      rw (e ∙ picked (w .kept) (seen b l)) (rw (zero-add b) at (copy-more d vs 0 (w .place) b (rw zero-add h)))
     where
-      picked : (k : Bool) → (k ≡ true → getD (sourceIn s (stored b)) (w .from + b) 0 ≡ getD (sourceIn s d) (w .from + b) 0)
-          → cond k (getD (sourceIn s (stored b)) (w .from + b) 0) (w .config .fill / 2 ^ (8 * b) % 256)
-          ≡ getD (cond k (take (sizeOf w) (drop (w .from) (sourceIn s d))) (little (sizeOf w) (w .config .fill))) b 0
-      picked true f = f refl ∙ sym (getD-take (sizeOf w) (drop (w .from) (sourceIn s d)) b 0 l ∙ getD-drop (w .from) (sourceIn s d) b 0)
+      picked : (k : Bool) → (k ≡ true → getD (sourceIn s (stored b)) (w .at + b) 0 ≡ getD (sourceIn s d) (w .at + b) 0)
+          → cond k (getD (sourceIn s (stored b)) (w .at + b) 0) (w .config .fill / 2 ^ (8 * b) % 256)
+          ≡ getD (cond k (take (sizeOf w) (drop (w .at) (sourceIn s d))) (little (sizeOf w) (w .config .fill))) b 0
+      picked true f = f refl ∙ sym (getD-take (sizeOf w) (drop (w .at) (sourceIn s d)) b 0 l ∙ getD-drop (w .at) (sourceIn s d) b 0)
       picked false f = sym (little-at (sizeOf w) (w .config .fill) b l)
 
   pub stored-long : (b : ℕ) → length (stored b) ≡ length d
-  stored-long b = length-sets d (w .to) (take b (rowBytes w (sourceIn s d)))
+  stored-long b = length-sets d (w .place) (take b (rowBytes w (sourceIn s d)))
 
-  pub stored-all : stored (sizeOf w) ≡ sets d (w .to) (rowBytes w (sourceIn s d))
+  pub stored-all : stored (sizeOf w) ≡ sets d (w .place) (rowBytes w (sourceIn s d))
   stored-all =
-      ap (λ (vs : List ℕ). sets d (w .to) vs)
+      ap (λ (vs : List ℕ). sets d (w .place) vs)
       (take-all (sizeOf w) (rowBytes w (sourceIn s d)) (omega (arith, bytes-long)))

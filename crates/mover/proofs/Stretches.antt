@@ -26,11 +26,11 @@ use Rattle.mover.specs.declared.plain.Row.{Row}
 use Rattle.mover.specs.Element.{areKept, sourcePlace, place, padded, element}
 use Rattle.mover.specs.Moved.{extentAt, total, perStep, coordOf, stored, moved}
 use Rattle.mover.specs.Within.{bytesOf}
-use Rattle.mover.specs.Private.Rows.{sourceIn, ApartIn, sizeOf, rowBytes, Storable, inwardOf, inside, coordTo, RowOf, Passable, Stands, stretchIn}
+use Rattle.mover.specs.Private.Rows.{sourceIn, ApartIn, sizeOf, rowBytes, Storable, inwardOf, inside, coordTo, sourceTerm, placeTerm, RowOf, Passable, Stands, stretchIn, Comes}
 use Rattle.mover.proofs.Bytes.{length-cond, pick-same}
 use Rattle.mover.proofs.Laws.{moved-length}
 use Rattle.mover.proofs.Parts.{sets-middle, bytes-within, part-other}
-use Rattle.mover.proofs.Rows.{sourceTerm, placeTerm, its-size, its-extent, extent-small, inward-row, to-fits, from-fits}
+use Rattle.mover.proofs.Rows.{its-size, its-extent, extent-small, inward-row, to-fits, from-fits}
 use Rattle.mover.proofs.Storing.{still-long}
 
 -- ---- how many elements lie inside a row
@@ -41,9 +41,13 @@ product-front zero f = one-mul (f 0) ∙ sym (mul-one (f 0))
 product-front (suc l) f =
     ap (λ (y : ℕ). y * f (suc l)) (product-front l f) ∙ mul-assoc (f 0) (product l (λ k. f (suc k))) (f (suc l))
 
-pub inside-none : (a : Answer) → inside a 0 ≡ 1
+inside-none : (a : Answer) → inside a 0 ≡ 1
 unfolding inside product
 inside-none a = refl
+
+-- a row with no dimension left is one element
+one-inside : (a : Answer) (n : ℕ) {left : ℕ} → left ≡ 0 → n * inside a left ≡ n
+one-inside a n z = ap (λ (l : ℕ). n * inside a l) z ∙ ap (λ (k : ℕ). n * k) (inside-none a) ∙ mul-one n
 
 inside-more : (a : Answer) (l : ℕ) → suc l ≤ a .rank → inside a (suc l) ≡ at (a .extent) (a .rank - suc l) * inside a l
 unfolding inside
@@ -89,7 +93,7 @@ module _ (t : Tensor) (c : Config) (src : List ℕ) (first last q : ℕ) (d : Li
 before-it : (first last q : ℕ) → q < first → min last q - first ≡ min last (q + 1) - first
 before-it first last q h = omega (arith, min-le-right last q, min-le-right last (q + 1))
 
--- the row of one element, as a list's
+-- storing a row of one element is storing its element
 row-stored : {t : Tensor} {p r : ℕ} {w : Row} → RowOf t p r (t .rank) w → (src d : List ℕ)
     → sets d (sum (t .rank) (λ j. placeTerm t (w .config) j (coordTo t (w .config) (t .rank) (w .number) j)) * t .«element_size»)
     (cond (w .kept) (take (t .«element_size») (drop (sum (t .rank) (λ j. sourceTerm t (w .config) j (coordTo t (w .config) (t .rank) (w .number) j)) * t .«element_size») src)) (little (t .«element_size») (w .config .fill)))
@@ -103,7 +107,7 @@ row-stored {t} {w = w} g src d =
 
 -- ---- within a memory
 
--- stores into a part
+-- what is stored into a part is stored into the memory
 within-sets : (m u e : List ℕ) (b i : ℕ) → b + length u ≤ length m → i + length e ≤ length u → sets (sets m b u) (b + i) e ≡ sets m b (sets u i e)
 within-sets m u e b i h k =
     let x = take b m in
@@ -129,7 +133,7 @@ source-64 [] d h k = k
 source-64 (b ∷ s) d h k = h
 
 module _ {w : Row} {left : ℕ} {s d : List ℕ} (h : Stands w left s d) where
-  pub rank-is : w .room .answer .rank ≡ h .t .rank
+  rank-is : w .room .answer .rank ≡ h .t .rank
   rank-is = ap (λ (a : Answer). a .rank) (h .row .answer)
 
   abbrev size : ℕ
@@ -144,10 +148,10 @@ module _ {w : Row} {left : ℕ} {s d : List ℕ} (h : Stands w left s d) where
     leaf : RowOf (h .t) (h .p .start) (h .r .start) (h .t .rank) w
     leaf = let e : h .t .rank - left ≡ h .t .rank = omega arith in subst (λ (i : ℕ). RowOf (h .t) (h .p .start) (h .r .start) i w) e (h .row)
 
-    source-end : w .kept ≡ true → w .from + size ≤ h .p .start + h .p .length
+    source-end : w .kept ≡ true → w .at + size ≤ h .p .start + h .p .length
     source-end k = omega (arith, from-fits leaf (omega arith) k, h .long)
 
-    end : w .to + size ≤ h .r .start + h .r .length
+    end : w .place + size ≤ h .r .start + h .r .length
     end = omega (arith, to-fits leaf (omega arith), h .enough)
 
     pub storable : Storable w s d
@@ -156,7 +160,7 @@ module _ {w : Row} {left : ℕ} {s d : List ℕ} (h : Stands w left s d) where
       source = λ k. rw size-is (omega (arith, source-end k, h .source));
       destination = rw size-is (omega (arith, end, h .destination));
       apart = λ k. rw size-is
-          (apart-inside s (h .p .start) (h .p .start + h .p .length) (h .r .start) (h .r .start + h .r .length) (w .from) (w .from + size) (w .to) (w .to + size)
+          (apart-inside s (h .p .start) (h .p .start + h .p .length) (h .r .start) (h .r .start + h .r .length) (w .at) (w .at + size) (w .place) (w .place + size)
           (h .apart) (omega (arith, h .row .at-source k)) (source-end k) (omega (arith, h .row .at-place)) end);
     }
 
@@ -171,9 +175,6 @@ module _ {w : Row} {left : ℕ} {s d : List ℕ} (h : Stands w left s d) where
         )
 
     module _ (first last : ℕ) (m : List ℕ) (u : d ≡ stretchIn (h .t) (w .config) (h .p) (h .r) s first last (w .number * inside (w .room .answer) left) m) where
-      one : (n : ℕ) → n * inside (w .room .answer) left ≡ n
-      one n = ap (λ (k : ℕ). n * inside (w .room .answer) k) z ∙ ap (λ (k : ℕ). n * k) (inside-none (w .room .answer)) ∙ mul-one n
-
       abbrev source : List ℕ
       source = bytesOf (h .p) (sourceIn s m)
 
@@ -182,7 +183,7 @@ module _ {w : Row} {left : ℕ} {s d : List ℕ} (h : Stands w left s d) where
 
       stands : d ≡ sets m (h .r .start) (part (w .number))
       unfolding stretchIn
-      stands = u ∙ ap (λ (n : ℕ). sets m (h .r .start) (part n)) (one (w .number))
+      stands = u ∙ ap (λ (n : ℕ). sets m (h .r .start) (part n)) (one-inside (w .room .answer) (w .number) z)
 
       same : length d ≡ length m
       same = ap length stands ∙ length-sets m (h .r .start) (part (w .number))
@@ -196,10 +197,10 @@ module _ {w : Row} {left : ℕ} {s d : List ℕ} (h : Stands w left s d) where
       unfolding stretchIn
       not-stored o =
           stands ∙ ap (λ (n : ℕ). sets m (h .r .start) (moved (h .t) (w .config) source first n (bytesOf (h .r) m))) (before-it first last (w .number) o) ∙
-          ap (λ (n : ℕ). sets m (h .r .start) (part n)) (sym (one (w .number + 1)))
+          ap (λ (n : ℕ). sets m (h .r .start) (part n)) (sym (one-inside (w .room .answer) (w .number + 1) z))
 
       module _ (i : first ≤ w .number) (j : w .number < last) where
-        to-is : w .to ≡ h .r .start + sum (h .t .rank) (λ j. placeTerm (h .t) (w .config) j (coordTo (h .t) (w .config) (h .t .rank) (w .number) j)) * size
+        to-is : w .place ≡ h .r .start + sum (h .t .rank) (λ j. placeTerm (h .t) (w .config) j (coordTo (h .t) (w .config) (h .t .rank) (w .number) j)) * size
         to-is = leaf .at-place
 
         seen : bytesOf (h .p) (sourceIn s d) ≡ source
@@ -218,7 +219,7 @@ module _ {w : Row} {left : ℕ} {s d : List ℕ} (h : Stands w left s d) where
         unfolding bytes
         bytes-are =
             let at-source = sum (h .t .rank) (λ j. sourceTerm (h .t) (w .config) j (coordTo (h .t) (w .config) (h .t .rank) (w .number) j)) * size in
-            ap (λ (n : ℕ). cond (w .kept) (take n (drop (w .from) (sourceIn s d))) (little n (w .config .fill))) size-is ∙
+            ap (λ (n : ℕ). cond (w .kept) (take n (drop (w .at) (sourceIn s d))) (little n (w .config .fill))) size-is ∙
             (pick-same (w .kept) (little size (w .config .fill))
             (λ k. ap (λ (n : ℕ). take size (drop n (sourceIn s d))) (leaf .at-source k) ∙
             (bytes-within (sourceIn s d) (h .p .start) (h .p .length) at-source size (h .source) (omega (arith, source-end k, leaf .at-source k)) ∙
@@ -228,7 +229,7 @@ module _ {w : Row} {left : ℕ} {s d : List ℕ} (h : Stands w left s d) where
         unfolding bytes
         bytes-short = length-cond (w .kept) size _ (little size (w .config .fill)) (rw length-little (omega arith))
 
-        is-stored : {e : List ℕ} → e ≡ sets d (w .to) (rowBytes w (sourceIn s d))
+        is-stored : {e : List ℕ} → e ≡ sets d (w .place) (rowBytes w (sourceIn s d))
             → e ≡ stretchIn (h .t) (w .config) (h .p) (h .r) s first last ((w .number + 1) * inside (w .room .answer) left) m
         unfolding stretchIn bytes
         is-stored e =
@@ -240,7 +241,7 @@ module _ {w : Row} {left : ℕ} {s d : List ℕ} (h : Stands w left s d) where
             (rw (part-long (w .number)) (omega (arith, bytes-short, end, to-is))) ∙
             ap (λ (v : List ℕ). sets m (h .r .start) v)
             (row-stored leaf source (part (w .number)) ∙ moved-one (h .t) (w .config) source first last (w .number) (bytesOf (h .r) m) i j ∙
-            ap part (sym (one (w .number + 1))))
+            ap part (sym (one-inside (w .room .answer) (w .number + 1) z)))
 
   -- ---- one dimension fewer
 
@@ -299,11 +300,6 @@ module _ {w : Row} {left : ℕ} {s d : List ℕ} (h : Stands w left s d) where
 
 -- ---- a turn of the loop
 
--- what a stretch of rows leaves: if the memory m had come to element number n, it has come to number n'
-abbrev pub Comes : {w : Row} {left : ℕ} {s d : List ℕ} → Stands w left s d → ℕ → ℕ → ℕ → ℕ → List ℕ → Type 0
-Comes {w} {left} {s} {d} h first last n n' e =
-    (m : List ℕ) → d ≡ stretchIn (h .t) (w .config) (h .p) (h .r) s first last n m → e ≡ stretchIn (h .t) (w .config) (h .p) (h .r) s first last n' m
-
 module _ {w : Row} {left : ℕ} {s d : List ℕ} (h : Stands w left s d) (z : left ≡ 0 → ⊥) (first last : ℕ) where
   abbrev a : Answer
   a = w .room .answer
@@ -355,9 +351,9 @@ module _ {w : Row} {left : ℕ} {s d : List ℕ} (h : Stands w left s d) (z : le
 -- ---- a row that is one element
 
 module _ {w : Row} {left : ℕ} {s d : List ℕ} (h : Stands w left s d) (z : left ≡ 0) (first last : ℕ) where
-  pub comes-stored : {e : List ℕ} → first ≤ w .number → w .number * inside (w .room .answer) left < last → e ≡ sets d (w .to) (rowBytes w (sourceIn s d))
+  pub comes-stored : {e : List ℕ} → first ≤ w .number → w .number * inside (w .room .answer) left < last → e ≡ sets d (w .place) (rowBytes w (sourceIn s d))
       → Comes h first last (w .number * inside (w .room .answer) left) ((w .number + 1) * inside (w .room .answer) left) e
-  comes-stored i j f m u = is-stored h z first last m u i (rw (one h z first last m u (w .number)) at j) f
+  comes-stored i j f m u = is-stored h z first last m u i (rw (one-inside (w .room .answer) (w .number) z) at j) f
 
   pub comes-passed : {e : List ℕ} → w .number < first → e ≡ d
       → Comes h first last (w .number * inside (w .room .answer) left) ((w .number + 1) * inside (w .room .answer) left) e
@@ -366,8 +362,7 @@ module _ {w : Row} {left : ℕ} {s d : List ℕ} (h : Stands w left s d) (z : le
 -- ---- whether more are to come
 
 pub told-one : (a : Answer) (left n last : ℕ) → left ≡ 0 → ltb n last ≡ ltb (n * inside a left) last
-told-one a left n last z =
-    ap (λ (k : ℕ). ltb k last) (sym (ap (λ (l : ℕ). n * inside a l) z ∙ ap (λ (k : ℕ). n * k) (inside-none a) ∙ mul-one n))
+told-one a left n last z = ap (λ (k : ℕ). ltb k last) (sym (one-inside a n z))
 
 -- what the row inside tells
 pub told-inside : (w : Row) {n : Row} (i x left last : ℕ) {b : Bool} → n ≡ inwardOf w i x → b ≡ ltb ((n .number + 1) * inside (n .room .answer) left) last

@@ -26,18 +26,18 @@ use Rattle.mover.specs.declared.Verdict.{Verdict}
 use Rattle.mover.specs.declared.plain.Row.{Row}
 use Rattle.mover.specs.Moved.{extentAt, total, moved, moveMemory}
 use Rattle.mover.specs.Within.{jobFault, totalOf, verdictOf, bytesOf, advancedBy, further, advanceOf, advanceMemory}
-use Rattle.mover.specs.Private.Rows.{sourceIn, ApartIn, rowOf, inside, RowOf, Stands, stretchIn}
+use Rattle.mover.specs.Private.Rows.{sourceIn, ApartIn, rowOf, inside, RowOf, Stands, stretchIn, Comes}
 use Rattle.mover.proofs.Judged.{move-room}
 use Rattle.mover.proofs.Laws.{moved-length, moved-whole, put-back, source-fits, destination-fits, job-good, job-apart, advanced-none}
 use Rattle.mover.proofs.Making.{room-source, room-config, room-dst, room-strides}
 use Rattle.mover.proofs.Parts.{part-own}
 use Rattle.mover.proofs.Storing.{lent, lent-apart}
-use Rattle.mover.proofs.Stretches.{Comes, inside-all}
+use Rattle.mover.proofs.Stretches.{inside-all}
 
 -- ---- the whole destination as one row, from the bytes at p to those at r
 
 abbrev pub rowAt : Tensor → Config → ℕ → ℕ → Row
-rowAt t c p r = record { config = c; room = roomOf t c; source = sourceOf t; number = 0; kept = true; from = p; to = r }
+rowAt t c p r = record { config = c; room = roomOf t c; source = sourceOf t; number = 0; kept = true; at = p; place = r }
 
 module _ (t : Tensor) (c : Config) (z : roomFault t c .status ≡ 0) where
   its-answer : roomOf t c .answer ≡ accepted t c
@@ -62,7 +62,7 @@ module _ (t : Tensor) (c : Config) (z : roomFault t c .status ≡ 0) where
   module _ (p r : Part) (s d : List ℕ) (ps : p .start + p .length ≤ length (sourceIn s d)) (rd : r .start + r .length ≤ length d)
       (apart : ApartIn s (p .start) (p .start + p .length) (r .start) (r .start + r .length)) (long : span t ≤ p .length) (enough : need t c ≤ r .length)
       {n : ℕ} (en : n ≡ t .rank) {w : Row} (ew : w ≡ rowAt t c (p .start) (r .start)) where
-    pub whole-stands : Stands w n s d
+    whole-stands : Stands w n s d
     whole-stands = record {
       t = t;
       p = p;
@@ -91,7 +91,7 @@ module _ (t : Tensor) (c : Config) (z : roomFault t c .status ≡ 0) where
         (let k : min last (0 * inside (roomOf t c .answer) n) - first ≡ 0 = omega (arith, min-le-right last (0 * inside (roomOf t c .answer) n), zero-mul (inside (roomOf t c .answer) n)) in
         sym (ap (λ (i : ℕ). sets d (r .start) (moved t c (bytesOf p (sourceIn s d)) first i (bytesOf r d))) k ∙ put-back d (r .start) (r .length) rd))
 
-    pub whole-stored : (first last : ℕ) {out : List ℕ}
+    whole-stored : (first last : ℕ) {out : List ℕ}
         → ((h : Stands w n s d) → Comes h first last (w .number * inside (w .room .answer) n) ((w .number + 1) * inside (w .room .answer) n) out)
         → out ≡ sets d (r .start) (moved t c (bytesOf p (sourceIn s d)) first (min last (total t c) - first) (bytesOf r d))
     unfolding stretchIn whole-stands
@@ -100,7 +100,7 @@ module _ (t : Tensor) (c : Config) (z : roomFault t c .status ≡ 0) where
         ap₂ (λ (v : Config) (i : ℕ). stretchIn t v p r s first last i d) (ap (λ (v : Row). v .config) ew) all-inside
 
 -- an accepted move has no more elements than 64 bits count
-total-most : {t : Tensor} {c : Config} {n k : ℕ} → GoodMove t c n k → total t c ≤ 18446744073709551615
+pub total-most : {t : Tensor} {c : Config} {n k : ℕ} → GoodMove t c n k → total t c ≤ 18446744073709551615
 unfolding total
 total-most {t} {c} g =
     omega (arith, product-most (t .rank) (extentAt t c) (g .source .rank .1) (λ i h. dst-extent (g .config) i (g .source .rank .1) h .1))
@@ -152,9 +152,6 @@ module _ (t : Tensor) (c : Config) (src dst : List ℕ) (g : GoodMove t c (lengt
         ap (λ (i : ℕ). sets dst 0 (moved t c src 0 i dst)) (ap (λ (i : ℕ). i - 0) k ∙ sub-zero (total t c)) ∙
         sets-whole dst (moved t c src 0 (total t c) dst) (moved-length t c src 0 (total t c) dst) ∙
         sym (moved-whole t c src dst (move-clear t c (length src) (length dst) g))
-
-  pub total-small : total t c ≤ 18446744073709551615
-  total-small = total-most g
 
 -- ---- a stretch between two parts of one memory
 

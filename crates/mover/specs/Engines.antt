@@ -1,6 +1,6 @@
 -- Two engines: what is claimed of the first engine's calls and the plain one's. `post` and `plain` are the contracts of two such calls, as
 -- the checker reads them off the source: κ are lifetimes, a the arguments, x and y answers, s and t what was lent, as it is at the
--- exit, of which `left` is the memory.
+-- exit, of which `left` is the memory. Neither asks anything of its caller (`Decided`), so a is any input.
 use Prim.Native.Nat.{ℕ, _+_}
 use mathlib.Core.Path.{_≡_}
 use mathlib.Core.List.{List}
@@ -18,21 +18,23 @@ pub record SameOnAll
   pub answer : (κ : K) (a : A κ) (x y : R κ) (s t : E κ) → post κ a x s → plain κ a y t → x ≡ y
   pub memory : (κ : K) (a : A κ) (x y : R κ) (s t : E κ) → post κ a x s → plain κ a y t → left κ s ≡ left κ t
 
+-- given the same first elements, for every number of them, both leave the same memory. `from` is the element that a stretch starts with
+pub record SameFirsts
+    {K : Type 0} {A R E : K → Type 0}
+    (post plain : (κ : K) → A κ → R κ → E κ → Type 0) (from : (κ : K) → A κ → ℕ) (left : (κ : K) → E κ → List ℕ) : Type 0 where
+  pub memory : (κ : K) (a : A κ) (x y : R κ) (s t : E κ) → from κ a ≡ 0 → post κ a x s → plain κ a y t → left κ s ≡ left κ t
+
 -- a stretch of k elements, then one of l more, leave what one of k + l leaves
 abbrev pub StretchesJoin : Type 0
 StretchesJoin =
     (j : Job) (k l : ℕ) (m : List ℕ) → advanceMemory j k l (advanceMemory j 0 k m) ≡ advanceMemory j 0 (k + l) m
 
--- the same first elements, by whichever engine: `job`, `from`, `budget` and `lent` are the arguments of a stretch
-pub record SameFirsts
-    {K : Type 0} {A R E : K → Type 0}
-    (one other : (κ : K) → A κ → R κ → E κ → Type 0)
+-- an engine goes on from the first n elements of a memory m, whichever engine put them there: after `budget` more the first n + budget
+-- are in place. So stretches may be moved by either engine, in any mixture. `lent`, `job`, `from` and `budget` are a stretch's arguments
+pub record GoesOn
+    {K : Type 0} {A R E : K → Type 0} (post : (κ : K) → A κ → R κ → E κ → Type 0)
     (lent : (κ : K) → A κ → List ℕ) (job : (κ : K) → A κ → Job) (from budget : (κ : K) → A κ → ℕ)
     (left : (κ : K) → E κ → List ℕ) : Type 0 where
-  -- both leave the same memory for every number of elements, from the first on
-  pub firsts : (κ : K) (a : A κ) (x y : R κ) (s t : E κ) → from κ a ≡ 0 → one κ a x s → other κ a y t →
-      (left κ s ≡ advanceMemory (job κ a) 0 (budget κ a) (lent κ a)) × (left κ t ≡ advanceMemory (job κ a) 0 (budget κ a) (lent κ a))
-  -- and where the other goes on from the memory and the element at which one has stopped, it leaves what either leaves that moves all of them
-  pub onward : (κ : K) (a b : A κ) (x y : R κ) (s t : E κ) → from κ a ≡ 0 → one κ a x s →
-      lent κ b ≡ left κ s → job κ b ≡ job κ a → from κ b ≡ budget κ a → other κ b y t →
-      left κ t ≡ advanceMemory (job κ a) 0 (budget κ a + budget κ b) (lent κ a)
+  pub onward : (κ : K) (a : A κ) (x : R κ) (s : E κ) (m : List ℕ) →
+      lent κ a ≡ advanceMemory (job κ a) 0 (from κ a) m → post κ a x s →
+      left κ s ≡ advanceMemory (job κ a) 0 (from κ a + budget κ a) m

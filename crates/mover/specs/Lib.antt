@@ -1,5 +1,5 @@
 -- What a reader must believe. Then what the theorems claim: Orders (the rules of a job, in order), Demand2, Work (how much is moved),
--- Engines (the plain engine and the first are one), Claims (all else). Private holds what only private functions cite.
+-- Engines (the plain engine and the first do the same), Claims (all else). Private holds what only private functions cite.
 pub mod Element
 pub mod Moved
 pub mod Within

@@ -5,7 +5,7 @@ use mathlib.Core.Bool.{true, cond, _&&_}
 use mathlib.Core.List.{List, [], _∷_}
 use Prim.Native.Nat.{ℕ, suc, _+_, _-_, _*_, _/_, _%_, _^_, min, _≤_, _<_}
 use lib.Dec.{leb, ltb}
-use lib.ListN.{length, take, drop}
+use lib.ListN.{length, getD, take, drop}
 use lib.Seq.{sets}
 use Rattle.plane.specs.declared.Tensor.{Tensor}
 use Rattle.plane.specs.declared.Config.{Config}
@@ -28,30 +28,38 @@ abbrev pub sourceIn : List ℕ → List ℕ → List ℕ
 sourceIn [] d = d
 sourceIn (b ∷ s) d = b ∷ s
 
--- bytes a to a' of the source and b to b' of the destination are no bytes of one memory, or apart
+-- bytes a to a' of the source and b to b' of the destination share none: they are of two slices, or apart in one memory
 abbrev pub ApartIn : List ℕ → ℕ → ℕ → ℕ → ℕ → Type 0
 ApartIn [] a a' b b' = (a' ≤ b) ⊎ (b' ≤ a)
 ApartIn (_ ∷ _) a a' b b' = Unit
 
+-- the element size
 abbrev pub sizeOf : Row → ℕ
 sizeOf w = w .room .answer .«element_size»
 
--- the bytes of a row that is one element, from the source s
+-- the bytes of a row that is one element, from the source s; and byte b of them, as the code works it out
 abbrev pub rowBytes : Row → List ℕ → List ℕ
-rowBytes w s = cond (w .kept) (take (sizeOf w) (drop (w .from) s)) (little (sizeOf w) (w .config .fill))
+rowBytes w s = cond (w .kept) (take (sizeOf w) (drop (w .at) s)) (little (sizeOf w) (w .config .fill))
+
+abbrev pub rowByte : Row → List ℕ → ℕ → ℕ
+rowByte w s b = cond (w .kept) (getD s (w .at + b) 0) (w .config .fill / 2 ^ (8 * b) % 256)
+
+-- the destination d with it stored
+abbrev pub rowStored : Row → List ℕ → List ℕ → List ℕ
+rowStored w s d = sets d (w .place) (rowBytes w (sourceIn s d))
 
 -- such a row can be stored into d
 pub record Storable (w : Row) (s d : List ℕ) : Type 0 where
   pub sized : Sized (sizeOf w)
-  pub source : w .kept ≡ true → w .from + sizeOf w ≤ length (sourceIn s d)
-  pub destination : w .to + sizeOf w ≤ length d
-  pub apart : w .kept ≡ true → ApartIn s (w .from) (w .from + sizeOf w) (w .to) (w .to + sizeOf w)
+  pub source : w .kept ≡ true → w .at + sizeOf w ≤ length (sourceIn s d)
+  pub destination : w .place + sizeOf w ≤ length d
+  pub apart : w .kept ≡ true → ApartIn s (w .at) (w .at + sizeOf w) (w .place) (w .place + sizeOf w)
 
 -- ---- rows in rows
 
 -- the whole destination as one row
 unfoldable pub rowOf : Tensor → Config → Row
-rowOf t c = record { config = c; room = roomOf t c; source = sourceOf t; number = 0; kept = true; from = 0; to = 0 }
+rowOf t c = record { config = c; room = roomOf t c; source = sourceOf t; number = 0; kept = true; at = 0; place = 0 }
 
 -- the row at coordinate x of destination dimension i
 unfoldable pub inwardOf : Row → ℕ → ℕ → Row
@@ -68,17 +76,31 @@ inwardOf w i x =
       source = w .source;
       number = w .number * at (a .extent) i + x;
       kept = kept;
-      from = cond kept (w .from + (at (c .offset) s + (x - pre) * at (c .step) s) * at (w .source .stride) s * sizeOf w) (w .from);
-      to = w .to + (at (c .«dst_offset») i + x) * at (a .stride) i * sizeOf w;
+      at = cond kept (w .at + (at (c .offset) s + (x - pre) * at (c .step) s) * at (w .source .stride) s * sizeOf w) (w .at);
+      place = w .place + (at (c .«dst_offset») i + x) * at (a .stride) i * sizeOf w;
     }
 
 -- how many elements a row has with so many dimensions left
 unfoldable pub inside : Answer → ℕ → ℕ
 inside a left = product left (λ k. at (a .extent) (a .rank - left + k))
 
+-- the number of a row's first element, and of the first past it
+abbrev pub firstOf : Row → ℕ → ℕ
+firstOf w left = w .number * inside (w .room .answer) left
+
+abbrev pub pastOf : Row → ℕ → ℕ
+pastOf w left = (w .number + 1) * inside (w .room .answer) left
+
 -- coordinate j of row number q past the first i dimensions
 abbrev pub coordTo : Tensor → Config → ℕ → ℕ → ℕ → ℕ
 coordTo t c i q j = q / product (i - suc j) (λ k. extentAt t c (suc j + k)) % extentAt t c j
+
+-- what coordinate x of dimension i adds to the places, in elements
+abbrev pub sourceTerm : Tensor → Config → ℕ → ℕ → ℕ
+sourceTerm t c i x = sourceAt t (dimOf c i) (at (c .offset) (dimOf c i) + kOf c i x * at (c .step) (dimOf c i))
+
+abbrev pub placeTerm : Tensor → Config → ℕ → ℕ → ℕ
+placeTerm t c i x = (at (c .«dst_offset») i + x) * at (dstStrides t c) i
 
 -- a row past the first i dimensions of an accepted move of t from the bytes at p to those at r
 pub record RowOf (t : Tensor) (p r i : ℕ) (w : Row) : Type 0 where
@@ -89,8 +111,9 @@ pub record RowOf (t : Tensor) (p r i : ℕ) (w : Row) : Type 0 where
   pub strides : w .source .stride ≡ srcStrides t
   pub within : w .number < product i (extentAt t (w .config))
   pub all-kept : w .kept ≡ every i (λ j. isKept t (w .config) j (coordTo t (w .config) i (w .number) j))
-  pub at-source : w .kept ≡ true → w .from ≡ p + sum i (λ j. sourceAt t (dimOf (w .config) j) (at (w .config .offset) (dimOf (w .config) j) + kOf (w .config) j (coordTo t (w .config) i (w .number) j) * at (w .config .step) (dimOf (w .config) j))) * t .«element_size»
-  pub at-place : w .to ≡ r + sum i (λ j. (at (w .config .«dst_offset») j + coordTo t (w .config) i (w .number) j) * at (dstStrides t (w .config)) j) * t .«element_size»
+  pub at-source : w .kept ≡ true →
+      w .at ≡ p + sum i (λ j. sourceTerm t (w .config) j (coordTo t (w .config) i (w .number) j)) * t .«element_size»
+  pub at-place : w .place ≡ r + sum i (λ j. placeTerm t (w .config) j (coordTo t (w .config) i (w .number) j)) * t .«element_size»
 
 -- what a step inward asks
 pub record Passable (w : Row) (i x : ℕ) : Type 0 where
@@ -116,10 +139,12 @@ pub record Stands (w : Row) (left : ℕ) (s d : List ℕ) : Type 0 where
   pub long : span t ≤ p .length
   pub enough : need t (w .config) ≤ r .length
 
--- the memory m with those of the elements first to last - 1 stored that are numbered below n
+-- the memory m with those of the elements first to end - 1 stored that are numbered below n
 unfoldable pub stretchIn : Tensor → Config → Part → Part → List ℕ → ℕ → ℕ → ℕ → List ℕ → List ℕ
-stretchIn t c p r s first last n m =
-    sets m (r .start) (moved t c (bytesOf p (sourceIn s m)) first (min last n - first) (bytesOf r m))
+stretchIn t c p r s first end n m =
+    sets m (r .start) (moved t c (bytesOf p (sourceIn s m)) first (min end n - first) (bytesOf r m))
 
-abbrev pub upTo : {w : Row} {left : ℕ} {s d : List ℕ} → Stands w left s d → ℕ → ℕ → ℕ → List ℕ → List ℕ
-upTo {w} {left} {s} {d} h first last n m = stretchIn (h .t) (w .config) (h .p) (h .r) s first last n m
+-- what the plain engine leaves, e: if the destination had come to element number n of a memory m, it has come to number n'
+abbrev pub Comes : {w : Row} {left : ℕ} {s d : List ℕ} → Stands w left s d → ℕ → ℕ → ℕ → ℕ → List ℕ → Type 0
+Comes {w} {left} {s} {d} h first end n n' e =
+    (m : List ℕ) → d ≡ stretchIn (h .t) (w .config) (h .p) (h .r) s first end n m → e ≡ stretchIn (h .t) (w .config) (h .p) (h .r) s first end n' m

@@ -11,13 +11,13 @@ use Rattle.mover.proofs.plain.advance.Statement.{statement}
 use Rattle.mover.proofs.plain.advance.Tie as tie
 
 -- how many are left, and how many of them are moved
-left : (c : tie.Joined1) → c .if1 .left ≡ c .before .before .judge-job .result .total - c .before .before .before .before .args .from
-left c = ⊎-elim (λ w. w .2) (λ w. w .1 ∙ omega (arith, w .0 .left)) (c .if1 .came)
+rest : (c : tie.Joined1) → c .if1 .rest ≡ c .before .before .judge-job .result .total - c .before .before .before .before .args .from
+rest c = ⊎-elim (λ w. w .2) (λ w. w .1 ∙ omega (arith, w .0 .left)) (c .if1 .came)
 
 count : (c : tie.Joined2) → let a = c .before .before .before .before .before .args in
     c .if2 .count ≡ min (a .budget) (c .before .before .before .judge-job .result .total - a .from)
 count c =
-    let e = left (c .before) in
+    let e = rest (c .before) in
     ⊎-elim (λ w. w .1 ∙ omega (arith, w .0 .taken)) (λ w. w .1 ∙ omega (arith, w .0 .left)) (c .if2 .came)
 
 -- the row that the code makes
@@ -28,13 +28,13 @@ row : (c : tie.After-whole) → let j = c .before .before .before .before .befor
       source = c .whole .result .source;
       number = c .whole .result .number;
       kept = c .whole .result .kept;
-      from = j .source .start;
-      to = j .destination .start;
+      at = j .source .start;
+      place = j .destination .start;
     } ≡ rowAt (j .tensor) (j .config) (j .source .start) (j .destination .start)
 unfolding rowOf
 row c =
     let j = c .before .before .before .before .before .before .before .args .job in
-    ap (λ (w : Row). record { config = w .config; room = w .room; source = w .source; number = w .number; kept = w .kept; from = j .source .start; to = j .destination .start }) (c .whole .ensures)
+    ap (λ (w : Row). record { config = w .config; room = w .room; source = w .source; number = w .number; kept = w .kept; at = j .source .start; place = j .destination .start }) (c .whole .ensures)
 
 add-store-row : tie.Need-add-store-row
 add-store-row c =

@@ -9,7 +9,7 @@ use Rattle.mover.proofs.plain.byte.Statement.{statement}
 use Rattle.mover.proofs.plain.byte.Tie as tie
 
 -- a byte that is kept stands in the source
-inside : (c : tie.Then1) → let a = c .before .args in a .row .from + a .b < length (sourceIn (a .src .now) (a .dst .now))
+inside : (c : tie.Then1) → let a = c .before .args in a .row .at + a .b < length (sourceIn (a .src .now) (a .dst .now))
 inside c = c .before .pre .1 (c .if1 .taken)
 
 add-at : tie.Need-add-at

@@ -21,7 +21,7 @@ start3 c = start2 (c .before .before .before)
 abbrev start4 : tie.After-struct-known3 → tie.Start
 start4 c = start3 (c .before .before .before)
 
-abbrev start5 : tie.After-at2 → tie.Start
+abbrev start5 : tie.After-coordinate2 → tie.Start
 start5 c = start4 (c .before .before .before)
 
 kept : (c : tie.Then1) → let a = start4 (c .before) .args in inwardOf (a .row) (a .i) (a .c) .kept ≡ true

@@ -7,28 +7,28 @@ use Rattle.plane.specs.declared.Answer.{Answer}
 use Rattle.plane.specs.Good.{GoodMove}
 use Rattle.mover.proofs.Laws.{moved-refused}
 use Rattle.mover.proofs.Judged.{judged-stopped, judged-move, judged-accepted}
-use Rattle.mover.proofs.WholeRows.{move-stands, move-before, move-stored, total-small}
+use Rattle.mover.proofs.WholeRows.{move-stands, move-before, move-stored, total-most}
 use Rattle.mover.proofs.plain.move_plane.Statement.{statement}
 use Rattle.mover.proofs.plain.move_plane.Tie as tie
 
 -- past the check, the move is accepted
-good : (c : tie.Then1) → let a = c .before .before .before .before .before .args in GoodMove (a .t) (a .c) (length (a .src .now)) (length (a .dst .now))
+good : (c : tie.Then1) → let a = c .before .before .before .before .before .args in GoodMove (a .t) (a .config) (length (a .src .now)) (length (a .dst .now))
 good c =
     let a = c .before .before .before .before .before .args in
-    judged-move (a .t) (a .c) _ _ (c .before .before .judge .ensures) (c .if1 .taken)
+    judged-move (a .t) (a .config) _ _ (c .before .before .judge .ensures) (c .if1 .taken)
 
 rank : (c : tie.Then1) → c .before .before .judge .result .rank ≡ c .before .before .before .before .before .args .t .rank
 rank c =
     let a = c .before .before .before .before .before .args in
-    ap (λ (x : Answer). x .rank) (judged-accepted (a .t) (a .c) _ _ (c .before .before .judge .ensures) (c .if1 .taken) .1)
+    ap (λ (x : Answer). x .rank) (judged-accepted (a .t) (a .config) _ _ (c .before .before .judge .ensures) (c .if1 .taken) .1)
 
 store-row-requires : tie.Need-store-row-requires
 store-row-requires c κs =
     let i = c .before .before in
     let a = i .before .before .before .before .before .args in
     let g = good i in (
-      move-stands (a .t) (a .c) (a .src .now) (a .dst .now) g (rank i) (c .whole .ensures),
-      move-before (a .t) (a .c) (a .src .now) (a .dst .now) g (rank i) (c .whole .ensures) 18446744073709551615 (omega arith),
+      move-stands (a .t) (a .config) (a .src .now) (a .dst .now) g (rank i) (c .whole .ensures),
+      move-before (a .t) (a .config) (a .src .now) (a .dst .now) g (rank i) (c .whole .ensures) 18446744073709551615 (omega arith),
     )
 
 returns : tie.Need-returns
@@ -37,15 +37,15 @@ returns c =
     let i = r .before .before .before in
     let a = i .before .before .before .before .before .args in (
       i .before .before .judge .ensures,
-      move-stored (a .t) (a .c) (a .src .now) (a .dst .now) (good i) (rank i) (r .before .whole .ensures) 18446744073709551615
-          (total-small (a .t) (a .c) (a .src .now) (a .dst .now) (good i)) (r .store-row .ensures .1),
+      move-stored (a .t) (a .config) (a .src .now) (a .dst .now) (good i) (rank i) (r .before .whole .ensures) 18446744073709551615
+          (total-most (good i)) (r .store-row .ensures .1),
     )
 
 returns-2 : tie.Need-returns-2
 returns-2 c =
     let j = c .before .before in
     let a = j .before .before .before .args in
-    (j .judge .ensures, sym (moved-refused (a .t) (a .c) (a .src .now) (a .dst .now) (judged-stopped (a .t) (a .c) _ _ (j .judge .ensures) (c .if1 .left))))
+    (j .judge .ensures, sym (moved-refused (a .t) (a .config) (a .src .now) (a .dst .now) (judged-stopped (a .t) (a .config) _ _ (j .judge .ensures) (c .if1 .left))))
 
 pub move-plane-spec : {M : Type 1} → statement M
 move-plane-spec =

@@ -11,7 +11,7 @@ use Rattle.mover.proofs.plain.store.Statement.{statement}
 use Rattle.mover.proofs.plain.store.Tie as tie
 
 abbrev Inv-loop : tie.InvT-loop
-Inv-loop src dst₀ row b₀ b-end dst b = (b ≤ sizeOf row) × (dst ≡ sets dst₀ (row .to) (take b (rowBytes row (sourceIn src dst₀))))
+Inv-loop src dst₀ row b₀ b-end dst b = (b ≤ sizeOf row) × (dst ≡ sets dst₀ (row .place) (take b (rowBytes row (sourceIn src dst₀))))
 
 abbrev μ-loop : tie.MeasureT-loop
 μ-loop src dst₀ row b₀ b-end dst b = sizeOf row - b
@@ -54,7 +54,7 @@ returns c =
     let a = s .args in
     let e : c .before .loop .b ≡ sizeOf (a .row) = omega (arith, c .before .loop .inv .0, c .loop-test .left) in
     c .before .loop .inv .1 ∙
-    ap (λ (n : ℕ). sets (a .dst .now) (a .row .to) (take n (rowBytes (a .row) (sourceIn (a .src .now) (a .dst .now))))) e ∙
+    ap (λ (n : ℕ). sets (a .dst .now) (a .row .place) (take n (rowBytes (a .row) (sourceIn (a .src .now) (a .dst .now))))) e ∙
     stored-all (a .row) (a .src .now) (a .dst .now) (s .pre)
 
 pub store-spec : {M : Type 1} → statement M
