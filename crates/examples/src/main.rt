@@ -1,5 +1,5 @@
-// Runs the paper's examples through the public calls, and prints what each answers: A to J (moves, some by the plain engine too),
-// K (a sub-tensor), L (two transfers), and those that the paper only runs.
+// Runs the paper's examples through the public calls, and prints what each answers: A to J (moves, some by the plain engine too, and D
+// by stretches of either), K (a sub-tensor), L (two transfers), and those that the paper only runs.
 use libc::STDOUT_FILENO;
 use plane::Config;
 use plane::SubConfig;

@@ -393,7 +393,7 @@ table =
     [])
     (upTo 10 ++ (0 ∷ 1 ∷ 3 ∷ 5 ∷ 0 ∷ 0 ∷ 99 ∷ 99 ∷ 99 ∷ 99 ∷ [])) ∷
     -- ---- stretches of a move, by either engine: elements are numbered in destination order, the last coordinate fastest
-    -- four elements of the same from number 3 on, 5 0 0 6: they begin in mid-row and stop in the next one's
+    -- four elements of the same from number 3 on, 5 0 0 6: they begin in mid-row and stop in the middle of the next
     besides shows stretch thinTransfer 3 4 (upTo 10 ++ over 10)
     (record { status = 0; dim = 0; count = 4 }) (upTo 10 ++ (99 ∷ 99 ∷ 99 ∷ 5 ∷ 0 ∷ 0 ∷ 6 ∷ 99 ∷ 99 ∷ 99 ∷ [])) ∷
     -- a budget above what is left from number 7 on: 8 10 0
