@@ -104,18 +104,20 @@ placeTerm t c i x = (at (c .«dst_offset») i + x) * at (dstStrides t c) i
 
 -- a row past the first i dimensions of an accepted move of t from the bytes at p to those at r
 pub record RowOf (t : Tensor) (p r i : ℕ) (w : Row) : Type 0 where
+  -- the move is accepted, and the row carries its answer and the source's strides
   pub good-source : GoodSource t
   pub good-config : GoodConfig t (w .config)
   pub good-dst : GoodDst t (w .config)
   pub answer : w .room .answer ≡ accepted t (w .config)
   pub strides : w .source .stride ≡ srcStrides t
+  -- its number is that of a row; whether all is kept so far, and the places so far, are those of its coordinates
   pub within : w .number < product i (extentAt t (w .config))
   pub all-kept : w .kept ≡ every i (λ j. isKept t (w .config) j (coordTo t (w .config) i (w .number) j))
   pub at-source : w .kept ≡ true →
       w .at ≡ p + sum i (λ j. sourceTerm t (w .config) j (coordTo t (w .config) i (w .number) j)) * t .«element_size»
   pub at-place : w .place ≡ r + sum i (λ j. placeTerm t (w .config) j (coordTo t (w .config) i (w .number) j)) * t .«element_size»
 
--- what a step inward asks
+-- what a step inward asks: a row, a dimension that it has left, a coordinate of it, and that no place runs past 64 bits
 pub record Passable (w : Row) (i x : ℕ) : Type 0 where
   pub t : Tensor
   pub p : ℕ
@@ -133,6 +135,7 @@ pub record Stands (w : Row) (left : ℕ) (s d : List ℕ) : Type 0 where
   pub r : Part
   pub few : left ≤ t .rank
   pub row : RowOf t (p .start) (r .start) (t .rank - left) w
+  -- both parts lie where they should, apart, and are long enough
   pub source : p .start + p .length ≤ length (sourceIn s d)
   pub destination : r .start + r .length ≤ length d
   pub apart : ApartIn s (p .start) (p .start + p .length) (r .start) (r .start + r .length)
