@@ -1,7 +1,7 @@
 //! What a long comparison has to meet: each call with everything that it can give and with arguments of a wrong length,
 //! each state of a slot in each call that takes a table, each case of an element size, of a count, of a destination
-//! offset, of a list, of elements that are moved, of a fill and of a record, each reason for which a line is no call, and
-//! each case of `rmvshow` and `rmvlist`.
+//! offset, of a list, of elements that are moved, of a fill and of a record, each two numbers for one call, each reason
+//! for which a line is no call, and each case of `rmvshow` and `rmvlist`.
 
 use crate::calls::{Call, Calls, Gives};
 use crate::count_cases;
@@ -10,6 +10,7 @@ use crate::lines::{unhex, NO_CALL, NO_DIGITS, NO_NEWLINE, TOO_LONG, WRONG_LENGTH
 use crate::list_cases;
 use crate::offset_cases;
 use crate::record_cases;
+use crate::refusal_cases;
 use crate::show;
 use crate::show_list;
 use crate::size_cases;
@@ -167,6 +168,7 @@ fn cases_told_apart(call: &Call) -> Vec<String> {
         stretch_cases::cases,
         fill_cases::cases,
         record_cases::cases,
+        refusal_cases::cases,
     ];
     cases.iter().flat_map(|cases| cases(call.number)).collect()
 }
@@ -181,6 +183,7 @@ fn cases_met(bytes: &[u8], expected: &[u8]) -> Vec<String> {
         stretch_cases::met,
         fill_cases::met,
         record_cases::met,
+        refusal_cases::met,
     ];
     met.iter().flat_map(|met| met(bytes, expected)).collect()
 }

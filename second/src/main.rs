@@ -21,6 +21,7 @@ mod random;
 mod ready_made;
 mod record;
 mod record_cases;
+mod refusal_cases;
 mod report;
 mod show;
 mod show_list;

@@ -119,7 +119,7 @@ fn move_part(random: &mut Random, table: &mut Table, one: usize) {
 }
 
 /// The calls that take a table.
-const TABLE_CALLS: std::ops::RangeInclusive<u8> = 0x41..=0x45;
+pub const TABLE_CALLS: std::ops::RangeInclusive<u8> = 0x41..=0x45;
 
 /// Some of the calls that take a table, none of whose answers is kept.
 pub fn call_all(work: &mut Work, table: &Table, job: &Job, handle: u32, memory: &[u8]) {
@@ -130,7 +130,7 @@ pub fn call_all(work: &mut Work, table: &Table, job: &Job, handle: u32, memory: 
     }
 }
 
-fn call_one(work: &mut Work, number: u8, table: &Table, job: &Job, handle: u32, memory: &[u8]) {
+pub fn call_one(work: &mut Work, number: u8, table: &Table, job: &Job, handle: u32, memory: &[u8]) {
     let rest = Rest(memory.to_vec());
     let budget = any_u64(&mut work.random);
     match number {

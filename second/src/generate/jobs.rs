@@ -102,12 +102,12 @@ fn fill_memory(drawn: &Drawn) -> (Job, u64) {
     (Job { source, destination, tensor: drawn.tensor, config: drawn.config }, length)
 }
 
-fn prepare_job(work: &mut Work, job: Job, length: u64) {
+pub fn prepare_job(work: &mut Work, job: Job, length: u64) {
     let memory = work.random.bytes(length as usize);
     work.call(0x41, &(fresh(length).table, job, Rest(memory)));
 }
 
-fn advance_job(work: &mut Work, job: Job, length: u64) {
+pub fn advance_job(work: &mut Work, job: Job, length: u64) {
     let random = &mut work.random;
     let total = judge(length, &job).total;
     let from = match random.below(8) {

@@ -14,6 +14,7 @@ mod numbers;
 mod offsets;
 mod planes;
 mod records;
+mod refusals;
 mod shows;
 mod sizes;
 mod spoil;
@@ -138,9 +139,13 @@ pub fn calls(count: usize, seed: u64) -> Vec<u8> {
     input
 }
 
-/// What is drawn once in a run: lines of wrong lengths, the longest lines, the largest numbers, elements of each size,
-/// records and lists spoiled in every way, and fills where none may be.
+/// What is drawn once in a run: two numbers for one call, lines of wrong lengths, the longest lines, the largest numbers,
+/// elements of each size, records and lists spoiled in every way, and fills where none may be.
 fn once(work: &mut Work) {
+    refusals::every_wrap(work);
+    refusals::every_sub_tensor_pair(work);
+    refusals::every_job_pair(work);
+    refusals::every_table_pair(work);
     frames::wrong_lengths(work);
     frames::longest(work);
     moving::above_extent_limit(work);

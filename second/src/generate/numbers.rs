@@ -161,13 +161,15 @@ pub fn draw_sub_config(random: &mut Random, tensor: &Tensor) -> SubConfig {
 fn spoil_sub_config(random: &mut Random, tensor: &Tensor, config: &mut SubConfig) {
     let d = random.index(tensor.rank.clamp(1, 4) as usize);
     let left = tensor.shape[d].saturating_sub(config.offset[d]);
-    match random.below(12) {
+    match random.below(13) {
         0 => config.offset[d] = tensor.shape[d],
         1 => config.offset[d] = any_u32(random),
         2 => config.size[d] = 0,
         3 => config.size[d] = left.saturating_add(1),
         4 => config.size[d] = any_u32(random),
-        5..=7 => config.rank = random.pick(&[0, tensor.rank as u32 + 1, 255, 256, 257, 258, u32::MAX]),
+        // size + offset is 0 in 32 bits
+        5 => config.size[d] = 0u32.wrapping_sub(config.offset[d]),
+        6..=8 => config.rank = random.pick(&[0, 0, tensor.rank as u32 + 1, 255, 256, 257, 258, u32::MAX]),
         _ => config.rank = 1,
     }
 }

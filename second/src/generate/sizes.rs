@@ -54,7 +54,7 @@ fn judge_and_move(work: &mut Work, drawn: &Drawn) {
 }
 
 /// Each call that asks about a tensor record.
-fn ask_all(work: &mut Work, drawn: &Drawn) {
+pub fn ask_all(work: &mut Work, drawn: &Drawn) {
     let Drawn { tensor, config, source, .. } = *drawn;
     work.call(0x01, &tensor);
     work.call(0x02, &(tensor, config));

@@ -13,6 +13,7 @@ mod plain;
 mod readings;
 mod record_cases;
 mod records;
+mod refusal_cases;
 mod size_cases;
 mod sizes;
 mod stretches;
