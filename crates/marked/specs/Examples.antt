@@ -1,5 +1,6 @@
 -- The paper's marked examples A to L, as one table: an entry has the paper's letter, and says what is given and what comes out.
--- `AllRight` says when a table is right.
+-- `AllRight` says when a table is right. Where a comment says against `name`, that is a wrong reading by which the entry would
+-- come out otherwise: one of the faults that the comparison with the second program has to find.
 use Prim.Native.Nat.{ℕ, zero, suc}
 use mathlib.Core.Path.{_≡_}
 use mathlib.Core.List.{List, [], _∷_, _++_}
@@ -16,17 +17,20 @@ use Rattle.faults.specs.Faults.{fault}
 use Rattle.plane.specs.Moves.{refused, judgeOf, roomOf}
 use Rattle.ready_made.specs.ReadyMade.{defaults}
 use Rattle.plane.specs.Settings.{zeroConfig, withOffset, withSize, withStep, withDstOffset, withDstStride, withPerm, withPre, withPost, withFill}
-use Rattle.plane.specs.Helpers.{noCount, countOf, subTensorOf}
+use Rattle.plane.specs.Helpers.{noCount, countOf, noSub, subTensorOf}
 use Rattle.mover.specs.declared.Job.{Job}
 use Rattle.mover.specs.declared.Advanced.{Advanced}
 use Rattle.mover.specs.Moved.{moveMemory}
 use Rattle.mover.specs.Within.{advanceOf, advanceMemory}
 use Rattle.mover.specs.SubPart.{subPart}
-use Rattle.record.specs.Records.{noReading, reading}
+use Rattle.record.specs.declared.Reading.{Reading}
+use Rattle.record.specs.Records.{noReading, reading, readOf}
 use Rattle.list.specs.declared.Numbered.{Numbered}
 use Rattle.list.specs.declared.Appended.{Appended}
 use Rattle.list.specs.Lists.{listFault, recordCount, noRecord, recordAt, placeAfter}
 use Rattle.list.specs.Writers.{startFault, startedBuffer, noAppend, appendOf, appendedBuffer}
+use Rattle.transfers.specs.declared.Table.{Table}
+use Rattle.transfers.specs.Slots.{zeroJob, freshTable, withSlot}
 use Rattle.transfers.specs.Calls.{prepareOf, startOf, stepOf, releaseOf, pollOf, pollNumbers}
 use Rattle.transfers.specs.Demand3.{Call, prepare, start, step, release, poll, World, begin, after}
 
@@ -46,10 +50,14 @@ pub data Example : Type 0 where
   sub : Tensor → SubConfig → List ℕ → SubTensor → List ℕ → Example
   -- memory before, calls on a fresh table for it; memory after
   transfers : List ℕ → List Asked → List ℕ → Example
+  -- any table, memory before, calls on that table; memory after
+  handed-in : Table → List ℕ → List Asked → List ℕ → Example
   -- tensor, configuration; what a room question answers
   room : Tensor → Config → RoomAnswer → Example
   -- tensor, start dimension; the element count
   count : Tensor → ℕ → Count → Example
+  -- a record's bytes; what is read
+  read : List ℕ → Reading → Example
   -- a list's bytes; status and how many records, and then what calls of a reader answer, one after another
   list : List ℕ → ℕ → ℕ → List Numbered → Example
   -- a buffer; status, the buffer after a list is started in it
@@ -77,6 +85,7 @@ pub data Outcome : Type 0 where
   of-calls : List (List ℕ) → Outcome
   of-room : RoomAnswer → Outcome
   of-count : Count → Outcome
+  of-read : Reading → Outcome
   of-list : ℕ → ℕ → List Numbered → Outcome
   of-start : ℕ → List ℕ → Outcome
   of-append : Appended → List ℕ → Outcome
@@ -109,8 +118,10 @@ given (move t c source over a out) = of-move (judgeOf t c (length source) (lengt
 given (stretch j from budget m a out) = of-stretch (advanceOf j from budget m) (advanceMemory j from budget m)
 given (sub t s source a part) = of-sub (subTensorOf t s (length source)) (subPart t s source)
 given (transfers m cs out) = of-calls (replies cs (begin (length m) m))
+given (handed-in t m cs out) = of-calls (replies cs (record { table = t; memory = m; log = [] }))
 given (room t c a) = of-room (roomOf t c)
 given (count t from a) = of-count (countOf t from)
+given (read bs a) = of-read (readOf bs)
 given (list bs status n rs) = of-list (listFault bs .status) (recordCount bs) (handed bs 0 (length rs))
 given (begins buffer status out) = of-start (startFault buffer .status) (startedBuffer buffer)
 given (append buffer n t c a out) = of-append (appendOf buffer n t c) (appendedBuffer buffer n t c)
@@ -120,8 +131,10 @@ said (move t c source over a out) = of-move a out
 said (stretch j from budget m a out) = of-stretch a out
 said (sub t s source a part) = of-sub a part
 said (transfers m cs out) = of-calls (expected cs out)
+said (handed-in t m cs out) = of-calls (expected cs out)
 said (room t c a) = of-room a
 said (count t from a) = of-count a
+said (read bs a) = of-read a
 said (list bs status n rs) = of-list status n rs
 said (begins buffer status out) = of-start status out
 said (append buffer n t c a out) = of-append a out
@@ -207,6 +220,19 @@ pixelTransfer = record {
   config = defaults;
 }
 
+-- two bytes from byte 0 on into nine from byte 1 on, which no memory below ten bytes has; and the rank is 0
+abbrev pub leavingTransfer : Job
+leavingTransfer = record {
+  source = record { start = 0; length = 2 };
+  destination = record { start = 1; length = 9 };
+  tensor = compact 0 1 (one 2);
+  config = defaults;
+}
+
+-- a table for n bytes that is not sound: there is no state 4
+abbrev pub unsound : ℕ → Table
+unsound n = withSlot (freshTable n) 0 (record { state = 4; job = zeroJob; moved = 0 })
+
 -- the bytes 1..n
 abbrev pub upTo : ℕ → List ℕ
 upTo zero = []
@@ -231,6 +257,10 @@ turnRecord =
 -- the same with 2 for its version
 abbrev pub versionTwo : List ℕ
 versionTwo = set turnRecord 3 2
+
+-- A's record with a fill of 128: version 2, and the four bytes of the fill behind
+abbrev pub filledRecord : List ℕ
+filledRecord = versionTwo ++ (128 ∷ 0 ∷ 0 ∷ 0 ∷ [])
 
 -- A's record as it is handed out under number k
 abbrev pub turnNumbered : ℕ → Numbered
@@ -260,7 +290,7 @@ table =
     -- (3,4) 1..12, offset (1,1), size (2,2): 6 7 10 11
     B shows move (compact 2 1 (two 3 4)) (withSize (withOffset defaults (two 1 1)) (two 2 2)) (upTo 12) (over 4)
     (acceptedMove 2 1 (2 ∷ 2 ∷ 0 ∷ 0 ∷ []) (2 ∷ 1 ∷ 0 ∷ 0 ∷ []) 4) (6 ∷ 7 ∷ 10 ∷ 11 ∷ []) ∷
-    -- (7) 1..7, step 3: 1 4 7. Size 6: 1 4. Step 9: 1
+    -- (7) 1..7, step 3: 1 4 7. Size 6: 1 4. Step 9: 1. Against `count_rounded_down`
     C shows move (compact 1 1 (one 7)) (withStep defaults (one 3)) (upTo 7) (over 3)
     (acceptedMove 1 1 (3 ∷ 0 ∷ 0 ∷ 0 ∷ []) (1 ∷ 0 ∷ 0 ∷ 0 ∷ []) 3) (1 ∷ 4 ∷ 7 ∷ []) ∷
     C shows move (compact 1 1 (one 7)) (withSize (withStep defaults (one 3)) (one 6)) (upTo 7) (over 2)
@@ -273,12 +303,13 @@ table =
     -- (1,2) 8 9, destination offset (1,0), strides (2,1), over 1 1 1 1: 1 1 8 9
     E shows move (compact 2 1 (two 1 2)) (withDstStride (withDstOffset defaults (two 1 0)) (two 2 1)) (8 ∷ 9 ∷ []) (1 ∷ 1 ∷ 1 ∷ 1 ∷ [])
     (acceptedMove 2 1 (1 ∷ 2 ∷ 0 ∷ 0 ∷ []) (2 ∷ 1 ∷ 0 ∷ 0 ∷ []) 4) (1 ∷ 1 ∷ 8 ∷ 9 ∷ []) ∷
-    -- (2,2) 1..4, destination strides (3,1), over five 7s: 1 2 7 3 4. Over four: 13, and nothing changes
+    -- (2,2) 1..4, destination strides (3,1), over five 7s: 1 2 7 3 4. Over four: 13, and nothing changes. Against
+    -- `gaps_zeroed`
     F shows move (compact 2 1 (two 2 2)) (withDstStride defaults (two 3 1)) (upTo 4) (7 ∷ 7 ∷ 7 ∷ 7 ∷ 7 ∷ [])
     (acceptedMove 2 1 (2 ∷ 2 ∷ 0 ∷ 0 ∷ []) (3 ∷ 1 ∷ 0 ∷ 0 ∷ []) 5) (1 ∷ 2 ∷ 7 ∷ 3 ∷ 4 ∷ []) ∷
     F shows move (compact 2 1 (two 2 2)) (withDstStride defaults (two 3 1)) (upTo 4) (7 ∷ 7 ∷ 7 ∷ 7 ∷ [])
     (refused (fault 13 0)) (7 ∷ 7 ∷ 7 ∷ 7 ∷ []) ∷
-    -- (1,2) 5 6, pre (1,0), perm (1,0): 0 5 0 6
+    -- (1,2) 5 6, pre (1,0), perm (1,0): 0 5 0 6. Against `padding_by_destination`
     G shows move (compact 2 1 (two 1 2)) (withPerm (withPre defaults (two 1 0)) (two 1 0)) (5 ∷ 6 ∷ []) (over 4)
     (acceptedMove 2 1 (2 ∷ 2 ∷ 0 ∷ 0 ∷ []) (2 ∷ 1 ∷ 0 ∷ 0 ∷ []) 4) (0 ∷ 5 ∷ 0 ∷ 6 ∷ []) ∷
     -- (3,4) 1..12, offset (0,1), steps (2,2), perm (1,0): 2 10 4 12
@@ -296,7 +327,8 @@ table =
     K shows sub (compact 2 1 (two 3 4)) (cut (two 1 2) (two 1 2) 1) (upTo 12)
     (acceptedSub 1 1 (2 ∷ 0 ∷ 0 ∷ 0 ∷ []) (1 ∷ 0 ∷ 0 ∷ 0 ∷ []) 6) (7 ∷ 8 ∷ 9 ∷ 10 ∷ 11 ∷ 12 ∷ []) ∷
     -- memory 1 2 3 4 0 0 0 0; two transfers of (2), bytes 0..1 to 4..5 and 2..3 to 6..7; steps of 1 alternating, second first:
-    -- 1 2 3 4 1 2 3 4. A third of (1) from byte 2 into byte 0, before either is released: 22
+    -- 1 2 3 4 1 2 3 4. A third of (1) from byte 2 into byte 0, before either is released: 22. Both are done by then and not running.
+    -- Against `rule_for_running_slots_only`. The bytes go from source to destination. Against `prepare_exchanges_the_parts`
     L shows transfers (1 ∷ 2 ∷ 3 ∷ 4 ∷ 0 ∷ 0 ∷ 0 ∷ 0 ∷ [])
     (prepare (transfer 2 0 4) answers (0 ∷ 0 ∷ 0 ∷ []) ∷
     prepare (transfer 2 2 6) answers (0 ∷ 0 ∷ 1 ∷ []) ∷
@@ -312,7 +344,8 @@ table =
     [])
     (1 ∷ 2 ∷ 3 ∷ 4 ∷ 1 ∷ 2 ∷ 3 ∷ 4 ∷ []) ∷
     -- ---- not of A to L: what the paper only runs, and its easy errors
-    -- (2,4,8) with perm (2,0,1) becomes (8,2,4), and (2,2,3) becomes (3,2,2): read the other way round, (4,8,2) and (2,3,2)
+    -- (2,4,8) with perm (2,0,1) becomes (8,2,4), and (2,2,3) becomes (3,2,2): read the other way round, (4,8,2) and (2,3,2). Against
+    -- `perm_the_other_way`
     besides shows room (compact 3 1 (three 2 4 8)) (withPerm defaults (three 2 0 1))
     (record { answer = acceptedMove 3 1 (8 ∷ 2 ∷ 4 ∷ 0 ∷ []) (8 ∷ 4 ∷ 1 ∷ 0 ∷ []) 64; span = 64 }) ∷
     besides shows move (compact 3 1 (three 2 2 3)) (withPerm defaults (three 2 0 1)) (upTo 12) (over 12)
@@ -321,7 +354,7 @@ table =
     besides shows count (compact 3 1 (three 2 4 8)) 1 (record { status = 0; dim = 0; count = 32 }) ∷
     besides shows count (compact 3 1 (three 2 4 8)) 3 (noCount (fault 16 0)) ∷
     -- the most that a count can be is that of four shapes of 65,535, from 0; from 1 it is 65,535 to the third. Four shapes of 65,536
-    -- would make 2^64, which 64 bits do not hold, but they are 3 at dimension 0; and 3 comes before 16
+    -- would make 2^64, which 64 bits do not hold, but they are 3 at dimension 0; and 3 comes before 16. Against `count_in_32_bits`
     besides shows count (compact 4 1 (alike 65535)) 0 (record { status = 0; dim = 0; count = 18445618199572250625 }) ∷
     besides shows count (compact 4 1 (alike 65535)) 1 (record { status = 0; dim = 0; count = 281462092005375 }) ∷
     besides shows count (compact 4 1 (alike 65536)) 0 (noCount (fault 3 0)) ∷
@@ -331,10 +364,18 @@ table =
     (record { answer = acceptedMove 1 1 (65535 ∷ 0 ∷ 0 ∷ 0 ∷ []) (1 ∷ 0 ∷ 0 ∷ 0 ∷ []) 65535; span = 65535 }) ∷
     besides shows room (compact 1 1 (one 65535)) (withPre (withSize defaults (one 65281)) (one 255))
     (record { answer = refused (fault 10 0); span = 0 }) ∷
+    -- size 4,294,967,295 at offset 1: 32 bits would make the sum 0. It is 8 at dimension 0, of a move and of a sub-tensor. Against
+    -- `size_and_offset_in_32_bits`, `sub_tensor_size_and_offset_in_32_bits`
+    besides shows room (compact 1 1 (one 4)) (withSize (withOffset defaults (one 1)) (one 4294967295))
+    (record { answer = refused (fault 8 0); span = 0 }) ∷
+    besides shows sub (compact 1 1 (one 4)) (cut (one 1) (one 4294967295) 1) (upTo 4) (noSub (fault 8 0)) [] ∷
+    -- a sub-tensor of rank 0, with no unit dimension to remove: 14 comes before 15. Against `units_before_the_rank`
+    besides shows sub (compact 2 1 (two 3 4)) (cut (two 1 1) (two 2 2) 0) (upTo 12) (noSub (fault 14 0)) [] ∷
     -- (1,2) with strides (0, 2147483647): what 0 stands for is itself too large, 4 at dimension 0
     besides shows room (record { rank = 2; «element_size» = 1; shape = two 1 2; stride = two 0 2147483647 }) defaults
     (record { answer = refused (fault 4 0); span = 0 }) ∷
-    -- a sub-tensor of (3,4) keeps the resolved stride 4 of the whole plane: 0 would be resolved again, from its own shape, to 2
+    -- a sub-tensor of (3,4) keeps the resolved stride 4 of the whole plane: 0 would be resolved again, from its own shape, to 2. Against
+    -- `zero_stride_in_sub_tensor`
     besides shows sub (compact 2 1 (two 3 4)) (cut (two 1 1) (two 2 2) 2) (upTo 12)
     (acceptedSub 2 1 (2 ∷ 2 ∷ 0 ∷ 0 ∷ []) (4 ∷ 1 ∷ 0 ∷ 0 ∷ []) 5) (6 ∷ 7 ∷ 8 ∷ 9 ∷ 10 ∷ 11 ∷ 12 ∷ []) ∷
     -- ---- planes joined, and what 12 refuses
@@ -360,7 +401,7 @@ table =
     (record { answer = acceptedMove 1 1 (1 ∷ 0 ∷ 0 ∷ 0 ∷ []) (1 ∷ 0 ∷ 0 ∷ 0 ∷ []) 65536; span = 1 }) ∷
     besides shows room (compact 1 1 (one 1)) (withDstOffset defaults (one 65536))
     (record { answer = refused (fault 12 0); span = 0 }) ∷
-    -- so (1,2) 8 9 goes to row 3 of rows of two
+    -- so (1,2) 8 9 goes to row 3 of rows of two. Against `first_offset_below_its_stride`
     besides shows move (compact 2 1 (two 1 2)) (withDstStride (withDstOffset defaults (two 3 0)) (two 2 1)) (8 ∷ 9 ∷ []) (over 8)
     (acceptedMove 2 1 (1 ∷ 2 ∷ 0 ∷ 0 ∷ []) (2 ∷ 1 ∷ 0 ∷ 0 ∷ []) 8) (99 ∷ 99 ∷ 99 ∷ 99 ∷ 99 ∷ 99 ∷ 8 ∷ 9 ∷ []) ∷
     -- (2,2) at offset (0,1) by strides (4,2): 1 is below the stride 2, but (1 + 2) x 2 is above 4, and the first row would end in the second
@@ -372,7 +413,8 @@ table =
     -- (3 + 1) x 1,073,741,824 is 2 to the 32: 32 bits would make it 0
     besides shows room (compact 2 1 (two 1 1)) (withDstStride (withDstOffset defaults (two 0 3)) (two 2147483647 1073741824))
     (record { answer = refused (fault 12 1); span = 0 }) ∷
-    -- dimension 1 runs past its row, dimension 2 has too large an offset: the lowest is named, whichever case it is
+    -- dimension 1 runs past its row, dimension 2 has too large an offset: the lowest is named, whichever case it is. Against
+    -- `destination_offset_names_the_highest`
     besides shows room (compact 3 1 (three 2 2 2)) (withDstOffset defaults (three 0 1 65536))
     (record { answer = refused (fault 12 1); span = 0 }) ∷
     -- and the other way round
@@ -393,7 +435,8 @@ table =
     [])
     (upTo 10 ++ (0 ∷ 1 ∷ 3 ∷ 5 ∷ 0 ∷ 0 ∷ 99 ∷ 99 ∷ 99 ∷ 99 ∷ [])) ∷
     -- ---- stretches of a move, by either engine: elements are numbered in destination order, the last coordinate fastest
-    -- four elements of the same from number 3 on, 5 0 0 6: they begin in mid-row and stop in the middle of the next
+    -- four elements of the same from number 3 on, 5 0 0 6: they begin in mid-row and stop in the middle of the next. Against
+    -- `first_coordinate_fastest`, `plain_last_dimension_first`, `begins_with_its_row`, `budget_to_the_row_end`
     besides shows stretch thinTransfer 3 4 (upTo 10 ++ over 10)
     (record { status = 0; dim = 0; count = 4 }) (upTo 10 ++ (99 ∷ 99 ∷ 99 ∷ 5 ∷ 0 ∷ 0 ∷ 6 ∷ 99 ∷ 99 ∷ 99 ∷ [])) ∷
     -- a budget above what is left from number 7 on: 8 10 0
@@ -405,6 +448,23 @@ table =
     -- past the last of its six: none; in a memory that its destination leaves: 20, and nothing changes
     besides shows stretch paddedTransfer 6 1 (5 ∷ 6 ∷ over 6) (record { status = 0; dim = 0; count = 0 }) (5 ∷ 6 ∷ over 6) ∷
     besides shows stretch paddedTransfer 0 1 (5 ∷ 6 ∷ over 5) (record { status = 20; dim = 0; count = 0 }) (5 ∷ 6 ∷ over 5) ∷
+    -- a destination outside of the memory, of a plane of rank 0: 20 comes before 1. Against `leaving_part_after_the_move`
+    besides shows stretch leavingTransfer 0 1 (over 9) (record { status = 20; dim = 0; count = 0 }) (over 9) ∷
+    -- ---- transfers that are refused
+    -- (2) from bytes 1..2 into 2..3, while another has byte 2 for its destination: 21 comes before 22. Against
+    -- `other_slots_before_own_parts`. From bytes 0..1 into 2..3: 22, and the table is the one given, with one of (1) prepared in slot 0.
+    -- Against `refused_prepare_gives_a_fresh_table`
+    besides shows transfers (over 4)
+    (prepare (transfer 1 0 2) answers (0 ∷ 0 ∷ 0 ∷ []) ∷
+    prepare (transfer 2 1 2) answers (21 ∷ 0 ∷ 0 ∷ []) ∷
+    prepare (transfer 2 0 2) answers (22 ∷ 0 ∷ 0 ∷ []) ∷
+    poll 0 answers (0 ∷ 1 ∷ 1 ∷ []) ∷
+    [])
+    (over 4) ∷
+    -- a table that is not sound: 18 over a memory of its length, and 17 over another, which comes first. Against
+    -- `soundness_before_the_length`
+    besides shows handed-in (unsound 4) (over 4) (start 0 answers (18 ∷ []) ∷ []) (over 4) ∷
+    besides shows handed-in (unsound 4) (over 5) (start 0 answers (17 ∷ []) ∷ []) (over 5) ∷
     -- ---- padding that isn't black. 67,305,985 is 4 x 2^24 + 3 x 2^16 + 2 x 2^8 + 1, so its bytes are 1 2 3 4, the lowest first
     -- D with fill 128: 128 128 128 5 6 128
     besides shows move (compact 2 1 (two 1 2)) (withFill (withPost (withPre defaults (two 1 0)) (two 0 1)) 128) (5 ∷ 6 ∷ []) (over 6)
@@ -466,10 +526,19 @@ table =
     -- the next above 4, and 0: J's shape with either is 2, which comes before 3
     besides shows room (compact 2 5 (two 0 70000)) defaults (record { answer = refused (fault 2 0); span = 0 }) ∷
     besides shows room (compact 2 0 (two 0 70000)) defaults (record { answer = refused (fault 2 0); span = 0 }) ∷
+    -- ---- records of version 2: 135 bytes, of which the last four are the fill
+    -- element size 5 and an entry past the rank: 2 comes before 28. Against `version_2_asks_the_size_last`
+    besides shows read (set (set filledRecord 6 5) 130 7) (noReading (fault 2 0)) ∷
+    -- the last post entry and a fill of 0: 28 names dimension 3, and the fill's, at dimension 0, comes behind it. Against
+    -- `version_2_asks_the_fill_before_entries`
+    besides shows read (set (set filledRecord 131 0) 130 7) (noReading (fault 28 3)) ∷
+    -- version 1 in 135 bytes: 27. Against `version_1_in_135_bytes`
+    besides shows read (set filledRecord 3 1) (noReading (fault 27 0)) ∷
     -- ---- lists
     -- a list of no records; past the last it is 39, and 39 again
     besides shows list (headOf 0) 0 0 (noRecord ∷ noRecord ∷ []) ∷
-    -- three records, the second all zeros, so without its mark: it has its number and 26, and the third is still read
+    -- three records, the second all zeros, so without its mark: it has its number and 26, and the third is still read. Against
+    -- `bad_record_ends_the_list`, `record_numbers_from_one`, `reader_stays_at_its_record`, `number_past_the_last`
     besides shows list (headOf 3 ++ turnRecord ++ replicate 131 0 ++ turnRecord) 0 3
     (turnNumbered 0 ∷ record { number = 1; reading = noReading (fault 26 0) } ∷ turnNumbered 2 ∷ noRecord ∷ noRecord ∷ []) ∷
     -- a record whose version says 2: it has 131 bytes, which are not that version's length, so it is 27
@@ -481,13 +550,13 @@ table =
     besides shows list (82 ∷ 77 ∷ 76 ∷ 1 ∷ 0 ∷ 0 ∷ []) 25 0 (noRecord ∷ []) ∷
     besides shows list turnRecord 26 0 (noRecord ∷ []) ∷
     besides shows list (82 ∷ 77 ∷ 76 ∷ 1 ∷ 1 ∷ 0 ∷ 0 ∷ []) 27 0 (noRecord ∷ []) ∷
-    -- started in nine bytes the last two stay; in six: 38, and nothing changes
+    -- started in nine bytes the last two stay; in six: 38, and nothing changes. Against `start_clears_what_is_behind`
     besides shows begins (over 9) 0 (headOf 0 ++ (99 ∷ 99 ∷ [])) ∷
     besides shows begins (over 6) 38 (over 6) ∷
     -- A's move behind no record, in a buffer with one byte more than it takes: 138 bytes, and that byte stays
     besides shows append (headOf 0 ++ over 132) 7 turnTensor turnConfig
     (record { status = 0; dim = 0; length = 138 }) (headOf 1 ++ turnRecord ++ (99 ∷ [])) ∷
-    -- a byte too few: 38; a list said to be longer than the buffer: 25
+    -- a byte too few: 38; a list said to be longer than the buffer: 25. Against `list_past_its_buffer_has_no_room`
     besides shows append (headOf 0 ++ over 130) 7 turnTensor turnConfig (noAppend (fault 38 0)) (headOf 0 ++ over 130) ∷
     besides shows append (headOf 0 ++ over 131) 139 turnTensor turnConfig (noAppend (fault 25 0)) (headOf 0 ++ over 131) ∷
     -- an entry past the rank: 28 names dimension 3, and nothing changes; a bad record before it does not matter
