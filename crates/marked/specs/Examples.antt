@@ -1,6 +1,6 @@
 -- The paper's marked examples A to L, as one table: an entry has the paper's letter, and says what is given and what comes out.
--- `AllRight` says when a table is right. Where a comment says against `name`, that is a wrong reading by which the entry would
--- come out otherwise: one of the faults that the comparison with the second program has to find.
+-- `AllRight` says when a table is right. Where a comment says against `name`, that is a wrong reading by which an entry below it
+-- would come out otherwise: one of the faults that the comparison with the second program has to find.
 use Prim.Native.Nat.{ℕ, zero, suc}
 use mathlib.Core.Path.{_≡_}
 use mathlib.Core.List.{List, [], _∷_, _++_}
@@ -448,7 +448,7 @@ table =
     -- past the last of its six: none; in a memory that its destination leaves: 20, and nothing changes
     besides shows stretch paddedTransfer 6 1 (5 ∷ 6 ∷ over 6) (record { status = 0; dim = 0; count = 0 }) (5 ∷ 6 ∷ over 6) ∷
     besides shows stretch paddedTransfer 0 1 (5 ∷ 6 ∷ over 5) (record { status = 20; dim = 0; count = 0 }) (5 ∷ 6 ∷ over 5) ∷
-    -- a destination outside of the memory, of a plane of rank 0: 20 comes before 1. Against `leaving_part_after_the_move`
+    -- a destination that leaves the memory, of a plane of rank 0: 20 comes before 1. Against `leaving_part_after_the_move`
     besides shows stretch leavingTransfer 0 1 (over 9) (record { status = 20; dim = 0; count = 0 }) (over 9) ∷
     -- ---- transfers that are refused
     -- (2) from bytes 1..2 into 2..3, while another has byte 2 for its destination: 21 comes before 22. Against
