@@ -439,7 +439,7 @@ table =
     -- `first_coordinate_fastest`, `plain_last_dimension_first`, `begins_with_its_row`, `budget_to_the_row_end`
     besides shows stretch thinTransfer 3 4 (upTo 10 ++ over 10)
     (record { status = 0; dim = 0; count = 4 }) (upTo 10 ++ (99 ∷ 99 ∷ 99 ∷ 5 ∷ 0 ∷ 0 ∷ 6 ∷ 99 ∷ 99 ∷ 99 ∷ [])) ∷
-    -- a budget above what is left from number 7 on: 8 10 0
+    -- a budget above what is left from number 7 on: 8 10 0, and three are reported. Against `stretch_reports_its_budget`
     besides shows stretch thinTransfer 7 100 (upTo 10 ++ over 10)
     (record { status = 0; dim = 0; count = 3 }) (upTo 10 ++ over 7 ++ (8 ∷ 10 ∷ 0 ∷ [])) ∷
     -- three of D, whose first row is padding: the last of that row and the two kept elements of the next, 0 5 6
