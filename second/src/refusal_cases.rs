@@ -112,8 +112,8 @@ fn of_prepare((table, job): (Table, Job), status: u8) -> Vec<Case> {
 
 /// "Start, step, release: 17, 18, 23, 24." Where 23 applies, 24 always does.
 fn of_turn((table, handle): (Table, u32), status: u8) -> Vec<Case> {
-    let is_no_transfer = table.slot.get(handle as usize).is_none_or(|slot| slot.state == FREE);
-    vec![case(status == 17 && !sound(&table), "17 and 18"), case(status == 18 && is_no_transfer, "18 and 23")]
+    let is_transfer = table.slot.get(handle as usize).is_some_and(|slot| slot.state != FREE);
+    vec![case(status == 17 && !sound(&table), "17 and 18"), case(status == 18 && !is_transfer, "18 and 23")]
 }
 
 /// "Poll: 18; a handle above 3 gives 23."
