@@ -27,10 +27,10 @@ programs: kit
 kit:
 	@command -v rt >/dev/null 2>&1 || { \
 	  echo "The Rattle kit is missing: there is no command 'rt' on the PATH."; \
-	  echo "README.md, \"What a machine needs\", says which kit this repository is checked with."; \
+	  echo "README.md, \"What a machine needs\", says which kits this repository is checked with."; \
 	  exit 1; }
 	@grep -qxF "    $$(rt version)" README.md || \
-	  echo "This is not the kit that README.md names, and results may differ: it is '$$(rt version)'."
+	  echo "The repository is checked with other kits, and results may differ: this is '$$(rt version)'. README.md names them."
 
 cargo:
 	@command -v cargo >/dev/null 2>&1 || { echo "Rust is missing: there is no command 'cargo' on the PATH."; exit 1; }

@@ -297,7 +297,7 @@ table =
     (acceptedMove 1 1 (2 ∷ 0 ∷ 0 ∷ 0 ∷ []) (1 ∷ 0 ∷ 0 ∷ 0 ∷ []) 2) (1 ∷ 4 ∷ []) ∷
     C shows move (compact 1 1 (one 7)) (withStep defaults (one 9)) (upTo 7) (over 1)
     (acceptedMove 1 1 (1 ∷ 0 ∷ 0 ∷ 0 ∷ []) (1 ∷ 0 ∷ 0 ∷ 0 ∷ []) 1) (1 ∷ []) ∷
-    -- (1,2) 5 6, pre (1,0), post (0,1): 0 0 0 5 6 0
+    -- (1,2) 5 6, pre (1,0), post (0,1): 0 0 0 5 6 0. Against `plain_forgets_outer_padding`
     D shows move (compact 2 1 (two 1 2)) (withPost (withPre defaults (two 1 0)) (two 0 1)) (5 ∷ 6 ∷ []) (over 6)
     (acceptedMove 2 1 (2 ∷ 3 ∷ 0 ∷ 0 ∷ []) (3 ∷ 1 ∷ 0 ∷ 0 ∷ []) 6) (0 ∷ 0 ∷ 0 ∷ 5 ∷ 6 ∷ 0 ∷ []) ∷
     -- (1,2) 8 9, destination offset (1,0), strides (2,1), over 1 1 1 1: 1 1 8 9
@@ -350,7 +350,7 @@ table =
     (record { answer = acceptedMove 3 1 (8 ∷ 2 ∷ 4 ∷ 0 ∷ []) (8 ∷ 4 ∷ 1 ∷ 0 ∷ []) 64; span = 64 }) ∷
     besides shows move (compact 3 1 (three 2 2 3)) (withPerm defaults (three 2 0 1)) (upTo 12) (over 12)
     (acceptedMove 3 1 (3 ∷ 2 ∷ 2 ∷ 0 ∷ []) (4 ∷ 2 ∷ 1 ∷ 0 ∷ []) 12) (1 ∷ 4 ∷ 7 ∷ 10 ∷ 2 ∷ 5 ∷ 8 ∷ 11 ∷ 3 ∷ 6 ∷ 9 ∷ 12 ∷ []) ∷
-    -- the count of (2,4,8) from 1 is 32; from 3: 16
+    -- the count of (2,4,8) from 1 is 32; from 3: 16. Against `count_from_the_rank`
     besides shows count (compact 3 1 (three 2 4 8)) 1 (record { status = 0; dim = 0; count = 32 }) ∷
     besides shows count (compact 3 1 (three 2 4 8)) 3 (noCount (fault 16 0)) ∷
     -- the most that a count can be is that of four shapes of 65,535, from 0; from 1 it is 65,535 to the third. Four shapes of 65,536
@@ -505,7 +505,8 @@ table =
     -- one pixel, one before it and one after, into a byte more than they need: the fourth byte of the fill goes nowhere
     besides shows move (compact 1 3 (one 1)) (withFill (withPost (withPre defaults (one 1)) (one 1)) 67305985) (9 ∷ 8 ∷ 7 ∷ []) (over 10)
     (acceptedMove 1 3 (3 ∷ 0 ∷ 0 ∷ 0 ∷ []) (1 ∷ 0 ∷ 0 ∷ 0 ∷ []) 9) (1 ∷ 2 ∷ 3 ∷ 9 ∷ 8 ∷ 7 ∷ 1 ∷ 2 ∷ 3 ∷ 99 ∷ []) ∷
-    -- (2,1), bytes 1..6, by strides (2,1): a gap of a pixel stays, and nine bytes are enough. Into eight: 13. From five: 5
+    -- (2,1), bytes 1..6, by strides (2,1): a gap of a pixel stays, and nine bytes are enough. Into eight: 13. From five: 5. Against
+    -- `span_rounds_three_bytes_up`, `need_rounds_three_bytes_up`
     besides shows move (compact 2 3 (two 2 1)) (withDstStride defaults (two 2 1)) (upTo 6) (over 9)
     (acceptedMove 2 3 (2 ∷ 1 ∷ 0 ∷ 0 ∷ []) (2 ∷ 1 ∷ 0 ∷ 0 ∷ []) 9) (1 ∷ 2 ∷ 3 ∷ 99 ∷ 99 ∷ 99 ∷ 4 ∷ 5 ∷ 6 ∷ []) ∷
     besides shows move (compact 2 3 (two 2 1)) (withDstStride defaults (two 2 1)) (upTo 6) (over 8)
@@ -543,7 +544,7 @@ table =
     (turnNumbered 0 ∷ record { number = 1; reading = noReading (fault 26 0) } ∷ turnNumbered 2 ∷ noRecord ∷ noRecord ∷ []) ∷
     -- a record whose version says 2: it has 131 bytes, which are not that version's length, so it is 27
     besides shows list (headOf 1 ++ versionTwo) 0 1 (record { number = 0; reading = noReading (fault 27 0) } ∷ []) ∷
-    -- a count that the bytes do not have, one more and one less: 30, and no records
+    -- a count that the bytes do not have, one more and one less: 30, and no records. Against `bytes_behind_a_list`
     besides shows list (headOf 2 ++ turnRecord) 30 0 (noRecord ∷ []) ∷
     besides shows list (headOf 0 ++ turnRecord) 30 0 (noRecord ∷ []) ∷
     -- six bytes: 25; a record in a list's place: 26; version 257, whose low byte is 1: 27
