@@ -16,6 +16,7 @@ use crate::show_list;
 use crate::size_cases;
 use crate::stretch_cases;
 use crate::transfers::{DONE, FREE, PREPARED, RUNNING};
+use crate::wire::begin;
 
 /// The reasons behind `ff`; ff04 is counted with the call that the line names.
 const REASONS: [&str; 6] = [
@@ -199,6 +200,15 @@ pub fn case(holds: bool, name: &str) -> Case {
 /// What is counted, if it holds.
 pub fn holding<S: ToString>(all: &[Case<S>]) -> Vec<String> {
     all.iter().filter(|(holds, _)| *holds).map(|(_, case)| case.to_string()).collect()
+}
+
+/// What is counted of a call with these bytes, by what it has to be answered. `all` has the cases of a call of this
+/// number, with these arguments and this status.
+pub fn met_by_status(all: fn(u8, &[u8], u8) -> Vec<Case>, bytes: &[u8], expected: &[u8]) -> Vec<String> {
+    match (bytes, expected) {
+        ([number, arguments @ ..], [_, answer @ ..]) => holding(&all(*number, arguments, begin(answer))),
+        _ => Vec::new(),
+    }
 }
 
 /// What can be counted, whether it holds or not.

@@ -1,7 +1,7 @@
 //! The cases of a fill, in moves, configurations, appends and tables; those of records are in `record_cases.rs`. Numbers
 //! alone do not tell them apart, and a long comparison has to meet each.
 
-use crate::coverage::{case, holding, named, Case};
+use crate::coverage::{case, met_by_status, named, Case};
 use crate::job::Job;
 use crate::list::list_fault;
 use crate::moves::{total, Config, Plan};
@@ -37,10 +37,7 @@ pub fn cases(number: u8) -> Vec<String> {
 
 /// The cases that a call with these bytes is, by what it has to be answered.
 pub fn met(bytes: &[u8], expected: &[u8]) -> Vec<String> {
-    match (bytes, expected) {
-        ([number, arguments @ ..], [_, answer @ ..]) => holding(&all(*number, arguments, begin(answer))),
-        _ => Vec::new(),
-    }
+    met_by_status(all, bytes, expected)
 }
 
 /// Each case of the call of this number, and whether it is one with these arguments and this status. The names are the

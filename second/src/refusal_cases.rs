@@ -2,7 +2,7 @@
 //! call, so that the order shows. A long comparison has to meet each. Element sizes, counts, destination offsets, lists
 //! and records have such cases with their others.
 
-use crate::coverage::{case, holding, named, Case};
+use crate::coverage::{case, met_by_status, named, Case};
 use crate::helpers::{sub_tensor, SubConfig};
 use crate::job::{break_rule, judge_job, meets, Job};
 use crate::moves::{judge, Config};
@@ -33,10 +33,7 @@ pub fn cases(number: u8) -> Vec<String> {
 
 /// The cases that a call with these bytes is, by what it has to be answered.
 pub fn met(bytes: &[u8], expected: &[u8]) -> Vec<String> {
-    match (bytes, expected) {
-        ([number, arguments @ ..], [_, answer @ ..]) => holding(&all(*number, arguments, begin(answer))),
-        _ => Vec::new(),
-    }
+    met_by_status(all, bytes, expected)
 }
 
 /// Each case of the call of this number, and whether it is one with these arguments and this status. The names are the

@@ -2,7 +2,7 @@
 //! are counted. Numbers of refusal alone do not tell them apart, and a long comparison has to meet each. Rows, padding
 //! and records of each size are with the other cases of theirs.
 
-use crate::coverage::{case, holding, named, Case};
+use crate::coverage::{case, met_by_status, named, Case};
 use crate::helpers::{sub_tensor, SubConfig};
 use crate::job::Job;
 use crate::moves::{room, Config};
@@ -39,10 +39,7 @@ pub fn cases(number: u8) -> Vec<String> {
 
 /// The cases that a call with these bytes is, by what it has to be answered.
 pub fn met(bytes: &[u8], expected: &[u8]) -> Vec<String> {
-    match (bytes, expected) {
-        ([number, arguments @ ..], [_, answer @ ..]) => holding(&all(*number, arguments, begin(answer))),
-        _ => Vec::new(),
-    }
+    met_by_status(all, bytes, expected)
 }
 
 /// Each case of the call of this number, and whether it is one with these arguments and this status. The names are the
