@@ -17,7 +17,7 @@ use Rattle.mover.specs.Private.Ready.{homeEnd, placeEnd, InExtents}
 use Rattle.mover.proofs.Places.{all-kept-of, summed-most, place-most}
 
 module _ (a j : ℕ) where
-  along-fits : (k : ℕ) → along a j k < 2 ^ 64
+  pub along-fits : (k : ℕ) → along a j k < 2 ^ 64
   unfolding along
   along-fits k = mod-lt (a + k * j) (omega arith)
 

@@ -41,14 +41,14 @@ abbrev pub numberOf : Plan → ℕ → ℕ → ℕ → ℕ → ℕ
 numberOf p c0 c1 c2 c3 = ((c0 * p .d1 .extent + c1) * p .d2 .extent + c2) * p .d3 .extent + c3
 
 -- the coordinates of an element's number are those it was made from
-record Coords (p : Plan) (q c0 c1 c2 c3 : ℕ) : Type 0 where
+pub record Coords (p : Plan) (q c0 c1 c2 c3 : ℕ) : Type 0 where
   pub at0 : co0 p q ≡ c0
   pub at1 : co1 p q ≡ c1
   pub at2 : co2 p q ≡ c2
   pub at3 : co3 p q ≡ c3
 
 module _ (p : Plan) where
-  coords : {q c0 c1 c2 c3 : ℕ} → numberOf p c0 c1 c2 c3 ≡ q → InExtents p c0 c1 c2 c3 → Coords p q c0 c1 c2 c3
+  pub coords : {q c0 c1 c2 c3 : ℕ} → numberOf p c0 c1 c2 c3 ≡ q → InExtents p c0 c1 c2 c3 → Coords p q c0 c1 c2 c3
   coords {q} {c0} {c1} {c2} {c3} e w =
       let q3 = (c0 * p .d1 .extent + c1) * p .d2 .extent + c2 in
       let q2 = c0 * p .d1 .extent + c1 in

@@ -3,16 +3,15 @@ use mathlib.Core.Path.{_≡_, refl, sym, _∙_}
 use mathlib.Core.Logic.{_⊎_, ⊎-elim, inl, inr}
 use mathlib.Core.Bool.{Bool, true, false, cond}
 use mathlib.Core.List.{List, [], _∷_, _++_}
-use Prim.Native.Nat.{ℕ, suc, _+_, _≤_, _<_}
+use Prim.Native.Nat.{ℕ, zero, suc, _+_, _≤_, _<_}
 use native.Mathlib.Nat.{min-le-left, add-zero, add-suc, suc-add}
 use native.Mathlib.Numerals.{add-one}
 use native.Mathlib.Omega.{arith}
 use lib.ListN.{length, getD, set, take, drop, length-take, length-drop}
-use lib.Seq.{sets, getD-set-other, ext-getD, length-take-le, getD-take, take-suc, getD-drop}
+use lib.Seq.{sets, getD-set-other, ext-getD, length-take-le, getD-take, take-suc, take-add, drop-drop, getD-drop}
 use Rattle.mover.specs.declared.elements.Origin.{Origin}
 use Rattle.mover.specs.declared.elements.Origin.the-variants.{Lent, Inside}
 use Rattle.mover.specs.Private.Elements.{sourceBytes}
-use Rattle.plane.specs.Planes.{Sized}
 
 -- what is stored elsewhere leaves a byte as it was
 pub getD-sets-out : (vs l : List ℕ) (i k : ℕ) → (k < i) ⊎ (i + length vs ≤ k) → getD (sets l i vs) k 0 ≡ getD l k 0
@@ -20,9 +19,6 @@ getD-sets-out [] l i k h = refl
 getD-sets-out (v ∷ vs) l i k h =
     getD-sets-out vs (set l i v) (suc i) k (⊎-elim (λ a. inl (omega arith)) (λ b. inr (omega arith)) h)
     ∙ getD-set-other l i k v 0 (λ e. ⊎-elim {C = ⊥} (λ a. omega arith) (λ b. omega arith) h)
-
-pub sized-one : Sized 1
-sized-one e = omega arith
 
 -- ---- an element stored byte by byte
 
@@ -37,6 +33,19 @@ copy-more l s at to i h =
     let hd : i < length (drop at s) = simp length-drop (omega arith) in
     let n : length (take i (drop at s)) ≡ i = length-take-le i (drop at s) (omega arith) in
     rw (add-one, take-suc (drop at s) i 0 hd, getD-drop) (sym (rw (sets-snoc, n)))
+
+sets-append : (us l : List ℕ) (i k : ℕ) (vs : List ℕ) → length us ≡ k → sets (sets l i us) (i + k) vs ≡ sets l i (us ++ vs)
+sets-append [] l i zero vs e = rw add-zero
+sets-append [] l i (suc k) vs e = absurd (omega arith)
+sets-append (u ∷ us) l i zero vs e = absurd (omega arith)
+sets-append (u ∷ us) l i (suc k) vs e = rw (add-suc, ← suc-add) (sets-append us (set l i u) (suc i) k vs (omega arith))
+
+-- a block after a block
+pub block-append : (d s : List ℕ) (at to i k : ℕ) → at + i ≤ length s
+    → sets (sets d to (take i (drop at s))) (to + i) (take k (drop (at + i) s)) ≡ sets d to (take (i + k) (drop at s))
+block-append d s at to i k h =
+    sets-append (take i (drop at s)) d to i (take k (drop (at + i) s)) (length-take-le i (drop at s) (simp length-drop (omega arith)))
+    ∙ rw (take-add i k (drop at s), drop-drop i at s)
 
 module _ (d s : List ℕ) (at to : ℕ) where
   pub copied-one : at + 1 ≤ length s → set d to (getD s at 0) ≡ sets d to (take 1 (drop at s))

@@ -59,7 +59,7 @@ total-is t c e p = p ∙ ap (λ (x : Answer). product (x .rank) (at (x .extent))
 module _ (t : Tensor) (c : Config) (src dst : List ℕ) (g : GoodMove t c (length src) (length dst)) {plan : Plan} (ep : plan ≡ planOf t c) where
   pub move-ready : Ready Lent plan src dst
   move-ready =
-      subst (λ (p : Plan). Ready Lent p src dst) (sym ep) (planned-ready c (g .source) (g .config) src dst (g .long) (g .room))
+      subst (λ (p : Plan). Ready Lent p src dst) (sym ep) (planned-ready c (g .source) (g .config) (g .destination) src dst (g .long) (g .room))
 
   pub move-some : 0 < planTotal plan
   move-some = rw (ep, planned-total c (g .source)) (total-positive t c (g .source) (g .config))
@@ -212,7 +212,7 @@ module _ (j : Job) (from budget : ℕ) (m : List ℕ) {a : Answer} (e : a ≡ an
           let s = part-length m (j .source .start) (j .source .length) (source-fits (length m) j clear) in
           let d = part-length m (j .destination .start) (j .destination .length) (destination-fits (length m) j clear) in
           subst (λ (p : Plan). Ready Lent p (bytesOf (j .source) m) (bytesOf (j .destination) m)) (sym ep)
-          (planned-ready (j .config) (g .source) (g .config) (bytesOf (j .source) m) (bytesOf (j .destination) m) (omega (arith, g .long)) (omega (arith, g .room)))
+          (planned-ready (j .config) (g .source) (g .config) (g .destination) (bytesOf (j .source) m) (bytesOf (j .destination) m) (omega (arith, g .long)) (omega (arith, g .room)))
 
       pub advance-from : {all : ℕ} → all ≡ totalOf j → from < all → from < planTotal plan
       advance-from p l = let q = all-is in omega arith

@@ -12,7 +12,7 @@ use lib.Seq.{sets-eq, set-set, set-comm, drop-at, take-append-seam, sets, length
 use Rattle.mover.specs.declared.plan.Plan.{Plan}
 use Rattle.mover.specs.Private.Elements.{planKept, summed, placeOf, homeOf, padding, planBytes, putAt, co0, co1, co2, co3, putNumber, planTotal, movedBy}
 use Rattle.mover.specs.Private.Runs.{BytesApart}
-use Rattle.mover.specs.Private.Ready.{homeEnd, placeEnd, placedAt, GoodAxes, InExtents, Ready}
+use Rattle.mover.specs.Private.Ready.{homeEnd, placeEnd, placedAt, GoodAxes, InExtents, placeBy, Rising, Ready}
 use Rattle.mover.proofs.Bytes.{length-take-most, getD-sets-out, pick-same, bytes-same}
 use Rattle.mover.proofs.Places.{place-most, home-most, apart-part}
 use Rattle.mover.proofs.ByNumber.{length-moved, length-bytes, within-good}
@@ -103,6 +103,22 @@ module _ (p : Plan) (a b : ℕ) where
   unfolding placeEnd summed placedAt
   placed-placeEnd = omega arith
 
+  placed-total : planTotal (placedAt a b p) ≡ planTotal p
+  unfolding planTotal placedAt
+  placed-total = refl
+
+  placed-placeBy : (q : ℕ) → placeBy (placedAt a b p) q ≡ b + placeBy p q
+  unfolding placeBy placedAt
+  placed-placeBy q = placed-place (co0 p q) (co1 p q) (co2 p q) (co3 p q)
+
+  placed-rising : Rising p → Rising (placedAt a b p)
+  unfolding placedAt
+  placed-rising h q r l m =
+      let e = placed-total in
+      let u = placed-placeBy q in
+      let v = placed-placeBy r in
+      omega (arith, h q r l (omega arith))
+
   -- what a move between the parts asks, and that they are apart, is what the move within the memory asks
   pub placed-ready : (m none : List ℕ) (l k : ℕ) → a + l ≤ length m → b + k ≤ length m → BytesApart Inside a (a + l) b (b + k)
       → Ready Lent p (bytesAt m a l) (bytesAt m b k) → Ready Inside (placedAt a b p) none m
@@ -115,6 +131,8 @@ module _ (p : Plan) (a b : ℕ) where
       record {
         sized = r .sized;
         axes = record { in0 = r .axes .in0; in1 = r .axes .in1; in2 = r .axes .in2; in3 = r .axes .in3 };
+        few = rw placed-total (r .few);
+        rising = placed-rising (r .rising);
         span = omega (arith, placed-homeEnd);
         need = omega (arith, placed-placeEnd);
         apart = apart-part Inside u (omega arith) (omega (arith, placed-homeEnd)) (omega arith) (omega (arith, placed-placeEnd));

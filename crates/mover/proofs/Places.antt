@@ -115,6 +115,8 @@ still-ready o p s d e h r =
     record {
       sized = r .sized;
       axes = r .axes;
+      few = r .few;
+      rising = r .rising;
       span = still-held o s d e h (r .span);
       need = rw h (r .need);
       apart = r .apart;

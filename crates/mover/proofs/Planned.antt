@@ -1,6 +1,6 @@
 -- The plan of an accepted move has four coordinates: the paper's, with zeros in front for the dimensions that the rank lacks. So the
 -- engine's fold over the plan is the paper's. Assumes nothing.
-use Prim.Native.Nat.{ℕ, zero, suc, _+_, _-_, _*_, _/_, _%_, _≤_, _<_}
+use Prim.Native.Nat.{ℕ, zero, suc, _+_, _-_, _*_, _/_, _%_, _^_, _≤_, _<_}
 use native.Mathlib.Nat.{add-mul, mul-assoc, mul-comm, one-mul, div-one, mod-one, mod-eq-of-lt, div-div-eq-div-mul, not-suc-le-zero, le-of-suc-le-suc}
 use native.Mathlib.Decide.{decLt}
 use native.Mathlib.Omega.{arith}
@@ -16,10 +16,10 @@ use Rattle.plane.specs.Arrays.{at, sum, product, every}
 use Rattle.plane.specs.Numbers.{little}
 use Rattle.plane.specs.Planes.{srcStrides, span}
 use Rattle.plane.specs.Moves.{count, dstStrides, need}
-use Rattle.plane.specs.Good.{GoodSource, GoodConfig}
+use Rattle.plane.specs.Good.{GoodSource, GoodConfig, GoodDst}
 use Rattle.plane.proofs.Rules.{count-positive, dst-extent}
 use Rattle.plane.proofs.Numbers.{take-little}
-use Rattle.plane.proofs.Bounds.{element-small}
+use Rattle.plane.proofs.Bounds.{element-small, product-most}
 use Rattle.mover.specs.declared.elements.Origin.the-variants.{Lent}
 use Rattle.mover.specs.declared.plan.Axis.{Axis}
 use Rattle.mover.specs.declared.plan.Plan.{Plan}
@@ -27,12 +27,13 @@ use Rattle.mover.specs.Element.{dimOf, kOf, isKept, areKept, sourcePlace
 use Rattle.mover.specs.Moved.{extentAt, total, perStep, coordOf, stored, moved}
 use Rattle.mover.specs.Private.Plans.{axisOf, lone, planOf}
 use Rattle.mover.specs.Private.Elements.{axisKept, planKept, summed, placeOf, homeOf, padding, planBytes, putAt, planTotal, co0, co1, co2, co3, putNumber, movedBy}
-use Rattle.mover.specs.Private.Ready.{homeEnd, placeEnd, GoodAxis, Ready}
+use Rattle.mover.specs.Private.Ready.{homeEnd, placeEnd, GoodAxis, placeBy, Rising, Ready}
 use Rattle.mover.proofs.Numbers.{digit}
 use Rattle.mover.proofs.Sums.{sum-bytes}
 use Rattle.mover.proofs.Fitting.{home-fits, place-fits}
 use Rattle.mover.proofs.Making.{extent-is}
 use Rattle.mover.proofs.ByNumber.{spread-within}
+use Rattle.mover.proofs.Spacing.{bytes-rise}
 
 -- ---- a plan of n axes, widened to four
 
@@ -238,16 +239,40 @@ module _ {t : Tensor} (c : Config) (g : GoodSource t) where
         its _ _ _ _ .place-end ∙ ended _ (t .«element_size») (sum-bytes (t .rank) _ _ _ (t .«element_size») (λ i _. further (at (c .«dst_offset») i) (x i) (at (dstStrides t c) i) (t .«element_size»))) in
         rw e (place-fits k x (λ i h. omega (arith, dst-extent k i (g .rank .1) h .0)))
 
+    pub planned-few : planTotal (planOf t c) < 2 ^ 64
+    unfolding total
+    planned-few =
+        let e = planned-total in
+        let w = product-most (t .rank) (extentAt t c) (g .rank .1) (λ i h. dst-extent k i (g .rank .1) h .1) in
+        omega arith
+
+    -- the place of element number q
+    pub planned-placeBy : (q : ℕ) → q < total t c → placeBy (planOf t c) q ≡ place t c (coordOf t c q) * t .«element_size»
+    unfolding placeBy
+    planned-placeBy q l =
+        let e = planned-coords q l in
+        rw (e .at0, e .at1, e .at2, e .at3) (planned-place (coordOf t c q))
+
+    pub planned-rising : GoodDst t c → Rising (planOf t c)
+    planned-rising p q r l m =
+        let e = planned-total in
+        let s = planned-size in
+        let a = planned-placeBy q (omega arith) in
+        let b = planned-placeBy r (omega arith) in
+        omega (arith, bytes-rise g k p q r l (omega arith))
+
     -- between two lent slices
-    pub planned-ready : (src dst : List ℕ) → span t ≤ length src → need t c ≤ length dst → Ready Lent (planOf t c) src dst
+    pub planned-ready : GoodDst t c → (src dst : List ℕ) → span t ≤ length src → need t c ≤ length dst → Ready Lent (planOf t c) src dst
     unfolding planOf
-    planned-ready src dst l m =
+    planned-ready p src dst l m =
         let good : (j : ℕ) → j < 4 → GoodAxis (wide (t .rank) lone (axisOf t c) j) = λ j h.
         wide-each GoodAxis (t .rank) lone (axisOf t c) j (g .rank .1) h (record { some = omega arith; within = omega arith })
         (λ i l. record { some = count-positive k (dimOf c i) (k .perm i l); within = omega (arith, extent-is c g i l) }) in
         record {
           sized = g .element;
           axes = record { in0 = good 0 (omega arith); in1 = good 1 (omega arith); in2 = good 2 (omega arith); in3 = good 3 (omega arith) };
+          few = planned-few;
+          rising = planned-rising p;
           span = omega (arith, planned-homeEnd);
           need = omega (arith, planned-placeEnd);
           apart = tt;

@@ -63,30 +63,35 @@ module _ (x : Axis) (c most : ℕ) {n : ℕ} (f : x .pre + x .count ≤ x .exten
 -- ---- what it stores
 
 module _ (e : ℕ → List ℕ) (to stride : ℕ) where
-  length-run : (n : ℕ) (d : List ℕ) → length (runStored e to stride n d) ≡ length d
+  pub length-run : (n : ℕ) (d : List ℕ) → length (runStored e to stride n d) ≡ length d
   unfolding runStored
   length-run zero d = refl
   length-run (suc n) d = simp length-sets (length-run n d)
 
   -- a byte that belongs to none of the elements is as it was
-  run-out : (n : ℕ) (d : List ℕ) (k : ℕ) → ((j : ℕ) → j < n → (k < along to stride j) ⊎ (along to stride j + length (e j) ≤ k))
+  pub run-out : (n : ℕ) (d : List ℕ) (k : ℕ) → ((j : ℕ) → j < n → (k < along to stride j) ⊎ (along to stride j + length (e j) ≤ k))
       → getD (runStored e to stride n d) k 0 ≡ getD d k 0
   unfolding runStored
   run-out zero d k h = refl
   run-out (suc n) d k h =
       getD-sets-out (e n) (runStored e to stride n d) (along to stride n) k (h n (omega arith)) ∙ run-out n d k (λ j l. h j (omega arith))
 
--- while kept elements are stored, those still to be read are as they were
-pub run-keeps : (o : Origin) (s d v : List ℕ) (c : Course) (k : ℕ) → Parted o c → k < c .n
-    → keptBytes (sourceBytes o s (runStored (keptBytes v c) (c .to) (c .stride) k d)) c k ≡ keptBytes (sourceBytes o s d) c k
-run-keeps Lent s d v c k p h = refl
-run-keeps Inside s d v c k p h =
-    bytes-same (runStored (keptBytes v c) (c .to) (c .stride) k d) d (along (c .at) (c .jump) k) (c .size) (length-run (keptBytes v c) (c .to) (c .stride) k d)
+-- while kept elements are stored, all that are read are as they were
+pub keeps-any : (o : Origin) (s d v : List ℕ) (c : Course) (k j : ℕ) → Parted o c → k ≤ c .n → j < c .n
+    → keptBytes (sourceBytes o s (runStored (keptBytes v c) (c .to) (c .stride) k d)) c j ≡ keptBytes (sourceBytes o s d) c j
+keeps-any Lent s d v c k j p g h = refl
+keeps-any Inside s d v c k j p g h =
+    bytes-same (runStored (keptBytes v c) (c .to) (c .stride) k d) d (along (c .at) (c .jump) j) (c .size) (length-run (keptBytes v c) (c .to) (c .stride) k d)
     (λ i a b.
     run-out (keptBytes v c) (c .to) (c .stride) k d i
-    (λ j l.
-    let m = length-take-most (c .size) (drop (along (c .at) (c .jump) j) v) in
-    ⊎-elim (λ x. inl (omega arith)) (λ y. inr (omega arith)) (p k j h (omega arith))))
+    (λ x l.
+    let m = length-take-most (c .size) (drop (along (c .at) (c .jump) x) v) in
+    ⊎-elim (λ y. inl (omega arith)) (λ y. inr (omega arith)) (p j x h (omega arith))))
+
+-- the next among them
+pub run-keeps : (o : Origin) (s d v : List ℕ) (c : Course) (k : ℕ) → Parted o c → k < c .n
+    → keptBytes (sourceBytes o s (runStored (keptBytes v c) (c .to) (c .stride) k d)) c k ≡ keptBytes (sourceBytes o s d) c k
+run-keeps o s d v c k p h = keeps-any o s d v c k k p (omega arith) h
 
 -- ---- a loop that stores n elements: k are, and the next stands at t
 

@@ -12,12 +12,12 @@ use Rattle.mover.specs.declared.plan.Plan.{Plan}
 use Rattle.mover.specs.declared.spots.Spot.{Spot}
 use Rattle.mover.specs.declared.spots.Spots.{Spots}
 use Rattle.mover.specs.declared.start.Beginning.{Beginning}
-use Rattle.mover.specs.declared.engine.Run.{Run}
+use Rattle.mover.specs.declared.alike.Run.{Run}
 use Rattle.mover.specs.declared.elements.Origin.{Origin}
-use Rattle.mover.specs.Private.Elements.{sourceBytes, axisKept, planKept, placeOf, homeOf, planBytes, putAt, planTotal, movedBy, co3, padding}
+use Rattle.mover.specs.Private.Elements.{sourceBytes, axisKept, planKept, placeOf, homeOf, planBytes, putAt, putNumber, planTotal, movedBy, movedFrom, co0, co1, co2, co3, padding}
 use Rattle.mover.specs.Private.Adding.{along, spotAt, onwardOf, firstSpot, beginningOf, nextRow, nextLayer, nextSlab, afterRun}
 use Rattle.mover.specs.Private.Runs.{Alike, courseOf, runStored, eitherBytes, runMoved, Readable, Writable}
-use Rattle.mover.specs.Private.Ready.{Ready, InExtents}
+use Rattle.mover.specs.Private.Ready.{GoodAxes, Ready, InExtents}
 use Rattle.mover.proofs.Bytes.{source-long, pick-same}
 use Rattle.mover.proofs.Places.{place-least, place-most, home-least, home-most, all-kept-of, apart-part, still-ready}
 use Rattle.mover.proofs.Adding.{along-none, along-on, jumps-kept, spot-fits, spot-none, spot-on, row-place, row-home}
@@ -26,7 +26,7 @@ use Rattle.mover.proofs.ByNumber.{length-moved, moved-add, numberOf, pu
 -- ---- a run
 
 -- neighbours in a row, stored one by one at their places
-run-moved : (p : Plan) (s d : List ℕ) (e : ℕ → List ℕ) (to c0 c1 c2 c3 n : ℕ) {q : ℕ} → numberOf p c0 c1 c2 c3 ≡ q
+pub run-moved : (p : Plan) (s d : List ℕ) (e : ℕ → List ℕ) (to c0 c1 c2 c3 n : ℕ) {q : ℕ} → numberOf p c0 c1 c2 c3 ≡ q
     → ((k : ℕ) → k < n → InExtents p c0 c1 c2 (c3 + k))
     → ((k : ℕ) → k < n → along to (p .d3 .stride) k ≡ placeOf p c0 c1 c2 (c3 + k))
     → ((k : ℕ) → k < n → planBytes p s c0 c1 c2 (c3 + k) ≡ e k)
@@ -37,6 +37,27 @@ run-moved p s d e to c0 c1 c2 c3 (suc n) {q} h w f g =
     let z : numberOf p c0 c1 c2 (c3 + n) ≡ q + n = omega arith in
     put-number p s (movedBy p s q n d) z (w n (omega arith))
     ∙ rw (run-moved p s d e to c0 c1 c2 c3 n h (λ k l. w k (omega arith)) (λ k l. f k (omega arith)) (λ k l. g k (omega arith)), f n (omega arith), g n (omega arith))
+
+-- bytes from another source that has the same
+moved-same : (p : Plan) (s s' : List ℕ) (from n : ℕ) (d : List ℕ) → ((c0 c1 c2 c3 : ℕ) → planBytes p s c0 c1 c2 c3 ≡ planBytes p s' c0 c1 c2 c3)
+    → movedBy p s from n d ≡ movedBy p s' from n d
+unfolding movedBy putNumber putAt
+moved-same p s s' from zero d h = refl
+moved-same p s s' from (suc n) d h =
+    rw (moved-same p s s' from n d h, h (co0 p (from + n)) (co1 p (from + n)) (co2 p (from + n)) (co3 p (from + n)))
+
+-- as many elements as are left in a row, from c on, or of the budget
+pub record Cut (e c left n : ℕ) : Type 0 where
+  pub some : 0 < n
+  pub paid : n ≤ left
+  pub row : c + n ≤ e
+  pub whole : 0 < left - n → c + n ≡ e
+
+pub cut-row : (e c left : ℕ) {n : ℕ} → c < e → 0 < left → n ≡ min (e - c) left → Cut e c left n
+cut-row e c left h l q = record { some = omega arith; paid = omega arith; row = omega arith; whole = λ g. omega arith }
+
+least-all : (q n t : ℕ) → q + n ≤ t → min n (t - q) ≡ n
+least-all q n t h = min-eq-left (omega arith)
 
 -- ---- the engine's loops
 
@@ -72,7 +93,7 @@ pub record Over (o : Origin) (p : Plan) (s d₀ : List ℕ) (from budget : ℕ) 
   pub bytes : d ≡ movedBy p (sourceBytes o s d₀) from (budget - left) d₀
 
 -- the end of one row of e is the start of the next
-carry : (a c e : ℕ) → (a + (c + 1)) * e + 0 ≡ (a + c) * e + e
+pub carry : (a c e : ℕ) → (a + (c + 1)) * e + 0 ≡ (a + c) * e + e
 carry a c e = rw (← add-assoc) (add-zero ((a + c + 1) * e) ∙ add-mul (a + c) 1 e ∙ rw one-mul)
 
 carry0 : (c e : ℕ) → (c + 1) * e + 0 ≡ c * e + e
@@ -101,6 +122,11 @@ start o p s d from budget r h e =
       home = λ _ l. ap (along _ (p .d3 .jump)) (jumps-kept (p .d3) (co3 p from) (omega arith));
     })
 
+-- where a step begins is a coordinate of a row
+pub start-row : (p : Plan) (from : ℕ) {b : Beginning} → GoodAxes p → b ≡ beginningOf p from → b .c3 < p .d3 .extent
+unfolding beginningOf
+start-row p from g e = rw e (spread-good p g from .in3)
+
 module _ {o : Origin} {p : Plan} {s d₀ : List ℕ} {from budget : ℕ} {d : List ℕ} {c0 c1 c2 c3 left : ℕ} {u : Spots} (a : At o p s d₀ from budget d c0 c1 c2 c3 left u) where
   pub at-length : length d ≡ length d₀
   at-length = ap length (a .bytes) ∙ length-moved p (sourceBytes o s d₀) from (budget - left) d₀
@@ -108,7 +134,7 @@ module _ {o : Origin} {p : Plan} {s d₀ : List ℕ} {from budget : ℕ} {d : Li
   pub at-ready : Ready o p s d₀ → Ready o p s d
   at-ready r = still-ready o p s d₀ d at-length r
 
-  at-was-ready : Ready o p s d → Ready o p s d₀
+  pub at-was-ready : Ready o p s d → Ready o p s d₀
   at-was-ready r = still-ready o p s d d₀ (sym at-length) r
 
   -- a run from here on
@@ -198,6 +224,51 @@ module _ {o : Origin} {p : Plan} {s d₀ : List ℕ} {from budget : ℕ} {d : Li
               (λ y. absurd (omega arith))
               (l .whole (omega arith));
         })
+
+  -- here is an element
+  pub at-below : InExtents p c0 c1 c2 c3 → from + (budget - left) < planTotal p
+  at-below w = rw (a .number) at (number-lt p w)
+
+  -- elements of a row, as many as it has or are left, that were moved by their numbers
+  module _ (w : InExtents p c0 c1 c2 c3) {n : ℕ} (g : Cut (p .d3 .extent) c3 left n) where
+    row-fits : from + (budget - left) + n ≤ planTotal p
+    row-fits =
+        let last : InExtents p c0 c1 c2 (c3 + (n - 1)) = record { in0 = w .in0; in1 = w .in1; in2 = w .in2; in3 = omega (arith, g .some, g .row) } in
+        let z = number-lt p last in
+        omega (arith, a .number, g .some)
+
+    rows-on : Ready o p s d → {d' : List ℕ} → d' ≡ movedFrom o p s d (from + (budget - left)) n
+        → At o p s d₀ from budget d' c0 c1 c2 (c3 + n) (left - n) (afterRun u (p .d3) n)
+    rows-on r {d'} t =
+        let paid = g .paid in
+        let m : budget - (left - n) ≡ budget - left + n = omega (arith, a .fund) in
+        record {
+          in1 = a .in1;
+          in2 = a .in2;
+          in3 = g .row;
+          rest1 = λ h. absurd (omega (arith, w .in1));
+          rest2 = λ h. absurd (omega (arith, w .in2));
+          fund = omega (arith, a .fund);
+          number = omega (arith, a .number);
+          most = omega (arith, row-fits);
+          bytes =
+              t
+              ∙ moved-same p (sourceBytes o s d) (sourceBytes o s d₀) (from + (budget - left)) n d
+              (λ x0 x1 x2 x3. ap (λ (y : List ℕ). planBytes p (sourceBytes o s y) x0 x1 x2 x3) (a .bytes) ∙ source-same o p s d₀ from (budget - left) x0 x1 x2 x3 (at-was-ready r) (a .most))
+              ∙ ap (movedBy p (sourceBytes o s d₀) (from + (budget - left)) n) (a .bytes)
+              ∙ sym (moved-add p (sourceBytes o s d₀) from (budget - left) n d₀)
+              ∙ ap (λ (j : ℕ). movedBy p (sourceBytes o s d₀) from j d₀) (sym m);
+          slab = a .slab;
+          layer = a .layer;
+          row = a .row;
+          place = ap (λ (y : ℕ). along y (p .d3 .stride) n) (a .place) ∙ along-on (u .row .to) (p .d3 .stride) c3 n;
+          home = λ h v. absurd (omega (arith, g .whole h, r .axes .in3 .within));
+        }
+
+    pub row-turn : Ready o p s d → {k : ℕ} {d' : List ℕ} → k ≡ min n (planTotal p - (from + (budget - left))) → d' ≡ movedFrom o p s d (from + (budget - left)) k
+        → At o p s d₀ from budget d' c0 c1 c2 (c3 + n) (left - n) (afterRun u (p .d3) n)
+    row-turn r f t =
+        rows-on r (t ∙ ap (λ (j : ℕ). movedBy p (sourceBytes o s d) (from + (budget - left)) j d) (f ∙ least-all (from + (budget - left)) n (planTotal p) row-fits))
 
   -- a row, a layer and a slab are done
   pub next-row : {v : Spots} → c1 < p .d1 .extent → c2 < p .d2 .extent → p .d3 .extent ≤ c3 → v ≡ nextRow u (p .d2) (c2 + 1)

@@ -4,5 +4,9 @@ pub mod Elements
 pub mod Adding
 pub mod Runs
 pub mod Ready
+pub mod Folding
+pub mod Shuffles
+pub mod Patches
+pub mod Bands
 -- and as the plain engine does
 pub mod Rows

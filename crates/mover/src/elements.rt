@@ -1,7 +1,7 @@
-// The leaves of the engine: a run of elements copied, or of padding.
+// Elements: one, and a run of them one by one, copied or of padding.
 use std::num::wrapping_add_usize;
 ghost use mathlib.Core.Path.{_≡_};
-ghost use Prim.Native.Nat.{_+_, _*_, _^_, _≤_, _<_};
+ghost use Prim.Native.Nat.{_+_, _≤_, _<_};
 ghost use lib.ListN.{length, getD};
 ghost use lib.Seq.{sets};
 ghost use Rattle.mover.specs.Private.Elements.{sourceBytes, padding};
@@ -28,7 +28,7 @@ pub(crate) struct Course {
 }
 
 // A byte of the source.
-fn byte(src: &[u8], dst: &[u8], origin: Origin, i: usize) -> u8
+pub(crate) fn byte(src: &[u8], dst: &[u8], origin: Origin, i: usize) -> u8
     requires { ⌜ i < length (sourceBytes origin (now src) (now dst)) ⌝ }
     ensures { λ r. ⌜ r ≡ getD (sourceBytes origin (now (src .entry)) (now (dst .entry))) i 0 ⌝ }
 {
@@ -39,7 +39,7 @@ fn byte(src: &[u8], dst: &[u8], origin: Origin, i: usize) -> u8
 }
 
 // The bytes of the source's element at `at`, to `to`, in straight code for each size: all are read before one is stored.
-fn copy(src: &[u8], dst: &mut [u8], origin: Origin, at: usize, to: usize, size: usize)
+pub(crate) fn copy(src: &[u8], dst: &mut [u8], origin: Origin, at: usize, to: usize, size: usize)
     requires { ⌜ Sized size ⌝ }
     requires { ⌜ at + size ≤ length (sourceBytes origin (now src) (now dst)) ⌝ }
     requires { ⌜ to + size ≤ length (now dst) ⌝ }
@@ -71,7 +71,7 @@ fn copy(src: &[u8], dst: &mut [u8], origin: Origin, at: usize, to: usize, size: 
 }
 
 // A run of kept elements, one by one; tells where the next is stored. The size is tested within: the compiler makes a loop for each.
-fn copy_each(src: &[u8], dst: &mut [u8], origin: Origin, c: Course) -> usize
+pub(crate) fn copy_each(src: &[u8], dst: &mut [u8], origin: Origin, c: Course) -> usize
     requires { ⌜ Writable (now dst) c ⌝ }
     requires { ⌜ Readable origin (now src) (now dst) c ⌝ }
     ensures next { λ r. ⌜ r ≡ along (c .to) (c .stride) (c .n) ⌝ }
@@ -87,47 +87,6 @@ fn copy_each(src: &[u8], dst: &mut [u8], origin: Origin, c: Course) -> usize
         k += 1;
     }
     to
-}
-
-// How many bytes n elements have, by adding.
-fn bytes(size: usize, n: usize) -> usize
-    requires { ⌜ Sized size ⌝ }
-    requires { ⌜ n * size < 2 ^ 64 ⌝ }
-    ensures { λ r. ⌜ r ≡ n * size ⌝ }
-{
-    if size == 1 {
-        return n;
-    }
-    if size == 2 {
-        return n + n;
-    }
-    if size == 3 {
-        return n + n + n;
-    }
-    n + n + n + n
-}
-
-// A run of kept elements; tells where the next is stored. Where they lie side by side in both, it is a run of single bytes.
-pub(crate) fn copy_run(src: &[u8], dst: &mut [u8], origin: Origin, c: Course) -> usize
-    requires { ⌜ Writable (now dst) c ⌝ }
-    requires { ⌜ Readable origin (now src) (now dst) c ⌝ }
-    ensures next { λ r. ⌜ r ≡ along (c .to) (c .stride) (c .n) ⌝ }
-    ensures written { λ _. ⌜ now (dst .exit) ≡ runCopied origin (now (src .entry)) (now (dst .entry)) c ⌝ }
-{
-    if c.jump == c.size {
-        if c.stride == c.size {
-            let n = bytes(c.size, c.n);
-            let block = Course {
-                jump: 1,
-                stride: 1,
-                size: 1,
-                n,
-                ..c
-            };
-            return copy_each(src, dst, origin, block);
-        }
-    }
-    copy_each(src, dst, origin, c)
 }
 
 // A padded element at `to`: the first of the four bytes.

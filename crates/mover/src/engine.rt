@@ -1,12 +1,12 @@
 // The loops of a move: destination elements in destination order, the last coordinate fastest, from any element on, until the
 // budget is spent. The innermost goes on by runs. Between two elements places go on by adding alone: after `begin`, nothing here nor
 // in what is called multiplies or divides. What the loops are handed was worked out and accepted by the rules.
-use crate::Part;
+use crate::alike::Run;
+use crate::alike::kept;
+use crate::alike::run_at;
+use crate::courses::move_course;
 use crate::elements::Course;
 use crate::elements::Origin;
-use crate::elements::copy_run;
-use crate::elements::pad_run;
-use crate::plan::Axis;
 use crate::plan::Plan;
 use crate::spots::Spot;
 use crate::spots::Spots;
@@ -15,65 +15,12 @@ use crate::spots::next_row;
 use crate::spots::next_slab;
 use crate::start::begin;
 ghost use mathlib.Core.Path.{_≡_};
-ghost use mathlib.Core.Bool.{true, _&&_};
-ghost use Prim.Native.Nat.{_+_, _-_, min, _≤_, _<_};
-ghost use Rattle.mover.specs.Private.Elements.{axisKept, planTotal, movedFrom};
+ghost use mathlib.Core.Bool.{true};
+ghost use Prim.Native.Nat.{_-_, min, _<_};
+ghost use Rattle.mover.specs.Private.Elements.{planTotal, movedFrom};
 ghost use Rattle.mover.specs.Private.Adding.{afterRun};
-ghost use Rattle.mover.specs.Private.Runs.{Alike, courseOf, runMoved, Readable, Writable};
-ghost use Rattle.mover.specs.Private.Ready.{Ready, LiesIn, PartsApart, movedWithin};
-ghost use Rattle.mover.specs.Within.{bytesOf};
-
-// Whether coordinate c of a dimension is kept, and not padding, and so are those before it, as `outer` tells.
-fn kept(outer: bool, x: Axis, c: usize) -> bool
-    ensures { λ r. ⌜ r ≡ (outer && axisKept x c) ⌝ }
-{
-    if outer {
-        if x.pre <= c {
-            return c - x.pre < x.count;
-        }
-    }
-    false
-}
-
-// Neighbours in a row that are all kept or all padding.
-pub(crate) struct Run {
-    pub(crate) kept: bool,
-    pub(crate) n: usize,
-}
-
-// The smaller of two.
-fn least(a: usize, b: usize) -> usize
-    ensures { λ r. ⌜ r ≡ min a b ⌝ }
-{
-    if a <= b { a } else { b }
-}
-
-// The run from coordinate c on, cut to `most`; `outer` tells whether the other coordinates are kept.
-fn run_at(x: Axis, outer: bool, c: usize, most: usize) -> Run
-    requires { ⌜ x .pre + x .count ≤ x .extent ⌝ }
-    requires { ⌜ c < x .extent ⌝ }
-    requires { ⌜ 0 < most ⌝ }
-    ensures { λ r. ⌜ Alike x outer c most r ⌝ }
-{
-    if outer {
-        if c < x.pre {
-            return Run {
-                kept: false,
-                n: least(x.pre - c, most),
-            };
-        }
-        if c - x.pre < x.count {
-            return Run {
-                kept: true,
-                n: least(x.count - (c - x.pre), most),
-            };
-        }
-    }
-    Run {
-        kept: false,
-        n: least(x.extent - c, most),
-    }
-}
+ghost use Rattle.mover.specs.Private.Runs.{courseOf, runMoved, Readable, Writable};
+ghost use Rattle.mover.specs.Private.Ready.{Ready};
 
 // Moves a run, kept elements or padding, and tells the spots after it: where to store the next element of the row.
 fn move_run(src: &[u8], dst: &mut [u8], origin: Origin, plan: Plan, s: Spots, run: Run) -> Spots
@@ -93,19 +40,14 @@ fn move_run(src: &[u8], dst: &mut [u8], origin: Origin, plan: Plan, s: Spots, ru
         pad,
         n: run.n,
     };
-    if run.kept {
-        let to = copy_run(src, dst, origin, course);
-        let here = Spot { to, at };
-        return Spots { here, ..s };
-    }
-    let to = pad_run(dst, course);
+    let to = move_course(src, dst, origin, course, run.kept);
     let here = Spot { to, at };
     Spots { here, ..s }
 }
 
 // Writes the elements numbered from, from + 1, .. and tells how many: the budget, or what is left. Whether the outer coordinates are
 // kept is decided where they change.
-pub(crate) fn advance(
+pub(crate) fn by_runs(
     src: &[u8],
     dst: &mut [u8],
     origin: Origin,
@@ -153,29 +95,4 @@ pub(crate) fn advance(
         spots = next_slab(spots, plan.d0, c0);
     }
     budget - left
-}
-
-// The same within one memory, from one part of it to another.
-pub(crate) fn advance_within(
-    mem: &mut [u8],
-    source: Part,
-    destination: Part,
-    plan: Plan,
-    from: usize,
-    budget: usize,
-) -> usize
-    requires { ⌜ LiesIn source (now mem) × LiesIn destination (now mem) ⌝ }
-    requires { ⌜ PartsApart source destination ⌝ }
-    requires { ⌜ Ready Origin.Lent plan (bytesOf source (now mem)) (bytesOf destination (now mem)) ⌝ }
-    requires { ⌜ from < planTotal plan ⌝ }
-    ensures counted { λ r. ⌜ r ≡ min budget (planTotal plan - from) ⌝ }
-    ensures written { λ r. ⌜ now (mem .exit) ≡ movedWithin plan source destination (now (mem .entry)) from r ⌝ }
-{
-    let none = [0u8; 0];
-    let placed = Plan {
-        home: source.start as usize + plan.home,
-        base: destination.start as usize + plan.base,
-        ..plan
-    };
-    advance(&none, mem, Origin::Inside, placed, from, budget)
 }

@@ -4,8 +4,21 @@
 mod plan; // an accepted move as the engine wants it
 mod spots; // where an element stands, and where the next row, layer and slab start
 mod start; // where a step begins
-mod elements; // a run of elements, copied or of padding
-mod engine; // the loops over four destination coordinates
+mod folded; // dimensions that are one
+mod alike; // where neighbours end that are all kept or all padding
+mod elements; // elements one by one, copied or of padding
+mod leaves; // leaves: bytes that go through an array
+mod shuffles; // leaves: arrays in another order
+mod copies; // bytes side by side
+mod courses; // a run of elements
+mod patches; // rows and columns of elements
+mod tiles; // a few rows and columns at once
+mod strips; // tile by tile
+mod ways; // which way a patch goes
+mod bands; // whole rows that are moved together
+mod engine; // the loops over four destination coordinates, by runs
+mod layers; // the same by bands
+mod stretch; // a stretch of a move: which of the two
 mod moves; // a whole move between two lent slices
 mod within; // a move between two parts of one memory, a stretch at a time
 mod sub; // a sub-tensor of a lent source

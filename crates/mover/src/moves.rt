@@ -1,8 +1,8 @@
 // A whole move between two lent slices.
 use crate::elements::Origin;
-use crate::engine::advance;
 use crate::plan::plan_of;
 use crate::plan::total;
+use crate::stretch::advance;
 use plane::Answer;
 use plane::Config;
 use plane::Tensor;

@@ -101,7 +101,7 @@ fn axis_of(c: Config, a: Answer, strides: [u32; 4], i: usize) -> Axis
 }
 
 // A dimension that the rank lacks: one element.
-fn lone() -> Axis
+pub(crate) fn lone() -> Axis
     ensures { λ r. ⌜ r ≡ lone ⌝ }
 {
     Axis {

@@ -34,7 +34,7 @@ fn jumps(x: Axis, c: usize) -> usize
 }
 
 // The spot at coordinate c of a dimension, from that at its start.
-fn spot_at(s: Spot, x: Axis, c: usize) -> Spot
+pub(crate) fn spot_at(s: Spot, x: Axis, c: usize) -> Spot
     requires { ⌜ 0 < x .count ⌝ }
     requires { ⌜ s .to + c * x .stride < 2 ^ 64 ⌝ }
     requires { ⌜ s .at + jumpsOf x c * x .jump < 2 ^ 64 ⌝ }

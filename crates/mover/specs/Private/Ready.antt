@@ -1,6 +1,6 @@
 -- What the checks establish of a plan and the bytes that it is made over, and a move within one memory.
 use mathlib.Core.List.{List}
-use Prim.Native.Nat.{ℕ, _+_, _-_, _≤_, _<_}
+use Prim.Native.Nat.{ℕ, _+_, _-_, _^_, _≤_, _<_}
 use lib.ListN.{length}
 use lib.Seq.{sets}
 use Rattle.mover.specs.declared.Part.{Part}
@@ -9,7 +9,7 @@ use Rattle.mover.specs.declared.plan.Plan.{Plan}
 use Rattle.mover.specs.declared.elements.Origin.{Origin}
 use Rattle.mover.specs.declared.elements.Origin.the-variants.{Inside}
 use Rattle.mover.specs.Within.{bytesOf}
-use Rattle.mover.specs.Private.Elements.{sourceBytes, summed, movedBy}
+use Rattle.mover.specs.Private.Elements.{sourceBytes, summed, placeOf, planTotal, co0, co1, co2, co3, movedBy}
 use Rattle.plane.specs.Planes.{Sized}
 use Rattle.mover.specs.Private.Runs.{BytesApart}
 
@@ -39,10 +39,20 @@ pub record GoodAxes (p : Plan) : Type 0 where
   pub in2 : GoodAxis (p .d2)
   pub in3 : GoodAxis (p .d3)
 
+-- the byte of destination element number q
+unfoldable pub placeBy : Plan → ℕ → ℕ
+placeBy p q = placeOf p (co0 p q) (co1 p q) (co2 p q) (co3 p q)
+
+-- elements stand apart, in the order of their numbers
+abbrev pub Rising : Plan → Type 0
+Rising p = (q r : ℕ) → q < r → r < planTotal p → placeBy p q + p .size ≤ placeBy p r
+
 -- what the engine asks of a plan, and of the bytes of source and destination
 pub record Ready (o : Origin) (p : Plan) (s d : List ℕ) : Type 0 where
   pub sized : Sized (p .size)
   pub axes : GoodAxes p
+  pub few : planTotal p < 2 ^ 64
+  pub rising : Rising p
   pub span : homeEnd p ≤ length (sourceBytes o s d)
   pub need : placeEnd p ≤ length d
   pub apart : BytesApart o (p .home) (homeEnd p) (p .base) (placeEnd p)

@@ -13,7 +13,7 @@ use Rattle.mover.specs.declared.spots.Spot.{Spot}
 use Rattle.mover.specs.declared.elements.Course.{Course}
 use Rattle.mover.specs.declared.elements.Origin.{Origin}
 use Rattle.mover.specs.declared.elements.Origin.the-variants.{Lent, Inside}
-use Rattle.mover.specs.declared.engine.Run.{Run}
+use Rattle.mover.specs.declared.alike.Run.{Run}
 use Rattle.mover.specs.Private.Elements.{sourceBytes, axisKept, padding}
 use Rattle.mover.specs.Private.Adding.{along}
 
@@ -60,10 +60,12 @@ runCopied o s d c = runStored (keptBytes (sourceBytes o s d) c) (c .to) (c .stri
 abbrev pub runPadded : List ℕ → Course → List ℕ
 runPadded d c = runStored (padBytes c) (c .to) (c .stride) (c .n) d
 
+-- either
+abbrev pub courseMoved : Origin → Bool → List ℕ → List ℕ → Course → List ℕ
+courseMoved o kept s d c = runStored (eitherBytes kept (sourceBytes o s d) c) (c .to) (c .stride) (c .n) d
+
 abbrev pub runMoved : Origin → Plan → List ℕ → List ℕ → Spot → Run → List ℕ
-runMoved o p s d u r =
-    let c = courseOf p u r in
-    runStored (eitherBytes (r .kept) (sourceBytes o s d) c) (c .to) (c .stride) (c .n) d
+runMoved o p s d u r = courseMoved o (r .kept) s d (courseOf p u r)
 
 -- ---- what the leaves ask
 
@@ -81,6 +83,18 @@ abbrev pub Parted : Origin → Course → Type 0
 Parted o c =
     (i k : ℕ) → i < c .n → k < c .n
     → BytesApart o (along (c .at) (c .jump) i) (along (c .at) (c .jump) i + c .size) (along (c .to) (c .stride) k) (along (c .to) (c .stride) k + c .size)
+
+-- what n bytes side by side ask, where there are any
+pub record Blocked (o : Origin) (s d : List ℕ) (at to n : ℕ) : Type 0 where
+  pub read : 0 < n → at + n ≤ length (sourceBytes o s d)
+  pub write : 0 < n → to + n ≤ length d
+  pub apart : BytesApart o at (at + n) to (to + n)
+
+-- single bytes, every second of the source's, to bytes side by side
+pub record Evens (c : Course) : Type 0 where
+  pub size : c .size ≡ 1
+  pub stride : c .stride ≡ 1
+  pub jump : c .jump ≡ 2
 
 -- what a run asks of the destination d, and one of kept elements of the source, which stands in s or in d
 pub record Writable (d : List ℕ) (c : Course) : Type 0 where

@@ -1,0 +1,18 @@
+-- `mover::courses::pairs` tries all, and all but one. Assumes nothing.
+use native.Mathlib.Omega.{arith}
+use borrow.Author.Needs.{needs}
+use Rattle.mover.proofs.courses.pairs.Statement.{statement}
+use Rattle.mover.proofs.courses.pairs.Tie as tie
+
+pub pairs-spec : {M : Type 1} → statement M
+pairs-spec =
+    tie.close
+    (tie.spec
+    (λ c κs. search needs)
+    (λ c. (omega arith, λ _. c .before .are-pairs .ensures (c .if1 .taken)))
+    (λ c. search needs)
+    (λ c κs. search needs)
+    (λ c. search needs)
+    (λ c. (omega arith, λ _. c .before .are-pairs2 .ensures (c .if3 .taken)))
+    (λ c. search needs)
+    (λ c. search needs))
