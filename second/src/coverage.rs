@@ -1,7 +1,7 @@
 //! What a long comparison has to meet: each call with everything that it can give and with arguments of a wrong length,
 //! each state of a slot in each call that takes a table, each case of an element size, of a count, of a destination
-//! offset, of a list, of elements that are moved, of a fill and of a record, each two numbers for one call, each reason
-//! for which a line is no call, and each case of `rmvshow` and `rmvlist`.
+//! offset, of a list, of elements that are moved, of a fill and of a record, each way of a move, each two numbers for one
+//! call, each reason for which a line is no call, and each case of `rmvshow` and `rmvlist`.
 
 use crate::calls::{Call, Calls, Gives};
 use crate::count_cases;
@@ -16,6 +16,7 @@ use crate::show_list;
 use crate::size_cases;
 use crate::stretch_cases;
 use crate::transfers::{DONE, FREE, PREPARED, RUNNING};
+use crate::way_cases;
 use crate::wire::begin;
 
 /// The reasons behind `ff`; ff04 is counted with the call that the line names.
@@ -170,6 +171,7 @@ fn cases_told_apart(call: &Call) -> Vec<String> {
         fill_cases::cases,
         record_cases::cases,
         refusal_cases::cases,
+        way_cases::cases,
     ];
     cases.iter().flat_map(|cases| cases(call.number)).collect()
 }
@@ -185,6 +187,7 @@ fn cases_met(bytes: &[u8], expected: &[u8]) -> Vec<String> {
         fill_cases::met,
         record_cases::met,
         refusal_cases::met,
+        way_cases::met,
     ];
     met.iter().flat_map(|met| met(bytes, expected)).collect()
 }

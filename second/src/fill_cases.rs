@@ -89,7 +89,7 @@ fn is_padded(moved: &Moved) -> bool {
     moved.elements.iter().any(|element| !element.is_kept)
 }
 
-fn all_differ(fill: u32) -> bool {
+pub fn all_differ(fill: u32) -> bool {
     let bytes = fill.to_le_bytes();
     (0..4).all(|a| !bytes[..a].contains(&bytes[a]))
 }

@@ -16,6 +16,7 @@ mod list;
 mod list_cases;
 mod moves;
 mod offset_cases;
+mod pieces;
 mod plain;
 mod random;
 mod ready_made;
@@ -31,6 +32,8 @@ mod tensor;
 #[cfg(test)]
 mod tests;
 mod transfers;
+mod way_cases;
+mod ways;
 mod wire;
 
 use std::io::{Read, Write};

@@ -20,6 +20,8 @@ mod sizes;
 mod spoil;
 mod stretches;
 mod values;
+mod way_planes;
+mod ways;
 
 use crate::lines::hex;
 use crate::random::Random;
@@ -92,6 +94,7 @@ const KINDS: &[Kind] = &[
     (6, joins::join),
     (24, stretches::advance),
     (4, stretches::transfer),
+    (60, ways::any_way),
     (22, records::read),
     (16, records::write),
     (4, records::lengths),
@@ -140,7 +143,7 @@ pub fn calls(count: usize, seed: u64) -> Vec<u8> {
 }
 
 /// What is drawn once in a run: two numbers for one call, lines of wrong lengths, the longest lines, the largest numbers,
-/// elements of each size, records and lists spoiled in every way, and fills where none may be.
+/// elements of each size, records and lists spoiled in every way, fills where none may be, and moves of each way.
 fn once(work: &mut Work) {
     refusals::every_wrap(work);
     refusals::every_sub_tensor_pair(work);
@@ -165,6 +168,7 @@ fn once(work: &mut Work) {
     lists::every_pair(work);
     lists::every_fill(work);
     lists::long(work);
+    ways::every_way(work);
 }
 
 /// Long lines.

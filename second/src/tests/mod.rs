@@ -19,6 +19,7 @@ mod sizes;
 mod stretches;
 mod transfers;
 mod versions;
+mod ways;
 
 use crate::calls::Calls;
 use crate::moves::{move_plane, Answer, Config};
