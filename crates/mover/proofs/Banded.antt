@@ -152,7 +152,6 @@ module _ {o : Origin} {p : Plan} {s d₀ : List ℕ} {from budget : ℕ} {d : Li
   pub band-asks : Banded o p s d (u .row) b
   band-asks = record {
     sized = r .sized;
-    some = some;
     axis = r .axes .in3;
     places = λ i j hi hj. rw (its-place i j hi hj) (omega (arith, place-most p c0 c1 (c2 + i) j (its-within i j hi hj), r .need));
     homes = λ i j hi k. rw (its-home i j hi k) (omega (arith, home-most p c0 c1 (c2 + i) j (its-kept i j hi ∙ k), r .span));

@@ -5,7 +5,7 @@ use mathlib.Core.Logic.{_⊎_, ⊎-elim, inl, inr}
 use mathlib.Core.Bool.{Bool, true, false, _&&_}
 use mathlib.Core.List.{List}
 use Prim.Native.Nat.{ℕ, _+_, _-_, _*_, _/_, _%_, _^_, min, _≤_, _<_}
-use native.Mathlib.Nat.{zero-mul, mul-le-mul-right, div-add-mod', min-le-left, min-le-right}
+use native.Mathlib.Nat.{mul-le-mul-right, div-add-mod', min-le-left, min-le-right}
 use native.Mathlib.Omega.{arith}
 use borrow.Author.Tests.{lt-leb, le-leb, le-ltb}
 use lib.ListN.{length, take, drop}
@@ -55,14 +55,6 @@ rows-fit e left n {rows} q =
     omega (arith, mul-le-mul-right e l, div-add-mod' left e)
 
 module _ (x : Axis) (e : ℕ) (outer : Bool) (c left : ℕ) where
-  pub band-none : {b : Band} → b .rows ≡ 0 → b .elements ≡ 0 → c ≤ x .extent → BandAt x e outer c left b
-  band-none z f l = record {
-    within = omega arith;
-    same = λ k h. absurd (omega arith);
-    elements = f ∙ rw z (sym (zero-mul e));
-    paid = omega arith;
-  }
-
   pub band-some : {run : Run} {rows : ℕ} (most : ℕ) → Alike x outer c left run → rows ≡ min (min (run .n) most) (left / e)
       → BandAt x e outer c left (record { kept = run .kept; rows = rows; elements = rows * e })
   band-some {run} {rows} most a q =

@@ -4,11 +4,11 @@ use mathlib.Core.Logic.{_⊎_, ⊎-elim, inl, inr}
 use mathlib.Core.Bool.{Bool, true, false, cond}
 use mathlib.Core.List.{List, [], _∷_, _++_}
 use Prim.Native.Nat.{ℕ, zero, suc, _+_, _≤_, _<_}
-use native.Mathlib.Nat.{min-le-left, add-zero, add-suc, suc-add}
+use native.Mathlib.Nat.{min-le-left, add-zero, add-suc, suc-add, not-suc-le-zero, le-of-suc-le-suc}
 use native.Mathlib.Numerals.{add-one}
 use native.Mathlib.Omega.{arith}
-use lib.ListN.{length, getD, set, take, drop, length-take, length-drop}
-use lib.Seq.{sets, getD-set-other, ext-getD, length-take-le, getD-take, take-suc, take-add, drop-drop, getD-drop}
+use lib.ListN.{length, getD, set, take, drop, length-set, length-take, length-drop}
+use lib.Seq.{sets, getD-set-same, getD-set-other, ext-getD, length-take-le, getD-take, take-suc, take-add, drop-drop, getD-drop}
 use Rattle.mover.specs.declared.elements.Origin.{Origin}
 use Rattle.mover.specs.declared.elements.Origin.the-variants.{Lent, Inside}
 use Rattle.mover.specs.Private.Elements.{sourceBytes}
@@ -20,9 +20,17 @@ getD-sets-out (v ∷ vs) l i k h =
     getD-sets-out vs (set l i v) (suc i) k (⊎-elim (λ a. inl (omega arith)) (λ b. inr (omega arith)) h)
     ∙ getD-set-other l i k v 0 (λ e. ⊎-elim {C = ⊥} (λ a. omega arith) (λ b. omega arith) h)
 
+-- the i-th of the bytes stored at a place
+pub sets-inside : (vs l : List ℕ) (at i : ℕ) → i < length vs → at + length vs ≤ length l → getD (sets l at vs) (at + i) 0 ≡ getD vs i 0
+sets-inside [] l at i h m = absurd (not-suc-le-zero h)
+sets-inside (v ∷ vs) l at zero h m =
+    rw add-zero (getD-sets-out vs (set l at v) (suc at) at (inl (omega arith)) ∙ getD-set-same l at v 0 (omega arith))
+sets-inside (v ∷ vs) l at (suc i) h m =
+    rw (add-suc, ← suc-add) (sets-inside vs (set l at v) (suc at) i (le-of-suc-le-suc h) (rw length-set (omega arith)))
+
 -- ---- an element stored byte by byte
 
-sets-snoc : (l : List ℕ) (i : ℕ) (vs : List ℕ) (a : ℕ) → sets l i (vs ++ (a ∷ [])) ≡ set (sets l i vs) (i + length vs) a
+pub sets-snoc : (l : List ℕ) (i : ℕ) (vs : List ℕ) (a : ℕ) → sets l i (vs ++ (a ∷ [])) ≡ set (sets l i vs) (i + length vs) a
 sets-snoc l i [] a = rw add-zero
 sets-snoc l i (v ∷ vs) a = rw (add-suc, ← suc-add) (sets-snoc (set l i v) (suc i) vs a)
 

@@ -11,8 +11,7 @@ use lib.Dec.{T}
 use lib.ListN.{length, getD, take, drop, length-drop}
 use lib.Seq.{sets, length-sets, length-take-le, ext-getD, getD-take, getD-drop}
 use Rattle.mover.specs.Private.Shuffles.{made, turn, zipped}
-use Rattle.mover.proofs.Bytes.{getD-sets-out}
-use Rattle.mover.proofs.Blocking.{sets-inside}
+use Rattle.mover.proofs.Bytes.{getD-sets-out, sets-inside}
 
 pub length-made : (n : ℕ) (f : ℕ → ℕ) → length (made n f) ≡ n
 unfolding made

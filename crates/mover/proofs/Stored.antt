@@ -1,32 +1,23 @@
 -- What `moved` leaves at each byte, for places that rise with the numbers. Assumes nothing.
 use Prim.Native.Nat.{ℕ, zero, suc, _+_, _*_, _≤_, _<_}
-use native.Mathlib.Nat.{add-zero, add-suc, suc-add, not-suc-le-zero, le-of-suc-le-suc, eq-or-lt-of-le}
+use native.Mathlib.Nat.{not-suc-le-zero, le-of-suc-le-suc, eq-or-lt-of-le}
 use native.Mathlib.Omega.{arith}
 use mathlib.Core.Path.{_≡_, refl, _∙_}
 use mathlib.Core.Logic.{_⊎_, ⊎-elim, inl, inr}
-use mathlib.Core.List.{List, [], _∷_}
-use lib.ListN.{length, getD, set, drop, length-set}
-use lib.Seq.{sets, getD-set-same}
+use mathlib.Core.List.{List}
+use lib.ListN.{length, getD, drop}
 use Rattle.plane.specs.declared.Tensor.{Tensor}
 use Rattle.plane.specs.declared.Config.{Config}
 use Rattle.plane.proofs.Numbers.{length-little}
 use Rattle.mover.specs.Element.{areKept, sourcePlace, padded, element}
 use Rattle.mover.specs.Moved.{total, coordOf, stored, moved}
 use Rattle.mover.specs.Demand2.{byteAt}
-use Rattle.mover.proofs.Bytes.{getD-sets-out, length-cond}
+use Rattle.mover.proofs.Bytes.{getD-sets-out, sets-inside, length-cond}
 use Rattle.mover.proofs.Laws.{moved-length}
 
 -- the byte at which element number q starts
 abbrev pub byteOf : Tensor → Config → ℕ → ℕ
 byteOf t c q = byteAt t c (coordOf t c q)
-
--- the i-th of the bytes stored at a place
-sets-inside : (vs l : List ℕ) (at i : ℕ) → i < length vs → at + length vs ≤ length l → getD (sets l at vs) (at + i) 0 ≡ getD vs i 0
-sets-inside [] l at i h m = absurd (not-suc-le-zero h)
-sets-inside (v ∷ vs) l at zero h m =
-    rw add-zero (getD-sets-out vs (set l at v) (suc at) at (inl (omega arith)) ∙ getD-set-same l at v 0 (omega arith))
-sets-inside (v ∷ vs) l at (suc i) h m =
-    rw (add-suc, ← suc-add) (sets-inside vs (set l at v) (suc at) i (le-of-suc-le-suc h) (rw length-set (omega arith)))
 
 pub length-padded : (t : Tensor) (c : Config) → length (padded t c) ≡ t .«element_size»
 unfolding padded

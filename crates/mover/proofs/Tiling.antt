@@ -12,8 +12,8 @@ use lib.Seq.{sets, length-take-le, getD-take, getD-drop}
 use Rattle.mover.specs.Private.Adding.{along}
 use Rattle.mover.specs.Private.Runs.{runStored, Held}
 use Rattle.mover.specs.Private.Shuffles.{made, tileOf, splitOf, mergedOf}
-use Rattle.mover.proofs.Bytes.{getD-sets-out}
-use Rattle.mover.proofs.Blocking.{sets-inside, block-read}
+use Rattle.mover.proofs.Bytes.{getD-sets-out, sets-inside}
+use Rattle.mover.proofs.Blocking.{block-read}
 use Rattle.mover.proofs.Runs.{length-run, run-out}
 use Rattle.mover.proofs.Shuffled.{made-by, made-snoc, made-alike, at-each, length-zipped, zips, turns, getD-zips}
 

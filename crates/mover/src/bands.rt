@@ -1,5 +1,5 @@
-// Bands: whole rows of a layer that are moved together. Where a band begins and ends is worked out once for it, and it has 9 elements or
-// more.
+// Bands: whole rows of a layer that are moved together. Where a band begins and ends is worked out once for it, by products and a
+// quotient.
 use crate::alike::least;
 use crate::alike::run_at;
 use crate::elements::Origin;
@@ -45,6 +45,7 @@ fn most_rows(e: usize) -> usize
     64
 }
 
+// The frame of a plan's bands, worked out once a step.
 pub(crate) fn frame_of(plan: Plan) -> Frame
     requires { ⌜ GoodAxis (plan .d3) ⌝ }
     requires { ⌜ (plan .d3 .extent - 1) * plan .d3 .stride < 2 ^ 64 ⌝ }
@@ -67,19 +68,8 @@ pub(crate) fn frame_of(plan: Plan) -> Frame
     }
 }
 
-// No rows.
-fn none() -> Band
-    ensures { λ r. ⌜ (r .rows ≡ 0) × (r .elements ≡ 0) ⌝ }
-{
-    Band {
-        kept: false,
-        rows: 0,
-        elements: 0,
-    }
-}
-
 // The band from row c on of a dimension x, each row of e elements: as many rows as are alike, and `left` pays for, and `most` at the most.
-// None where that is fewer than 9 elements.
+// It has no rows where `left` does not pay for one.
 pub(crate) fn band_at(x: Axis, e: usize, most: usize, outer: bool, c: usize, left: usize) -> Band
     requires { ⌜ x .pre + x .count ≤ x .extent ⌝ }
     requires { ⌜ (c < x .extent) × (0 < e) ⌝ }
@@ -89,9 +79,6 @@ pub(crate) fn band_at(x: Axis, e: usize, most: usize, outer: bool, c: usize, lef
     let run = run_at(x, outer, c, left);
     let rows = least(least(run.n, most), left / e);
     let elements = rows * e;
-    if elements < 9 {
-        return none();
-    }
     Band {
         kept: run.kept,
         rows,
@@ -99,7 +86,7 @@ pub(crate) fn band_at(x: Axis, e: usize, most: usize, outer: bool, c: usize, lef
     }
 }
 
-// The columns of a plan's rows from one on, of which the first stands at `at` and goes to `to`.
+// Some columns of some rows of a plan; the first element stands at `at` and goes to `to`.
 fn patch(plan: Plan, at: usize, to: usize, rows: usize, columns: usize) -> Patch
     ensures { λ r. ⌜ r ≡ patchOf plan at to rows columns ⌝ }
 {
@@ -142,10 +129,10 @@ pub(crate) fn move_band(
         pad_patch(dst, patch(plan, row.at, row.to, n, x.pre));
         let first = wrapping_add_usize(row.to, f.front);
         copy_patch(src, dst, origin, patch(plan, row.at, first, n, x.count));
-        let behind = wrapping_add_usize(row.to, f.rear);
+        let rear = wrapping_add_usize(row.to, f.rear);
         pad_patch(
             dst,
-            patch(plan, row.at, behind, n, x.extent - x.pre - x.count),
+            patch(plan, row.at, rear, n, x.extent - x.pre - x.count),
         );
         return;
     }

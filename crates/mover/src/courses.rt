@@ -50,7 +50,7 @@ fn are_pairs(room: usize, at: usize, n: usize) -> bool
     false
 }
 
-// How many of n pairs do: all, or all but the last.
+// How many of n pairs do: all, or all but the last, or it is not looked further.
 fn pairs(room: usize, at: usize, n: usize) -> usize
     ensures { λ r. ⌜ (r ≤ n) × (0 < r → at + r + r ≤ room) ⌝ }
 {
@@ -96,6 +96,7 @@ fn copy_evens(src: &[u8], dst: &mut [u8], origin: Origin, c: Course) -> usize
     copy_each(src, dst, origin, rest)
 }
 
+// Whether a run takes every second byte to bytes side by side.
 fn are_evens(c: Course) -> bool
     ensures { λ r. ⌜ (r ≡ true → Evens c) ⌝ }
 {

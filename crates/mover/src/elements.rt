@@ -15,7 +15,7 @@ pub(crate) enum Origin {
     Inside,
 }
 
-// A run as the leaves take it: n elements of `size` bytes, the first from `at` to `to`, each a jump and a stride further, in bytes. A
+// A run: n elements of `size` bytes, the first from `at` to `to`, each a jump and a stride further, in bytes. A
 // padded element holds the first bytes of `pad`.
 pub(crate) struct Course {
     pub(crate) at: usize,

@@ -1,6 +1,6 @@
 // The loops of a move: destination elements in destination order, the last coordinate fastest, from any element on, until the
 // budget is spent. The innermost goes on by runs. Between two elements places go on by adding alone: after `begin`, nothing here nor
-// in what is called multiplies or divides. What the loops are handed was worked out and accepted by the rules.
+// in what is called works a place out by multiplying or dividing. What the loops are handed was worked out and accepted by the rules.
 use crate::alike::Run;
 use crate::alike::kept;
 use crate::alike::run_at;

@@ -73,7 +73,7 @@ pub(crate) fn copy_blocks(src: &[u8], dst: &mut [u8], c: Course)
     }
 }
 
-// Every second of 32 bytes: a pair is one number, so that the compiler takes them all at once.
+// 16 pairs of bytes, each as one number, so that the compiler takes them all at once.
 fn pairs(src: &[u8], from: usize) -> [u16; 16]
     requires { ⌜ from + 32 ≤ length (now src) ⌝ }
     ensures { λ r. ⌜ r ≡ made 16 (λ k. getD (now (src .entry)) (from + 2 * k) 0 + getD (now (src .entry)) (from + 2 * k + 1) 0 * 256) ⌝ }
@@ -89,6 +89,7 @@ fn pairs(src: &[u8], from: usize) -> [u16; 16]
     a
 }
 
+// The low byte of each.
 fn lows(a: [u16; 16]) -> [u8; 16]
     ensures { λ r. ⌜ r ≡ made 16 (λ k. getD a k 0 % 256) ⌝ }
 {
@@ -101,6 +102,7 @@ fn lows(a: [u16; 16]) -> [u8; 16]
     o
 }
 
+// Every second of 32 bytes.
 pub(crate) fn read_evens(src: &[u8], at: usize) -> [u8; 16]
     requires { ⌜ at + 32 ≤ length (now src) ⌝ }
     ensures { λ r. ⌜ r ≡ made 16 (λ k. getD (now (src .entry)) (at + 2 * k) 0) ⌝ }

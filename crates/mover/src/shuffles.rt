@@ -1,5 +1,5 @@
-// Leaves: elements of a local array put into another order. A perfect shuffle takes the halves of an array in turn, so it turns the bits of
-// an element's number by one; some of them, one after the other, exchange rows and columns.
+// Leaves: elements of a local array put into another order. A shuffle takes the halves of an array in turn: element k of the first half
+// goes to 2k, of the second to 2k + 1. Some of them, one after the other, exchange rows and columns.
 use crate::elements::Course;
 use crate::elements::Origin;
 use crate::elements::copy;

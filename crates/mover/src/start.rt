@@ -1,5 +1,5 @@
-// Where a step begins: the coordinates of an element from its number, and its spots from the coordinates. Besides the plan, only this
-// multiplies and divides, once a step.
+// Where a step begins: the coordinates of an element from its number, and its spots from the coordinates. This
+// multiplies and divides: once a step, and `spot_at` once a band.
 use crate::plan::Axis;
 use crate::plan::Plan;
 use crate::spots::Spot;

@@ -17,7 +17,9 @@ fn is_short(plan: Plan, budget: usize) -> bool {
         return true;
     }
     if plan.d2.extent == 1 {
-        return plan.d1.extent == 1;
+        if plan.d1.extent == 1 {
+            return plan.d0.extent == 1;
+        }
     }
     false
 }

@@ -6,8 +6,7 @@ use crate::tiles::Tile;
 use crate::tiles::copy_tile;
 use std::num::wrapping_add_usize;
 ghost use mathlib.Core.Path.{_≡_};
-ghost use Prim.Native.Nat.{_*_, _%_, _^_};
-ghost use Rattle.mover.specs.Private.Patches.{Tiled, Turns, acrossOf, sixteenthOf, stepOf, tileColumns, patchCopied, PatchFits, PatchReads};
+ghost use Rattle.mover.specs.Private.Patches.{Tiled, Turns, acrossOf, sixteenthOf, stepOf, patchCopied, PatchFits, PatchReads};
 
 // From a tile to the next: how many columns, and how far in source and destination.
 pub(crate) struct Step {
@@ -16,7 +15,7 @@ pub(crate) struct Step {
     pub(crate) stride: usize,
 }
 
-// As many elements as 16 bytes have, each j from the next: how far the next 16 bytes are, by adding.
+// How far on element number 16 / size is, where elements are j apart: by adding.
 fn across(size: usize, j: usize) -> usize
     ensures { λ r. ⌜ r ≡ acrossOf size j ⌝ }
 {
@@ -45,6 +44,7 @@ fn sixteenth(size: usize) -> usize
     16
 }
 
+// The step of a kind of tile.
 fn step_of(tile: Tile, p: Patch) -> Step
     ensures { λ r. ⌜ r ≡ stepOf tile p ⌝ }
 {

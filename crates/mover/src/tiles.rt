@@ -24,6 +24,8 @@ pub(crate) enum Tile {
     Merged, // three rows are the channels, and the pixels are put side by side
 }
 
+// Tiles of the source, wherever its bytes stand: rows and columns exchanged, of elements of 1, 2 and 4 bytes; pixels taken apart; and
+// pixels put together.
 fn ones(src: &[u8], dst: &[u8], origin: Origin, at: usize, jump: usize) -> [u8; 256]
     requires { ⌜ Held (length (sourceBytes origin (now src) (now dst))) at jump 16 16 ⌝ }
     ensures { λ r. ⌜ r ≡ tileOf 1 (sourceBytes origin (now (src .entry)) (now (dst .entry))) at jump ⌝ }

@@ -11,10 +11,9 @@ use crate::strips::copy_strips;
 use crate::tiles::Tile;
 ghost use mathlib.Core.Path.{_≡_};
 ghost use mathlib.Core.Bool.{true};
-ghost use Prim.Native.Nat.{_<_};
-ghost use Rattle.mover.specs.Private.Patches.{Tiled, Turns, Lines, swappedOf, patchCopied, patchPadded, PatchFits, PatchReads};
+ghost use Rattle.mover.specs.Private.Patches.{Tiled, Turns, Lines, patchCopied, patchPadded, PatchFits, PatchReads};
 
-// Whether there are rows, and each is a run of bytes.
+// Whether there are two rows or more, and each is a run of bytes. A single one is copied in longer blocks.
 fn are_lines(p: Patch) -> bool
     ensures { λ r. ⌜ (r ≡ true → Lines p) ⌝ }
 {
@@ -58,7 +57,7 @@ fn is_merged(p: Patch) -> bool
     false
 }
 
-// Whether rows and columns are exchanged, of elements that are no three bytes.
+// Whether rows and columns are exchanged, of elements of 1, 2 or 4 bytes.
 fn turns(p: Patch) -> bool
     ensures { λ r. ⌜ (r ≡ true → Turns p) ⌝ }
 {

@@ -50,7 +50,6 @@ pub record BandAt (x : Axis) (e : ℕ) (outer : Bool) (c left : ℕ) (b : Band) 
 -- destination elements do
 pub record Banded (o : Origin) (p : Plan) (s d : List ℕ) (u : Spot) (b : Band) : Type 0 where
   pub sized : Sized (p .size)
-  pub some : 0 < b .rows
   pub axis : GoodAxis (p .d3)
   pub places : (i j : ℕ) → i < b .rows → j < p .d3 .extent → bandPlace p u i j + p .size ≤ length d
   pub homes : (i j : ℕ) → i < b .rows → (b .kept && axisKept (p .d3) j) ≡ true → bandHome p u i j + p .size ≤ length (sourceBytes o s d)

@@ -1,4 +1,4 @@
--- Runs: neighbours in a row that are all kept or all padding, and what the leaves make of one.
+-- Runs: neighbours in a row, or rows, that are all kept or all padding, and what moving one leaves.
 use mathlib.Core.Path.{_≡_}
 use mathlib.Core.Logic.{_⊎_}
 use mathlib.Core.Bool.{Bool, cond, _&&_}
@@ -67,7 +67,7 @@ courseMoved o kept s d c = runStored (eitherBytes kept (sourceBytes o s d) c) (c
 abbrev pub runMoved : Origin → Plan → List ℕ → List ℕ → Spot → Run → List ℕ
 runMoved o p s d u r = courseMoved o (r .kept) s d (courseOf p u r)
 
--- ---- what the leaves ask
+-- ---- what a run asks
 
 -- n elements, the first at a and each j further, lie in l bytes
 abbrev pub Held : ℕ → ℕ → ℕ → ℕ → ℕ → Type 0

@@ -1,9 +1,9 @@
--- `mover::bands::band_at` takes the rows that are alike and paid for, or none. Assumes nothing.
+-- `mover::bands::band_at` takes the rows that are alike and paid for. Assumes nothing.
 use mathlib.Core.Path.{_≡_, ap, _∙_}
 use Prim.Native.Nat.{ℕ, _/_, min}
 use native.Mathlib.Omega.{arith}
 use borrow.Author.Needs.{needs}
-use Rattle.mover.proofs.Banding.{band-none, band-some, rows-fit}
+use Rattle.mover.proofs.Banding.{band-some, rows-fit}
 use Rattle.mover.proofs.bands.band_at.Statement.{statement}
 use Rattle.mover.proofs.bands.band_at.Tie as tie
 
@@ -20,25 +20,9 @@ mul-elements c =
 
 returns : tie.Need-returns
 returns c =
-    let s = c .before .before .before .before .before in
+    let s = c .before .before .before in
     let a = s .args in
-    band-none (a .x) (a .e) (a .outer) (a .c) (a .left) (c .none .ensures .0) (c .none .ensures .1) (omega (arith, s .pre .1 .0 .0))
-
-returns-2 : tie.Need-returns-2
-returns-2 c =
-    let s = c .before .before .before .before in
-    let a = s .args in
-    band-some (a .x) (a .e) (a .outer) (a .c) (a .left) (a .most) (c .before .before .before .run-at .ensures) (some (c .before))
+    band-some (a .x) (a .e) (a .outer) (a .c) (a .left) (a .most) (c .before .before .run-at .ensures) (some c)
 
 pub band-at-spec : {M : Type 1} → statement M
-band-at-spec =
-    tie.close
-    (tie.spec
-    (λ c κs. search needs)
-    (λ c κs. search needs)
-    (λ c. search needs)
-    (λ c κs. search needs)
-    mul-elements
-    (λ c κs. search needs)
-    returns
-    returns-2)
+band-at-spec = tie.close (tie.spec (λ c κs. search needs) (λ c κs. search needs) (λ c. search needs) (λ c κs. search needs) mul-elements returns)
