@@ -34,6 +34,11 @@ module _ (a j : ℕ) where
   unfolding along
   along-on k n = mod-add-mod (a + k * j) (2 ^ 64) (n * j) ∙ ap (λ (y : ℕ). y % 2 ^ 64) (rw (add-mul k n j) (add-assoc a (k * j) (n * j)))
 
+-- where the sum fits
+pub along-is : (a j k : ℕ) → a + k * j < 2 ^ 64 → along a j k ≡ a + k * j
+unfolding along
+along-is a j k h = mod-eq-of-lt h
+
 -- a jump down, as a source has that counts down: one add serves both directions
 pub along-down : (a j k : ℕ) → a < 2 ^ 64 → j ≤ 2 ^ 64 → k * j ≤ a → along a (2 ^ 64 - j) k ≡ a - k * j
 along-down a j zero fa fj h = rw (zero-mul j, sub-zero a) (along-none a (2 ^ 64 - j) fa)

@@ -4,7 +4,7 @@ use mathlib.Core.Logic.{_⊎_, ⊎-elim, inl, inr}
 use native.Mathlib.Decide.{decLt}
 use mathlib.Core.List.{List}
 use Prim.Native.Nat.{ℕ, zero, suc, _+_, _-_, _*_, _/_, _%_, _^_, _≤_, _<_}
-use native.Mathlib.Nat.{zero-add, add-zero, add-suc, mul-one, zero-mul, suc-mul, mod-lt, mod-eq-of-lt, div-add-mod', div-lt-iff-lt-mul}
+use native.Mathlib.Nat.{zero-add, add-zero, add-suc, mul-one, zero-mul, suc-mul, mul-le-mul-right, mod-lt, mod-eq-of-lt, div-add-mod', div-lt-iff-lt-mul}
 use native.Mathlib.Numerals.{add-one}
 use native.Mathlib.Omega.{arith}
 use lib.ListN.{length, take, drop}
@@ -18,7 +18,7 @@ use Rattle.mover.specs.Private.Runs.{elementCopied, runStored, keptBytes
 use Rattle.mover.proofs.Places.{apart-part, still-held}
 use Rattle.plane.proofs.Bounds.{element-small}
 use Rattle.mover.proofs.Bytes.{getD-sets-out, length-take-most, bytes-same, block-append, copied-one, source-long, copy-more}
-use Rattle.mover.proofs.Adding.{along-none, along-next, along-on}
+use Rattle.mover.proofs.Adding.{along-none, along-next, along-on, along-is}
 
 -- ---- places
 
@@ -32,8 +32,7 @@ along-one a k = rw (mul-one k)
 
 -- single bytes on, where the sum fits
 along-ones : (a z : ℕ) → a + z < 2 ^ 64 → along a 1 z ≡ a + z
-unfolding along
-along-ones a z h = rw (mul-one z) (mod-eq-of-lt h)
+along-ones a z h = along-is a 1 z (rw (mul-one z) h) ∙ rw (mul-one z)
 
 module _ (l a z : ℕ) (fa : a < 2 ^ 64) (fl : l < 2 ^ 64) where
   -- elements that lie in l bytes do not wrap
@@ -67,9 +66,24 @@ module _ (l a z : ℕ) (fa : a < 2 ^ 64) (fl : l < 2 ^ 64) where
             let e = plain (suc n) h n (omega arith) in
             rw suc-mul (omega (arith, h n (omega arith)))
 
--- n bytes that lie in l of them
+-- m elements of z bytes that lie in l bytes
+pub all-lie : (l a z m : ℕ) → a < 2 ^ 64 → l < 2 ^ 64 → Held l a z z m → 0 < m → a + m * z ≤ l
+all-lie l a z m fa fl h p =
+    let e = plain l a z fa fl m h (m - 1) (omega arith) in
+    let s : suc (m - 1) ≡ m = omega arith in
+    let v = suc-mul (m - 1) z in
+    let w : m * z ≡ (m - 1) * z + z = rw s at v in
+    omega (arith, h (m - 1) (omega arith))
+
 pub ones-lie : (l a n : ℕ) → a < 2 ^ 64 → l < 2 ^ 64 → Held l a 1 1 n → 0 < n → a + n ≤ l
-ones-lie l a n fa fl h p = omega (arith, h (n - 1) (omega arith), rw mul-one at (plain l a 1 fa fl n h (n - 1) (omega arith)))
+ones-lie l a n fa fl h p = rw (mul-one n) at (all-lie l a 1 n fa fl h p)
+
+-- n blocks of `width` bytes side by side, from the first byte on
+pub rows-held : (l width n : ℕ) → n * width ≤ l → l < 2 ^ 64 → Held l 0 width width n
+rows-held l width n h f i hi =
+    let g : i ≤ n = omega arith in
+    let k : suc i ≤ n = hi in
+    rw (along-is 0 width i (omega (arith, mul-le-mul-right width g))) (omega (arith, mul-le-mul-right width k, suc-mul i width))
 
 -- ---- bytes
 

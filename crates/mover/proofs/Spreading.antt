@@ -2,7 +2,7 @@
 use mathlib.Core.Path.{_≡_, refl, sym, ap, subst, _∙_}
 use mathlib.Core.List.{List, []}
 use Prim.Native.Nat.{ℕ, zero, suc, _+_, _-_, _*_, _/_, _%_, _^_, _≤_, _<_}
-use native.Mathlib.Nat.{zero-add, mul-one, mod-eq-of-lt, mod-add-mod, mul-le-mul-right, suc-mul}
+use native.Mathlib.Nat.{zero-add, mul-one, mod-add-mod, mul-le-mul-right, suc-mul}
 use native.Mathlib.Decide.{decLt}
 use native.Mathlib.Omega.{arith}
 use lib.ListN.{length, getD, take, drop, length-drop, length-append}
@@ -17,28 +17,14 @@ use Rattle.mover.specs.Private.Patches.{rowsStored, sixteenthOf, rowsIn,
 use Rattle.mover.specs.Private.Shuffles.{made, tileOf, splitOf, mergedOf}
 use Rattle.plane.proofs.Bounds.{element-small}
 use Rattle.mover.proofs.Bytes.{source-long}
-use Rattle.mover.proofs.Adding.{along-fits}
-use Rattle.mover.proofs.Blocks.{sided, whole, bytes-run, bytes-held, plain}
+use Rattle.mover.proofs.Adding.{along-fits, along-is}
+use Rattle.mover.proofs.Blocks.{sided, whole, bytes-run, bytes-held, plain, all-lie}
 use Rattle.mover.proofs.Crossing.{run-same, length-rows, along-cross}
 use Rattle.mover.proofs.Shuffled.{length-made, getD-made}
 use Rattle.mover.proofs.Patched.{swap-fits, swap-reads, swap-copied}
 use Rattle.mover.proofs.Stepping.{sixteen, sixteenth-some}
 
 -- ---- elements side by side
-
--- where the sum fits
-pub along-is : (a z k : ℕ) → a + k * z < 2 ^ 64 → along a z k ≡ a + k * z
-unfolding along
-along-is a z k h = mod-eq-of-lt h
-
--- m elements of z bytes that lie in l bytes
-pub all-lie : (l a z m : ℕ) → a < 2 ^ 64 → l < 2 ^ 64 → Held l a z z m → 0 < m → a + m * z ≤ l
-all-lie l a z m fa fl h p =
-    let e = plain l a z fa fl m h (m - 1) (omega arith) in
-    let s : suc (m - 1) ≡ m = omega arith in
-    let v = suc-mul (m - 1) z in
-    let w : m * z ≡ (m - 1) * z + z = rw s at v in
-    omega (arith, h (m - 1) (omega arith))
 
 -- as they stand in t from `at` on, they are one block
 pub row-whole : (t : List ℕ) (e : ℕ → List ℕ) (at to z m : ℕ) (d : List ℕ) → 0 < z → length t < 2 ^ 64 → length d < 2 ^ 64 → to < 2 ^ 64
@@ -184,12 +170,6 @@ rows-in t width n to stride d f =
     (λ i h.
     let g : i ≤ n = omega arith in
     ap (λ (y : ℕ). take width (drop y t)) (along-is 0 width i (omega (arith, mul-le-mul-right width g)) ∙ zero-add (i * width)))
-
-pub rows-held : (l width n : ℕ) → n * width ≤ l → l < 2 ^ 64 → Held l 0 width width n
-rows-held l width n h f i hi =
-    let g : i ≤ n = omega arith in
-    let k : suc i ≤ n = hi in
-    rw (along-is 0 width i (omega (arith, mul-le-mul-right width g))) (omega (arith, mul-le-mul-right width k, suc-mul i width))
 
 -- rows and columns exchanged
 module _ {o : Origin} {s d : List ℕ} {p : Patch} (w : PatchFits d p) (r : PatchReads o s d p) (f : length s + length d < 2 ^ 64)

@@ -4,7 +4,7 @@ use mathlib.Core.Logic.{⊎-elim, inl, inr}
 use mathlib.Core.Bool.{Bool}
 use mathlib.Core.List.{List, [], _∷_, _++_}
 use Prim.Native.Nat.{ℕ, zero, suc, _+_, _*_, _/_, _%_, _^_, min, _≤_, _<_}
-use native.Mathlib.Nat.{not-suc-le-zero, le-of-suc-le-suc, eq-or-lt-of-le, suc-mul, mul-le-mul-right, zero-add, mod-eq-of-lt}
+use native.Mathlib.Nat.{not-suc-le-zero, le-of-suc-le-suc, eq-or-lt-of-le, suc-mul, mul-le-mul-right, zero-add}
 use native.Mathlib.Omega.{arith}
 use lib.Dec.{eqb, eqb→eq}
 use lib.ListN.{length, getD, take, drop, replicate, length-drop, length-replicate}
@@ -13,6 +13,7 @@ use Rattle.mover.specs.Private.Adding.{along}
 use Rattle.mover.specs.Private.Runs.{runStored, Held}
 use Rattle.mover.specs.Private.Shuffles.{made, tileOf, splitOf, mergedOf}
 use Rattle.mover.proofs.Bytes.{getD-sets-out, sets-inside}
+use Rattle.mover.proofs.Adding.{along-is}
 use Rattle.mover.proofs.Blocking.{block-read}
 use Rattle.mover.proofs.Runs.{length-run, run-out}
 use Rattle.mover.proofs.Shuffled.{made-by, made-snoc, made-alike, at-each, length-zipped, zips, turns, getD-zips}
@@ -21,8 +22,7 @@ use Rattle.mover.proofs.Shuffled.{made-by, made-snoc, made-alike, at-ea
 
 module _ (e : ℕ → List ℕ) (z : ℕ) (d : List ℕ) (f : length d < 2 ^ 64) where
   beside : (k : ℕ) → k * z ≤ length d → along 0 z k ≡ k * z
-  unfolding along
-  beside k h = rw zero-add (mod-eq-of-lt (omega arith))
+  beside k h = along-is 0 z k (omega arith) ∙ zero-add (k * z)
 
   -- byte r of block q
   pub blocks-at : (n : ℕ) → n * z ≤ length d → ((k : ℕ) → k < n → length (e k) ≡ z) → (q r : ℕ) → q < n → r < z
@@ -52,13 +52,6 @@ module _ (e : ℕ → List ℕ) (z : ℕ) (d : List ℕ) (f : length d < 2 ^ 64)
       let i = suc-mul j z in
       let y = w j o in
       inr (rw (beside j (omega arith)) (omega arith)))
-
--- n blocks of 16 lie in l bytes
-pub beside-lie : (n l : ℕ) → n * 16 ≤ l → l < 2 ^ 64 → Held l 0 16 16 n
-unfolding along
-beside-lie n l h f k i =
-    let e : k * 16 % 2 ^ 64 ≡ k * 16 = mod-eq-of-lt (omega arith) in
-    rw (zero-add (k * 16), e) (omega arith)
 
 -- n blocks of 16 bytes, the first at `at` and each a jump further, at the start of l zeros
 abbrev pub blocksIn : List ℕ → ℕ → ℕ → ℕ → ℕ → List ℕ

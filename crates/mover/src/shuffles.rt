@@ -1,5 +1,6 @@
 // Leaves: elements of a local array put into another order. A shuffle takes the halves of an array in turn: element k of the first half
-// goes to 2k, of the second to 2k + 1. Some of them, one after the other, exchange rows and columns.
+// goes to 2k, of the second to 2k + 1. Some of them, one after the other, exchange rows and columns. `copy` moves an
+// element of any size, with the array for a lent source.
 use crate::elements::Course;
 use crate::elements::Origin;
 use crate::elements::copy;

@@ -1,12 +1,13 @@
 -- `mover::shuffles::merge`: two shuffles of blocks side by side, and the first three of each four. Assumes nothing.
 use native.Mathlib.Omega.{arith}
 use borrow.Author.Needs.{needs}
-use Rattle.mover.proofs.Tiling.{beside-lie, merged-is}
+use Rattle.mover.proofs.Blocks.{rows-held}
+use Rattle.mover.proofs.Tiling.{merged-is}
 use Rattle.mover.proofs.shuffles.merge.Statement.{statement}
 use Rattle.mover.proofs.shuffles.merge.Tie as tie
 
 copy-blocks-requires : tie.Need-copy-blocks-requires
-copy-blocks-requires c κs = (c .before .before .pre, beside-lie 3 64 (omega arith) (omega arith))
+copy-blocks-requires c κs = (c .before .before .pre, rows-held 64 16 3 (omega arith) (omega arith))
 
 returns : tie.Need-returns
 returns c =

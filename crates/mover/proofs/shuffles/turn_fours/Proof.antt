@@ -1,12 +1,13 @@
 -- `mover::shuffles::turn_fours`: two shuffles of blocks side by side. Assumes nothing.
 use native.Mathlib.Omega.{arith}
 use borrow.Author.Needs.{needs}
-use Rattle.mover.proofs.Tiling.{beside-lie, fours-are}
+use Rattle.mover.proofs.Blocks.{rows-held}
+use Rattle.mover.proofs.Tiling.{fours-are}
 use Rattle.mover.proofs.shuffles.turn_fours.Statement.{statement}
 use Rattle.mover.proofs.shuffles.turn_fours.Tie as tie
 
 copy-blocks-requires : tie.Need-copy-blocks-requires
-copy-blocks-requires c κs = (c .before .before .pre, beside-lie 4 64 (omega arith) (omega arith))
+copy-blocks-requires c κs = (c .before .before .pre, rows-held 64 16 4 (omega arith) (omega arith))
 
 returns : tie.Need-returns
 returns c =

@@ -1,12 +1,13 @@
 -- `mover::shuffles::turn_ones`: four shuffles of blocks side by side. Assumes nothing.
 use native.Mathlib.Omega.{arith}
 use borrow.Author.Needs.{needs}
-use Rattle.mover.proofs.Tiling.{beside-lie, ones-are}
+use Rattle.mover.proofs.Blocks.{rows-held}
+use Rattle.mover.proofs.Tiling.{ones-are}
 use Rattle.mover.proofs.shuffles.turn_ones.Statement.{statement}
 use Rattle.mover.proofs.shuffles.turn_ones.Tie as tie
 
 copy-blocks-requires : tie.Need-copy-blocks-requires
-copy-blocks-requires c κs = (c .before .before .pre, beside-lie 16 256 (omega arith) (omega arith))
+copy-blocks-requires c κs = (c .before .before .pre, rows-held 256 16 16 (omega arith) (omega arith))
 
 returns : tie.Need-returns
 returns c =

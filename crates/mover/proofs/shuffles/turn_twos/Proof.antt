@@ -1,12 +1,13 @@
 -- `mover::shuffles::turn_twos`: three shuffles of blocks side by side. Assumes nothing.
 use native.Mathlib.Omega.{arith}
 use borrow.Author.Needs.{needs}
-use Rattle.mover.proofs.Tiling.{beside-lie, twos-are}
+use Rattle.mover.proofs.Blocks.{rows-held}
+use Rattle.mover.proofs.Tiling.{twos-are}
 use Rattle.mover.proofs.shuffles.turn_twos.Statement.{statement}
 use Rattle.mover.proofs.shuffles.turn_twos.Tie as tie
 
 copy-blocks-requires : tie.Need-copy-blocks-requires
-copy-blocks-requires c κs = (c .before .before .pre, beside-lie 8 128 (omega arith) (omega arith))
+copy-blocks-requires c κs = (c .before .before .pre, rows-held 128 16 8 (omega arith) (omega arith))
 
 returns : tie.Need-returns
 returns c =

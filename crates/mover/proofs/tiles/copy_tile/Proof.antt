@@ -6,7 +6,8 @@ use borrow.Author.Needs.{needs}
 use lib.ListN.{length}
 use Rattle.mover.specs.declared.tiles.Tile.{Tile}
 use Rattle.mover.specs.Private.Patches.{Tiled, tileColumns}
-use Rattle.mover.proofs.Spreading.{rows-held, length-split, length-merged, split-reads, split-writes, split-is, merged-reads, merged-writes, merged-is}
+use Rattle.mover.proofs.Blocks.{rows-held}
+use Rattle.mover.proofs.Spreading.{length-split, length-merged, split-reads, split-writes, split-is, merged-reads, merged-writes, merged-is}
 use Rattle.mover.proofs.tiles.copy_tile.Statement.{statement}
 use Rattle.mover.proofs.tiles.copy_tile.Tie as tie
 

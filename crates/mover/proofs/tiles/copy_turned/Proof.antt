@@ -9,7 +9,8 @@ use Rattle.mover.specs.Private.Elements.{sourceBytes}
 use Rattle.mover.specs.Private.Runs.{Held}
 use Rattle.mover.specs.Private.Patches.{sixteenthOf}
 use Rattle.mover.specs.Private.Shuffles.{tileOf}
-use Rattle.mover.proofs.Spreading.{rows-held, turned-reads, turned-writes, turned-is, length-tile}
+use Rattle.mover.proofs.Blocks.{rows-held}
+use Rattle.mover.proofs.Spreading.{turned-reads, turned-writes, turned-is, length-tile}
 use Rattle.mover.proofs.tiles.copy_turned.Statement.{statement}
 use Rattle.mover.proofs.tiles.copy_turned.Tie as tie
 
