@@ -1,8 +1,11 @@
--- A fault is a number of refusal with its dimension; number 0 is no fault. The first of several faults is the one given.
+-- A fault is a number of refusal with its dimension; number 0 is no fault. A call has rules, one then the other, in the paper's order:
+-- the first that is broken gives its number, with the first of its broken dimensions.
 use Prim.Native.Nat.{ℕ, zero, suc, _-_}
 use mathlib.Core.Bool.{Bool, cond}
 use lib.Dec.{eqb}
 use Rattle.faults.specs.declared.Fault.{Fault}
+
+-- ---- Faults
 
 infixr 30 _orElse_
 abbrev pub none : Fault
@@ -35,3 +38,24 @@ outward num n bad = first n (λ k. when num (n - suc k) (bad (n - suc k)))
 -- y where f is a fault, and x where it is none
 abbrev pub ifFault : {A : Type 0} → Fault → A → A → A
 ifFault f y x = cond (eqb (f .status) 0) x y
+
+-- ---- Rules
+
+infixr 30 _then_
+-- a rule has a number, and a test that tells where it is broken
+pub data Rules : Type 0 where
+  -- a rule of the whole: it names dimension 0
+  overall : ℕ → Bool → Rules
+  -- a rule of the dimensions below n: it names the lowest at fault
+  fromFirst : ℕ → ℕ → (ℕ → Bool) → Rules
+  -- a rule of the dimensions below n: it names the first met from n - 1 outward
+  fromLast : ℕ → ℕ → (ℕ → Bool) → Rules
+  -- rules, and after them others
+  _then_ : Rules → Rules → Rules
+
+-- the first rule that is broken decides
+abbrev pub firstFault : Rules → Fault
+firstFault (overall num bad) = when num 0 bad
+firstFault (fromFirst num n bad) = lowest num n bad
+firstFault (fromLast num n bad) = outward num n bad
+firstFault (r then s) = firstFault r orElse firstFault s

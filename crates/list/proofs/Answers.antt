@@ -6,18 +6,19 @@ use mathlib.Core.Path.{_≡_, refl, sym, ap, _∙_}
 use mathlib.Core.Logic.{_⊎_, inl, inr}
 use mathlib.Core.Bool.{Bool, true, false, not, _||_}
 use mathlib.Core.List.{List}
-use borrow.Author.Tests.{lt-ltb, le-ltb, eq-eqb, ne-eqb, ltb-true, ltb-false, not-false, eqb-true}
+use borrow.Author.Tests.{lt-ltb, le-ltb, lt-leb, le-leb, eq-eqb, ne-eqb, ltb-true, ltb-false, not-false, eqb-true}
 use lib.Dec.{ltb, eqb}
 use lib.ListN.{length}
 use Rattle.faults.specs.declared.Fault.{Fault}
-use Rattle.faults.specs.Faults.{fault, none, when, _orElse_}
-use Rattle.faults.proofs.Faults.{given, spared, if-fault, if-none, when-bad, when-good, when-clear, or-none, or-found, or-clear}
+use Rattle.faults.specs.Faults.{fault, none, when, ifFault}
+use Rattle.faults.proofs.Faults.{given, spared, if-fault, if-none, when-bad, when-good, when-zero, when-clear, or-clear}
+use Rattle.faults.proofs.Chains.{overall-dim}
 use Rattle.plane.specs.Arrays.{at}
 use Rattle.record.specs.Layout.{recordLength}
 use Rattle.record.specs.Records.{readOf}
 use Rattle.record.proofs.Digits.{number-two}
 use Rattle.list.specs.Layout.{listHeadLength, versionPlace, listVersion, listLength}
-use Rattle.list.specs.Lists.{countIn, badHead, badListMark, badListVersion, badCount, listFault, recordCount, recordIn, noRecord, recordAt, placeAfter}
+use Rattle.list.specs.Lists.{countIn, badHead, badListMark, badListVersion, badCount, listRules, listFault, recordCount, recordIn, numberFault, noNumber, noRecord, recordAt, placeAfter}
 
 -- ---- the head
 
@@ -60,21 +61,10 @@ module _ (bs : List ℕ) where
         pub list-0 : length bs ≡ listLength (countIn bs) → listFault bs ≡ none
         list-0 n = list-rest ∙ when-good 30 0 _ (ap not (eq-eqb (length bs) (listLength (countIn bs)) n))
 
--- a rule of the whole names dimension 0, and so does a list's fault
-pub when-plain : (num : ℕ) (b : Bool) → when num 0 b .dim ≡ 0
-unfolding when
-when-plain num true = refl
-when-plain num false = refl
-
-or-plain : (f g : Fault) → f .dim ≡ 0 → g .dim ≡ 0 → (f orElse g) .dim ≡ 0
-or-plain f g p q = elim (ℕ-discrete (f .status) 0) [
-  | yes z ↦ ap (λ (x : Fault). x .dim) (or-none f g z) ∙ q
-  | no z ↦ ap (λ (x : Fault). x .dim) (or-found f g z) ∙ p
-]
-
+-- a list's fault names dimension 0
 pub list-plain : (bs : List ℕ) → listFault bs .dim ≡ 0
 unfolding listFault
-list-plain bs = or-plain _ _ (when-plain 25 _) (or-plain _ _ (when-plain 26 _) (or-plain _ _ (when-plain 27 _) (when-plain 30 _)))
+list-plain bs = overall-dim (listRules bs) refl
 
 -- what a list has that is not refused
 pub record Good (bs : List ℕ) : Type 0 where
@@ -122,12 +112,14 @@ module _ (bs : List ℕ) where
   ]
 
   pub at-past : (k : ℕ) → recordCount bs ≤ k → recordAt bs k ≡ noRecord
-  unfolding recordAt
-  at-past k h = rw (le-ltb k (recordCount bs) h)
+  unfolding recordAt numberFault
+  at-past k h =
+      ap (λ (f : Fault). ifFault f (noNumber f) (record { number = k; reading = readOf (recordIn bs k) }))
+      (when-bad 39 0 _ (le-leb (recordCount bs) k h))
 
   pub at-in : (k : ℕ) → k < recordCount bs → recordAt bs k ≡ record { number = k; reading = readOf (recordIn bs k) }
-  unfolding recordAt
-  at-in k h = rw (lt-ltb k (recordCount bs) h)
+  unfolding recordAt numberFault
+  at-in k h = if-none (numberFault bs k) _ _ (when-zero 39 0 _ (lt-leb (recordCount bs) k h))
 
   pub after-past : (k : ℕ) → recordCount bs ≤ k → placeAfter bs k ≡ k
   unfolding placeAfter

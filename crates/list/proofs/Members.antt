@@ -22,23 +22,23 @@ module _ (t : Tensor) (c : Config) where
 
   module _ {f : Fault} (e : f ≡ fieldsFault 1 t c) where
     pub member-fields : (f .status ≡ 0 → ⊥) → memberFault t c ≡ f
-    unfolding memberFault
+    unfolding memberFault fieldsFault
     member-fields h = stopped _ e h
 
     module _ (z : f .status ≡ 0) where
       pub member-27 : (c .fill ≡ 0 → ⊥) → memberFault t c ≡ fault 27 0
-      unfolding memberFault
+      unfolding memberFault fieldsFault
       member-27 h = passed _ e z ∙ when-bad 27 0 _ (ap not (ne-eqb (c .fill) 0 h))
 
       pub member-good : c .fill ≡ 0 → memberFault t c .status ≡ 0
-      unfolding memberFault
+      unfolding memberFault fieldsFault
       member-good h = status (passed _ e z) ∙ when-zero 27 0 _ (ap not (eq-eqb (c .fill) 0 h))
 
   -- ---- what is taken
 
   module _ (z : memberFault t c .status ≡ 0) where
     pub no-fill : c .fill ≡ 0
-    unfolding memberFault
+    unfolding memberFault fieldsFault
     no-fill = eqb-true (c .fill) 0 (not-false _ (when-clear 27 0 _ (omega arith) (or-clear _ _ z .1)))
 
     pub version-one : versionFor c ≡ 1
@@ -50,12 +50,12 @@ module _ (t : Tensor) (c : Config) where
 
     -- a write accepts it
     pub member-written : fieldsFault (versionFor c) t c .status ≡ 0
-    unfolding memberFault
+    unfolding memberFault fieldsFault
     member-written = status (ap (λ (v : ℕ). fieldsFault v t c) version-one) ∙ or-clear _ _ z .0
 
   -- and it is what a write accepts into 131 bytes
   pub written-member : (n : ℕ) → n ≡ recordLength → writeFault t c n .status ≡ 0 → memberFault t c .status ≡ 0
-  unfolding writeFault memberFault
+  unfolding writeFault memberFault fieldsFault
   written-member n l z = by-test (eqb (c .fill) 0) refl
     where
       long : n ≡ lengthOf (versionFor c)

@@ -75,14 +75,14 @@ module _ (buffer : List ℕ) (n : ℕ) (t : Tensor) (c : Config) where
 
   -- an append that is accepted is behind a list
   pub append-behind : appendFault buffer n t c .status ≡ 0 → (n ≤ length buffer) × (listFault (take n buffer) .status ≡ 0)
-  unfolding appendFault
+  unfolding appendFault listFault memberFault
   append-behind z =
       let x = or-clear (when 25 0 (ltb (length buffer) n)) _ z in
       (ltb-false (length buffer) n (when-clear 25 0 _ (omega arith) (x .0)), or-clear (listFault (take n buffer)) _ (x .1) .0)
 
   -- and its fields are such as a list takes
   pub append-member : appendFault buffer n t c .status ≡ 0 → memberFault t c .status ≡ 0
-  unfolding appendFault
+  unfolding appendFault listFault memberFault
   append-member z =
       let x = or-clear (when 25 0 (ltb (length buffer) n)) _ z .1 in
       let y = or-clear (when 37 0 (eqb (recordCount (take n buffer)) most)) _ (or-clear (listFault (take n buffer)) _ x .1) .1 in
@@ -100,13 +100,13 @@ module _ (buffer : List ℕ) (n : ℕ) (t : Tensor) (c : Config) where
       (q ∙ ap noAppend (sym e) ∙ sym (append-refused b), sym (append-same b))
 
   pub append-25 : length buffer < n → appendFault buffer n t c ≡ fault 25 0
-  unfolding appendFault
+  unfolding appendFault listFault memberFault
   append-25 h = given 25 0 _ _ (omega arith) (lt-ltb (length buffer) n h)
 
   module _ (within : n ≤ length buffer) where
     -- a list is refused with its own number
     pub append-list : {s : ℕ} → s ≡ listFault (take n buffer) .status → (s ≡ 0 → ⊥) → appendFault buffer n t c ≡ fault s 0
-    unfolding appendFault
+    unfolding appendFault listFault memberFault
     append-list e h = spared 25 0 _ _ (le-ltb (length buffer) n within) ∙ stopped _ (λ i. record { status = e i; dim = sym (list-plain (take n buffer)) i }) h
 
     module _ (listed : listFault (take n buffer) .status ≡ 0) where
@@ -116,7 +116,7 @@ module _ (buffer : List ℕ) (n : ℕ) (t : Tensor) (c : Config) where
 
       -- what can be wrong behind it: 37, 38, and what the fields have
       pub append-rest : appendFault buffer n t c ≡ (when 37 0 (eqb (recordCount (take n buffer)) most) orElse when 38 0 (ltb (length buffer - n) recordLength) orElse memberFault t c)
-      unfolding appendFault
+      unfolding appendFault listFault memberFault
       append-rest = spared 25 0 _ _ (le-ltb (length buffer) n within) ∙ passed _ refl listed
 
       -- the count that the buffer tells is the list's

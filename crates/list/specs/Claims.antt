@@ -15,10 +15,9 @@ use Rattle.record.specs.Layout.{recordLength}
 use Rattle.record.specs.Records.{noReading}
 use Rattle.list.specs.declared.ListReader.{ListReader}
 use Rattle.list.specs.Layout.{listHeadLength, countPlace, listLength}
-use Rattle.list.specs.Lists.{listFault, recordCount, noRecord, recordAt, placeAfter}
+use Rattle.list.specs.Lists.{listRules, listFault, recordCount, noRecord, recordAt, recordRules, placeAfter}
 use Rattle.list.specs.Readers.{opened, answer, advanced, afterCalls}
-use Rattle.list.specs.Writers.{startFault, startedBuffer, noAppend, appendOf, appendedBuffer}
-use Rattle.list.specs.Orders.{listRules, recordRules, startRules, appendRules}
+use Rattle.list.specs.Writers.{startRules, startFault, startedBuffer, appendRules, noAppend, appendOf, appendedBuffer}
 
 -- ---- Refusals
 

@@ -2,14 +2,14 @@
 use Prim.Native.Nat.{ℕ, _+_}
 use mathlib.Core.Bool.{Bool, not, cond}
 use mathlib.Core.List.{List}
-use lib.Dec.{ltb, eqb}
+use lib.Dec.{ltb, leb, eqb}
 use lib.ListN.{length}
 use Rattle.faults.specs.declared.Fault.{Fault}
-use Rattle.faults.specs.Faults.{fault, when, _orElse_, ifFault}
+use Rattle.faults.specs.Faults.{fault, ifFault, Rules, overall, _then_, firstFault}
 use Rattle.plane.specs.Arrays.{at, some}
 use Rattle.plane.specs.Numbers.{number}
 use Rattle.record.specs.Layout.{part, recordLength}
-use Rattle.record.specs.Records.{noReading, readOf}
+use Rattle.record.specs.Records.{readRules, noReading, readOf}
 use Rattle.list.specs.declared.Numbered.{Numbered}
 use Rattle.list.specs.Layout.{listHeadLength, listMark, listVersion, versionPlace, countPlace, listLength}
 
@@ -35,12 +35,11 @@ badListVersion bs = not (eqb (number (part versionPlace 2 bs)) listVersion)
 abbrev pub badCount : List ℕ → Bool
 badCount bs = not (eqb (length bs) (listLength (countIn bs)))
 
+abbrev pub listRules : List ℕ → Rules
+listRules bs = overall 25 (badHead bs) then overall 26 (badListMark bs) then overall 27 (badListVersion bs) then overall 30 (badCount bs)
+
 unfoldable pub listFault : List ℕ → Fault
-listFault bs =
-    when 25 0 (badHead bs) orElse
-    when 26 0 (badListMark bs) orElse
-    when 27 0 (badListVersion bs) orElse
-    when 30 0 (badCount bs)
+listFault bs = firstFault (listRules bs)
 
 -- ---- The records
 
@@ -52,13 +51,28 @@ recordCount bs = ifFault (listFault bs) 0 (countIn bs)
 abbrev pub recordIn : List ℕ → ℕ → List ℕ
 recordIn bs k = part (listLength k) recordLength bs
 
--- past the last: 39, and zeros besides
-abbrev pub noRecord : Numbered
-noRecord = record { number = 0; reading = noReading (fault 39 0) }
+-- 39: past the last
+abbrev pub numberRules : List ℕ → ℕ → Rules
+numberRules bs k = overall 39 (leb (recordCount bs) k)
+
+unfoldable pub numberFault : List ℕ → ℕ → Fault
+numberFault bs k = firstFault (numberRules bs k)
+
+-- and then the rules of reading it
+abbrev pub recordRules : List ℕ → ℕ → Rules
+recordRules bs k = numberRules bs k then readRules (recordIn bs k)
+
+-- zeros besides the fault
+abbrev pub noNumber : Fault → Numbered
+noNumber f = record { number = 0; reading = noReading f }
 
 -- record k with its number, and what reading its bytes answers
 unfoldable pub recordAt : List ℕ → ℕ → Numbered
-recordAt bs k = cond (ltb k (recordCount bs)) (record { number = k; reading = readOf (recordIn bs k) }) noRecord
+recordAt bs k = ifFault (numberFault bs k) (noNumber (numberFault bs k)) (record { number = k; reading = readOf (recordIn bs k) })
+
+-- what is handed out past the last
+abbrev pub noRecord : Numbered
+noRecord = noNumber (fault 39 0)
 
 -- the number after k; past the last k itself
 unfoldable pub placeAfter : List ℕ → ℕ → ℕ

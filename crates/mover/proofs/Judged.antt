@@ -7,13 +7,14 @@ use mathlib.Core.Bool.{true, false}
 use mathlib.Core.List.{List}
 use lib.ListN.{length, drop, length-drop}
 use lib.Seq.{sets, length-take-le}
+use Rattle.plane.specs.Planes.{sourceFault}
 use Rattle.plane.specs.declared.Tensor.{Tensor}
 use Rattle.plane.specs.declared.Config.{Config}
 use Rattle.faults.specs.declared.Fault.{Fault}
 use Rattle.plane.specs.declared.Answer.{Answer}
 use Rattle.plane.specs.Arrays.{at, product}
 use Rattle.faults.specs.Faults.{none, fault, when, _orElse_}
-use Rattle.plane.specs.Moves.{moveFault, roomFault, refused, accepted, answerOf, judgeOf}
+use Rattle.plane.specs.Moves.{moveFault, roomFault, refused, accepted, answerOf, judgeOf, dstFault, configFault}
 use Rattle.faults.proofs.Bools.{either-first, either-second, neither}
 use Rattle.faults.proofs.Faults.{status, or-none, or-found, or-clear, or-zero, when-bad, when-good, when-clear, given, spared, if-fault, if-none}
 use Rattle.plane.specs.Good.{GoodMove}
@@ -34,7 +35,7 @@ use Rattle.mover.proofs.Planned.{planned-total, planned-ready, moved-pl
 -- ---- a whole move
 
 pub move-room : (t : Tensor) (c : Config) {srcLen dstLen : ℕ} → GoodMove t c srcLen dstLen → roomFault t c .status ≡ 0
-unfolding roomFault
+unfolding roomFault sourceFault configFault dstFault
 move-room t c g =
     or-zero _ _ (source-clear t (g .source)) (or-zero _ _ (config-clear t c (g .config)) (dst-clear t c (g .destination)))
 
@@ -81,18 +82,18 @@ answerAt n j = answerOf (jobFault n j) (j .tensor) (j .config)
 module _ (n : ℕ) (j : Job) where
   -- 20
   pub source-leaves : {r : Answer} → leaves n (j .source) ≡ true → r ≡ refused (fault 20 0) → r ≡ answerAt n j
-  unfolding jobFault
+  unfolding jobFault moveFault
   source-leaves h e =
       refuses (j .tensor) (j .config) e (λ z. omega arith) (given 20 0 _ _ (omega arith) (either-first (leaves n (j .source)) (leaves n (j .destination)) h))
 
   pub destination-leaves : {r : Answer} → leaves n (j .destination) ≡ true → r ≡ refused (fault 20 0) → r ≡ answerAt n j
-  unfolding jobFault
+  unfolding jobFault moveFault
   destination-leaves h e =
       refuses (j .tensor) (j .config) e (λ z. omega arith) (given 20 0 _ _ (omega arith) (either-second (leaves n (j .source)) (leaves n (j .destination)) h))
 
   module _ (p : leaves n (j .source) ≡ false) (q : leaves n (j .destination) ≡ false) where
     stays : jobFault n j ≡ (moveFault (j .tensor) (j .config) (j .source .length) (j .destination .length) orElse when 21 0 (meets (j .source) (j .destination)))
-    unfolding jobFault
+    unfolding jobFault moveFault
     stays = spared 20 0 _ _ (neither (leaves n (j .source)) (leaves n (j .destination)) p q)
 
     module _ {a : Answer} (e : a ≡ judgeOf (j .tensor) (j .config) (j .source .length) (j .destination .length)) where
@@ -149,7 +150,7 @@ module _ (n : ℕ) (j : Job) where
 
       -- no fault names no dimension
       job-none : none ≡ jobFault n j
-      unfolding jobFault
+      unfolding jobFault moveFault
       job-none =
           let x = or-clear _ _ job-clear in
           let y = or-clear _ _ (x .1) in

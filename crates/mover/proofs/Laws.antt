@@ -97,7 +97,7 @@ parts-apart p q e h k =
 
 module _ (n : ℕ) (j : Job) (z : jobFault n j .status ≡ 0) where
   parts : (leaves n (j .source) || leaves n (j .destination)) ≡ false
-  unfolding jobFault
+  unfolding jobFault moveFault
   parts = when-clear 20 0 (leaves n (j .source) || leaves n (j .destination)) (omega arith) (or-clear _ _ z .0)
 
   pub source-fits : j .source .start + j .source .length ≤ n
@@ -107,7 +107,7 @@ module _ (n : ℕ) (j : Job) (z : jobFault n j .status ≡ 0) where
   destination-fits = part-fits n (j .destination) (either-clear (leaves n (j .source)) _ parts .1)
 
   pub job-clear : moveFault (j .tensor) (j .config) (j .source .length) (j .destination .length) .status ≡ 0
-  unfolding jobFault
+  unfolding jobFault moveFault
   job-clear = or-clear _ _ (or-clear _ _ z .1) .0
 
   pub job-good : GoodMove (j .tensor) (j .config) (j .source .length) (j .destination .length)
@@ -115,7 +115,7 @@ module _ (n : ℕ) (j : Job) (z : jobFault n j .status ≡ 0) where
 
   -- its parts share no byte
   pub job-apart : (j .source .start + j .source .length ≤ j .destination .start) ⊎ (j .destination .start + j .destination .length ≤ j .source .start)
-  unfolding jobFault span need
+  unfolding jobFault span need moveFault
   job-apart =
       let b = element-small (j .tensor .«element_size») (job-good .source .element) .0 in
       let s : 0 < span (j .tensor) = mul-pos (omega arith) b in

@@ -14,8 +14,8 @@ use Rattle.plane.specs.declared.Source.{Source}
 use Rattle.plane.specs.declared.Answer.{Answer}
 use Rattle.plane.specs.Arrays.{at, sum}
 use Rattle.plane.specs.Numbers.{little}
-use Rattle.plane.specs.Planes.{srcStrides, sourceOf}
-use Rattle.plane.specs.Moves.{count, extent, dstExtents, roomFault, accepted}
+use Rattle.plane.specs.Planes.{srcStrides, sourceOf, sourceFault}
+use Rattle.plane.specs.Moves.{count, extent, dstExtents, roomFault, accepted, dstFault, configFault}
 use Rattle.plane.proofs.Arrays.{firsts-at}
 use Rattle.plane.proofs.Bounds.{element-small}
 use Rattle.faults.proofs.Faults.{status, or-clear}
@@ -84,19 +84,19 @@ module _ {t : Tensor} {c : Config} (g : GoodSource t) (k : GoodConfig t c) where
 
 module _ (t : Tensor) (c : Config) (z : roomFault t c .status ≡ 0) where
   pub room-source : GoodSource t
-  unfolding roomFault
+  unfolding roomFault sourceFault configFault dstFault
   room-source = source-good t (or-clear _ _ z .0)
 
   pub room-config : GoodConfig t c
-  unfolding roomFault
+  unfolding roomFault sourceFault configFault dstFault
   room-config = config-good t c (or-clear _ _ (or-clear _ _ z .1) .0)
 
   pub room-dst : GoodDst t c
-  unfolding roomFault
+  unfolding roomFault sourceFault configFault dstFault
   room-dst = dst-good t c (or-clear _ _ (or-clear _ _ z .1) .1)
 
   pub room-strides : {s : Source} → s ≡ sourceOf t → s .stride ≡ srcStrides t
-  unfolding roomFault
+  unfolding roomFault sourceFault configFault dstFault
   room-strides e = its-strides t e (status (its-fault t e) ∙ or-clear _ _ z .0)
 
   module _ {a : Answer} (ea : a ≡ accepted t c) where

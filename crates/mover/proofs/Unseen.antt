@@ -123,7 +123,7 @@ move-unseen src dst t t′ a c c′ b f =
 
 module _ (j j′ : Job) (s : SameAsked j j′) where
   pub job-fault-unseen : (n : ℕ) → jobFault n j ≡ jobFault n j′
-  unfolding jobFault
+  unfolding jobFault moveFault
   job-fault-unseen n =
       let e = s .source in
       let f = s .destination in

@@ -16,9 +16,8 @@ use Rattle.plane.specs.Unseen.{SameTensor, SameArrays, UnseenSub}
 use Rattle.mover.specs.declared.Part.{Part}
 use Rattle.mover.specs.declared.Job.{Job}
 use Rattle.mover.specs.Moved.{total, moved, moveMemory}
-use Rattle.mover.specs.Within.{leaves, meets, jobFault, totalOf, verdictOf, bytesOf, advancedBy, advanceOf, advanceMemory}
+use Rattle.mover.specs.Within.{leaves, meets, jobRules, jobFault, totalOf, verdictOf, bytesOf, advancedBy, advanceOf, advanceMemory}
 use Rattle.mover.specs.SubPart.{subPart}
-use Rattle.mover.specs.Orders.{jobRules}
 use Rattle.mover.specs.Demand2.{IsCoordinate, endAt, Accepted}
 
 -- ---- Refusals of a move inside one memory

@@ -1,10 +1,9 @@
--- What a reader must believe. Then what the theorems claim: Orders (the rules of a job, in order), Demand2, Work (how much is moved),
--- Engines (the plain engine and the first do the same), Claims (all else). Private holds what only private functions cite.
+-- What a reader must believe. Then what the theorems claim: Demand2, Work (how much is moved), Engines (the plain engine and the first
+-- do the same), Claims (all else). Private holds what only private functions cite.
 pub mod Element
 pub mod Moved
 pub mod Within
 pub mod SubPart
-pub mod Orders
 pub mod Demand2
 pub mod Work
 pub mod Claims

@@ -6,8 +6,8 @@ use lib.Dec.{ltb}
 use lib.ListN.{length, take, drop}
 use lib.Seq.{sets}
 use Rattle.faults.specs.declared.Fault.{Fault}
-use Rattle.faults.specs.Faults.{when, _orElse_, ifFault}
-use Rattle.plane.specs.Moves.{moveFault}
+use Rattle.faults.specs.Faults.{ifFault, Rules, overall, _then_, firstFault}
+use Rattle.plane.specs.Moves.{moveRules}
 use Rattle.mover.specs.declared.Part.{Part}
 use Rattle.mover.specs.declared.Job.{Job}
 use Rattle.mover.specs.declared.Verdict.{Verdict}
@@ -23,11 +23,14 @@ abbrev pub meets : Part → Part → Bool
 meets p q = ltb (max (p .start) (q .start)) (min (p .start + p .length) (q .start + q .length))
 
 -- 20, 1 to 13, 21
+abbrev pub jobRules : ℕ → Job → Rules
+jobRules n j =
+    overall 20 (leaves n (j .source) || leaves n (j .destination)) then
+    moveRules (j .tensor) (j .config) (j .source .length) (j .destination .length) then
+    overall 21 (meets (j .source) (j .destination))
+
 unfoldable pub jobFault : ℕ → Job → Fault
-jobFault n j =
-    when 20 0 (leaves n (j .source) || leaves n (j .destination)) orElse
-    moveFault (j .tensor) (j .config) (j .source .length) (j .destination .length) orElse
-    when 21 0 (meets (j .source) (j .destination))
+jobFault n j = firstFault (jobRules n j)
 
 abbrev pub totalOf : Job → ℕ
 totalOf j = total (j .tensor) (j .config)

@@ -1,91 +1,28 @@
--- Each refusal in its exact case and order: every answer is exact (`Exact`) for the rules of its call (`specs/Orders.antt`), and a
--- refused answer is zeros besides. Assumes nothing.
+-- Each refusal in its exact case and order: every answer is exact (`Exact`) for the rules of its call, and a refused
+-- answer is zeros besides. Assumes nothing.
 use Prim.Native.Nat.{ℕ}
 use native.Mathlib.Decide.{ℕ-discrete}
 use native.Mathlib.Omega.{arith}
 use mathlib.Core.Path.{_≡_, refl, sym, ap, _∙_}
 use borrow.Author.Tests.{le-ltb}
-use mathlib.Core.List.{[], _∷_, _++_}
 use lib.Dec.{ltb}
-use lib.ListN.{drop}
 use Rattle.plane.specs.declared.Tensor.{Tensor}
 use Rattle.plane.specs.declared.Config.{Config}
-use Rattle.plane.specs.declared.SubConfig.{SubConfig}
 use Rattle.faults.specs.declared.Fault.{Fault}
 use Rattle.plane.specs.declared.Answer.{Answer}
 use Rattle.plane.specs.declared.Count.{Count}
 use Rattle.plane.specs.declared.SubTensor.{SubTensor}
 use Rattle.plane.specs.Arrays.{zeros}
 use Rattle.faults.specs.Faults.{fault, when, _orElse_}
-use Rattle.plane.specs.Planes.{shapeAt, strideAt, badStrideAt, srcStrides, span, sourceFault, sourceOf}
-use Rattle.plane.specs.Moves.{extent, need, badExtent, badDstOffsetOf, configFault, dstFault, moveFault, roomFault, refused, answerOf, judgeOf, roomOf}
-use Rattle.plane.specs.Helpers.{elements, countFault, noCount, countAnswer, countOf, rankFault, subFault, subOf, subByte, noSub, subAnswer, subTensorOf}
-use Rattle.faults.specs.Exactness.{whole, fromFirst, fromLast}
-use Rattle.plane.specs.Orders.{sourceRules, configRules, dstRules, moveRules, roomRules, countRules, subRules}
+use Rattle.plane.specs.Planes.{srcStrides, span, sourceRules, sourceFault, sourceOf}
+use Rattle.plane.specs.Moves.{need, configFault, dstFault, moveRules, moveFault, roomRules, roomFault, refused, answerOf, judgeOf, roomOf}
+use Rattle.plane.specs.Helpers.{elements, countRules, countFault, noCount, countAnswer, countOf, subRules, subFault, subOf, subByte, noSub, subAnswer, subTensorOf}
 use Rattle.plane.specs.Claims.{SourceExact, SourceZeros, JudgeExact, JudgeZeros, RoomExact, RoomZeros, RoomNever, RoomIsJudge, CountExact, CountZeros, SubExact, SubZeros}
 use Rattle.faults.proofs.Faults.{status, or-path, or-none, or-found, or-assoc, spared, when-zero, if-fault, if-none}
 use Rattle.plane.proofs.Rules.{answer-refused, answer-given, answer-status}
 use Rattle.plane.proofs.CountAnswers.{count-answer-refused, count-answer-given}
 use Rattle.plane.proofs.SubAnswers.{sub-status}
-use Rattle.faults.proofs.Chains.{Positive, chain, exact, exact-fault, never-given, or-last, whole-is, join, one-chain}
-
--- ---- the calls are held to their lists
-
-pub source-chain : (t : Tensor) → sourceFault t ≡ chain (sourceRules t)
-unfolding sourceFault chain
-source-chain t =
-    or-path (whole-is 1 _) (or-path (whole-is 2 _) (or-path refl (sym (or-last (fromLast 4 (t .rank) (badStrideAt (t .rank) (shapeAt t) (strideAt t))) (omega arith)))))
-
-config-chain : (t : Tensor) (c : Config) → configFault t c ≡ chain (configRules t c)
-unfolding configFault chain
-config-chain t c =
-    or-path refl (or-path refl (or-path refl (or-path refl (sym (or-last (fromFirst 10 (t .rank) (λ d. badExtent (extent t c d))) (omega arith))))))
-
-place-chain : (t : Tensor) (c : Config) → dstFault t c ≡ chain (dstRules t c)
-unfolding dstFault chain
-place-chain t c =
-    or-path refl (sym (or-last (fromFirst 12 (t .rank) (badDstOffsetOf t c)) (omega arith)))
-
-pub move-chain : (t : Tensor) (c : Config) (srcLen dstLen : ℕ) → moveFault t c srcLen dstLen ≡ chain (moveRules t c srcLen dstLen)
-unfolding moveFault
-move-chain t c srcLen dstLen =
-    let room = whole 13 (ltb dstLen (need t c)) ∷ [] in
-    let long = whole 5 (ltb srcLen (span t)) ∷ [] in
-    join (sourceRules t) (long ++ configRules t c ++ dstRules t c ++ room) (source-chain t)
-    (join long (configRules t c ++ dstRules t c ++ room) (one-chain 5 _ (omega arith))
-    (join (configRules t c) (dstRules t c ++ room) (config-chain t c) (join (dstRules t c) room (place-chain t c) (one-chain 13 _ (omega arith)))))
-
-room-chain : (t : Tensor) (c : Config) → roomFault t c ≡ chain (roomRules t c)
-unfolding roomFault
-room-chain t c =
-    join (sourceRules t) (configRules t c ++ dstRules t c) (source-chain t) (join (configRules t c) (dstRules t c) (config-chain t c) (place-chain t c))
-
-count-chain : (t : Tensor) (start : ℕ) → countFault t start ≡ chain (countRules t start)
-unfolding countFault chain
-count-chain t start = or-path (whole-is 1 _) (or-path refl (one-chain 16 _ (omega arith)))
-
-sub-chain : (t : Tensor) (s : SubConfig) (srcLen : ℕ) → subFault t s srcLen ≡ chain (subRules t s srcLen)
-unfolding subFault rankFault chain
-sub-chain t s srcLen =
-    join (sourceRules t) (drop 4 (subRules t s srcLen)) (source-chain t)
-    (or-path (whole-is 5 _) (or-path refl (or-path refl (or-path (whole-is 14 _) (one-chain 15 _ (omega arith))))))
-
--- every number is above 0
-
-positive-source : (t : Tensor) → Positive (sourceRules t)
-positive-source t = omega arith
-
-pub positive-move : (t : Tensor) (c : Config) (srcLen dstLen : ℕ) → Positive (moveRules t c srcLen dstLen)
-positive-move t c srcLen dstLen = omega arith
-
-positive-room : (t : Tensor) (c : Config) → Positive (roomRules t c)
-positive-room t c = omega arith
-
-positive-count : (t : Tensor) (start : ℕ) → Positive (countRules t start)
-positive-count t start = omega arith
-
-positive-sub : (t : Tensor) (s : SubConfig) (srcLen : ℕ) → Positive (subRules t s srcLen)
-positive-sub t s srcLen = omega arith
+use Rattle.faults.proofs.Chains.{exact, exact-fault, never-given}
 
 -- an answer's number and dimension are its fault's
 
@@ -123,8 +60,8 @@ sub-dim f t x z = ap (λ (s : SubTensor). s .dim) (if-fault f (noSub f) (record 
 -- ---- the theorems: what each call that refuses answers is exact, and besides number and dimension it is zeros
 
 pub source-exact : SourceExact
-unfolding sourceOf
-source-exact t = exact-fault (sourceRules t) (positive-source t) (sourceFault t) (source-chain t)
+unfolding sourceOf sourceFault
+source-exact t = exact-fault (sourceRules t) (omega arith)
 
 pub source-zeros : SourceZeros
 unfolding sourceOf
@@ -134,19 +71,18 @@ source-zeros t h =
     λ i. record { fault = sourceFault t; stride = l i; span = s i }
 
 pub judge-exact : JudgeExact
-unfolding judgeOf
+unfolding judgeOf moveFault
 judge-exact t c srcLen dstLen =
-    exact (moveRules t c srcLen dstLen) (positive-move t c srcLen dstLen) (moveFault t c srcLen dstLen) (move-chain t c srcLen dstLen)
-    (answer-status _ t c) (answer-plain _ t c) (answer-dim _ t c)
+    exact (moveRules t c srcLen dstLen) (omega arith) (answer-status _ t c) (answer-plain _ t c) (answer-dim _ t c)
 
 pub judge-zeros : JudgeZeros
 unfolding judgeOf
 judge-zeros t c srcLen dstLen h = zeros-besides t c (moveFault t c srcLen dstLen) h
 
 pub room-exact : RoomExact
-unfolding roomOf
+unfolding roomOf roomFault
 room-exact t c =
-    exact (roomRules t c) (positive-room t c) (roomFault t c) (room-chain t c) (answer-status _ t c) (answer-plain _ t c) (answer-dim _ t c)
+    exact (roomRules t c) (omega arith) (answer-status _ t c) (answer-plain _ t c) (answer-dim _ t c)
 
 pub room-zeros : RoomZeros
 unfolding roomOf
@@ -164,7 +100,7 @@ room-never t c = (
 
 -- and else gives what a move gives that is lent enough
 pub room-is-judge : RoomIsJudge
-unfolding judgeOf roomOf moveFault roomFault
+unfolding judgeOf roomOf moveFault roomFault sourceFault configFault dstFault
 room-is-judge t c srcLen dstLen p q =
     let last = when 13 0 (ltb dstLen (need t c)) in
     let none-5 = spared 5 0 (ltb srcLen (span t)) (configFault t c orElse dstFault t c orElse last) (le-ltb srcLen (span t) p) in
@@ -177,9 +113,9 @@ room-is-judge t c srcLen dstLen p q =
     ]
 
 pub count-exact : CountExact
-unfolding countOf
+unfolding countOf countFault
 count-exact t start =
-    exact (countRules t start) (positive-count t start) (countFault t start) (count-chain t start) (count-status _ _) (count-plain _ _) (count-dim _ _)
+    exact (countRules t start) (omega arith) (count-status _ _) (count-plain _ _) (count-dim _ _)
 
 pub count-zeros : CountZeros
 unfolding countOf
@@ -189,9 +125,9 @@ count-zeros t start h =
     e ∙ ap (λ (x : Count). noCount (fault (x .status) (x .dim))) (sym e)
 
 pub sub-exact : SubExact
-unfolding subTensorOf
+unfolding subTensorOf subFault
 sub-exact t s srcLen =
-    exact (subRules t s srcLen) (positive-sub t s srcLen) (subFault t s srcLen) (sub-chain t s srcLen) (sub-status _ _ _) (sub-plain _ _ _) (sub-dim _ _ _)
+    exact (subRules t s srcLen) (omega arith) (sub-status _ _ _) (sub-plain _ _ _) (sub-dim _ _ _)
 
 pub sub-zeros : SubZeros
 unfolding subTensorOf subAnswer

@@ -158,7 +158,7 @@ module _ (t : Tensor) (c : Config) where
 -- ---- 1 to 13
 
 pub move-good : MoveGood
-unfolding moveFault
+unfolding moveFault sourceFault configFault dstFault
 move-good t c srcLen dstLen z =
     let z1 = or-clear _ _ z in
     let z5 = or-clear _ _ (z1 .1) in
@@ -173,7 +173,7 @@ move-good t c srcLen dstLen z =
     }
 
 pub move-clear : MoveClear
-unfolding moveFault
+unfolding moveFault sourceFault configFault dstFault
 move-clear t c srcLen dstLen g =
     or-zero _ _ (source-clear t (g .source))
     (or-zero _ _ (when-zero 5 0 _ (le-ltb _ _ (g .long)))

@@ -172,11 +172,11 @@ place-offset-small t c e l p z i h =
 module _ (t : Tensor) (c : Config) {s : Source} (es : s ≡ sourceOf t) where
   -- where the source is refused, so is all
   pub judge-source : (srcLen dstLen : ℕ) {a : Answer} → a ≡ refused (s .fault) → (s .fault .status ≡ 0 → ⊥) → a ≡ judgeOf t c srcLen dstLen
-  unfolding judgeOf moveFault
+  unfolding judgeOf moveFault sourceFault configFault dstFault
   judge-source srcLen dstLen e z = refuses t c e z (stopped _ (its-fault t es) z)
 
   pub room-source : {a : Answer} → a ≡ refused (s .fault) → (s .fault .status ≡ 0 → ⊥) → record { answer = a; span = 0 } ≡ roomOf t c
-  unfolding roomOf roomFault
+  unfolding roomOf roomFault sourceFault configFault dstFault
   room-source e z =
       let q = stopped (configFault t c orElse dstFault t c) (its-fault t es) z in
       let w = sym (ap (λ (f : Fault). ifFault f 0 (span t)) q ∙ if-fault (s .fault) 0 (span t) z) in
@@ -185,11 +185,11 @@ module _ (t : Tensor) (c : Config) {s : Source} (es : s ≡ sourceOf t) where
 
   module _ (z : s .fault .status ≡ 0) where
     room-is : roomFault t c ≡ (configFault t c orElse dstFault t c)
-    unfolding roomFault
+    unfolding roomFault sourceFault configFault dstFault
     room-is = passed _ (its-fault t es) z
 
     pub judge-short : (srcLen dstLen : ℕ) {r : Answer} → srcLen < s .span → r ≡ refused (fault 5 0) → r ≡ judgeOf t c srcLen dstLen
-    unfolding judgeOf moveFault
+    unfolding judgeOf moveFault sourceFault configFault dstFault
     judge-short srcLen dstLen l p =
         let e = its-span t es z in
         refuses t c p (λ x. omega arith) (passed _ (its-fault t es) z ∙ given 5 0 _ _ (omega arith) (lt-ltb srcLen (span t) (omega arith)))
@@ -214,7 +214,7 @@ module _ (t : Tensor) (c : Config) {s : Source} (es : s ≡ sourceOf t) where
 
       module _ (srcLen dstLen : ℕ) (enough : s .span ≤ srcLen) where
         judge-is : moveFault t c srcLen dstLen ≡ ((configFault t c orElse dstFault t c) orElse when 13 0 (ltb dstLen (need t c)))
-        unfolding moveFault
+        unfolding moveFault sourceFault configFault dstFault
         judge-is =
             let e = its-span t es z in
             passed _ (its-fault t es) z ∙ spared 5 0 _ _ (le-ltb srcLen (span t) (omega arith)) ∙ sym (or-assoc _ _ _)

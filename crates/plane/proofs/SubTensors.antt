@@ -10,7 +10,7 @@ use lib.ListN.{length}
 use Rattle.plane.specs.declared.Tensor.{Tensor}
 use Rattle.plane.specs.declared.SubConfig.{SubConfig}
 use Rattle.plane.specs.Arrays.{at, sum}
-use Rattle.plane.specs.Planes.{shapeAt, strideAt, resolved, srcStrides, span}
+use Rattle.plane.specs.Planes.{shapeAt, strideAt, resolved, srcStrides, span, sourceFault}
 use Rattle.plane.specs.Moves.{badOffset}
 use Rattle.plane.specs.Helpers.{staying, excess, subDim, badSubSize, rankFault, subFault, subOf, subByte, noSub, subAnswer, subTensorOf}
 use Rattle.faults.proofs.Bools.{either-clear, neither}
@@ -26,7 +26,7 @@ use Rattle.plane.proofs.Staying.{staying-count, staying-below, staying-
 -- ---- what acceptance of a sub-tensor tells
 
 pub sub-good : SubGood
-unfolding subFault rankFault
+unfolding subFault rankFault sourceFault
 sub-good t s srcLen z =
     let z1 = or-clear _ _ z in
     let z5 = or-clear _ _ (z1 .1) in
@@ -47,7 +47,7 @@ sub-good t s srcLen z =
     }
 
 pub sub-clear : SubClear
-unfolding subFault rankFault
+unfolding subFault rankFault sourceFault
 sub-clear t s srcLen g =
     or-zero _ _ (source-clear t (g .source))
     (or-zero _ _ (when-zero 5 0 _ (le-ltb _ _ (g .long)))

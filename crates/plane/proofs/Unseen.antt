@@ -156,7 +156,7 @@ module _ (n z : ℕ) (s s′ p p′ : List ℕ) (a : SameTensor (tensor n z s p)
     ]
 
     room-same : roomOf T c ≡ roomOf T′ c′
-    unfolding roomOf roomFault
+    unfolding roomOf roomFault sourceFault configFault dstFault
     room-same =
         let e : roomFault T c ≡ roomFault T′ c′ = or-path source-same (behind _ _ place-same) in
         let w : answerOf (roomFault T c) T c ≡ answerOf (roomFault T′ c′) T′ c′ =
@@ -165,14 +165,14 @@ module _ (n z : ℕ) (s s′ p p′ : List ℕ) (a : SameTensor (tensor n z s p)
         λ i. record { answer = w i; span = v i }
 
     move-same : (sl dl : ℕ) → moveFault T c sl dl ≡ moveFault T′ c′ sl dl
-    unfolding moveFault
+    unfolding moveFault sourceFault configFault dstFault
     move-same sl dl =
         or-path source-same
         (or-path (ap (λ (x : ℕ). when 5 0 (ltb sl x)) span-same)
         (behind _ _ (λ y. or-path (place-same y) (ap (λ (x : ℕ). when 13 0 (ltb dl x)) (need-same y)))))
 
     judge-same : (sl dl : ℕ) → judgeOf T c sl dl ≡ judgeOf T′ c′ sl dl
-    unfolding judgeOf moveFault
+    unfolding judgeOf moveFault sourceFault configFault dstFault
     judge-same sl dl =
         answer-same (moveFault T c sl dl) (λ y. or-clear _ _ (or-clear _ _ (or-clear _ _ y .1) .1) .0) ∙
         ap (λ (f : Fault). answerOf f T′ c′) (move-same sl dl)
@@ -211,7 +211,7 @@ module _ (n z : ℕ) (s s′ p p′ : List ℕ) (a : SameTensor (tensor n z s p)
     rank-same = or-path refl (ap (λ (x : ℕ). when 15 0 (ltb x (n - m))) (howMany-same n _ _ unit-same))
 
     sub-fault-same : (sl : ℕ) → subFault T S sl ≡ subFault T′ S′ sl
-    unfolding subFault
+    unfolding subFault sourceFault rankFault
     sub-fault-same sl =
         or-path source-same
         (or-path (ap (λ (x : ℕ). when 5 0 (ltb sl x)) span-same)

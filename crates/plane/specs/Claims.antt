@@ -9,10 +9,9 @@ use Rattle.plane.specs.declared.SubConfig.{SubConfig}
 use Rattle.plane.specs.Arrays.{at, zeros, product}
 use Rattle.faults.specs.Faults.{fault}
 use Rattle.faults.specs.Exactness.{Exact}
-use Rattle.plane.specs.Planes.{shapeAt, strideAt, inner, resolved, srcStrides, span, sourceFault, sourceOf}
-use Rattle.plane.specs.Moves.{dstExtents, need, moveFault, refused, judgeOf, roomOf}
-use Rattle.plane.specs.Helpers.{elements, noCount, countOf, staying, excess, subDim, subFault, subOf, noSub, subTensorOf}
-use Rattle.plane.specs.Orders.{sourceRules, moveRules, roomRules, countRules, subRules}
+use Rattle.plane.specs.Planes.{shapeAt, strideAt, inner, resolved, srcStrides, span, sourceRules, sourceFault, sourceOf}
+use Rattle.plane.specs.Moves.{dstExtents, need, moveRules, moveFault, roomRules, refused, judgeOf, roomOf}
+use Rattle.plane.specs.Helpers.{elements, countRules, noCount, countOf, staying, excess, subDim, subRules, subFault, subOf, noSub, subTensorOf}
 use Rattle.plane.specs.Good.{FromTo, GoodStrides, GoodSource, GoodConfig, GoodDst, GoodMove, GoodSub}
 
 -- ---- Refusals

@@ -9,8 +9,8 @@ use Rattle.plane.specs.declared.Count.{Count}
 use Rattle.plane.specs.declared.SubConfig.{SubConfig}
 use Rattle.plane.specs.declared.SubTensor.{SubTensor}
 use Rattle.plane.specs.Arrays.{at, firsts, sum, product, howMany}
-use Rattle.faults.specs.Faults.{when, _orElse_, lowest, ifFault}
-use Rattle.plane.specs.Planes.{badRank, badShape, shapeAt, srcStrides, sourceAt, span, sourceFault, zeroTensor}
+use Rattle.faults.specs.Faults.{ifFault, Rules, overall, fromFirst, _then_, firstFault}
+use Rattle.plane.specs.Planes.{badRank, badShape, shapeAt, srcStrides, sourceAt, span, sourceRules, zeroTensor}
 use Rattle.plane.specs.Moves.{badOffset, badSize}
 
 -- ---- Element count
@@ -20,11 +20,14 @@ unfoldable pub elements : Tensor → ℕ → ℕ
 elements t start = product (t .rank - start) (λ k. shapeAt t (start + k))
 
 -- 16: a start dimension not below the rank
+abbrev pub countRules : Tensor → ℕ → Rules
+countRules t start =
+    overall 1 (badRank (t .rank)) then
+    fromFirst 3 (t .rank) (λ d. badShape (shapeAt t d)) then
+    overall 16 (leb (t .rank) start)
+
 unfoldable pub countFault : Tensor → ℕ → Fault
-countFault t start =
-    when 1 0 (badRank (t .rank)) orElse
-    lowest 3 (t .rank) (λ d. badShape (shapeAt t d)) orElse
-    when 16 0 (leb (t .rank) start)
+countFault t start = firstFault (countRules t start)
 
 abbrev pub noCount : Fault → Count
 noCount f = record { status = f .status; dim = f .dim; count = 0 }
@@ -62,18 +65,24 @@ abbrev pub badSubSize : ℕ → ℕ → ℕ → Bool
 badSubSize shape offset size = eqb size 0 || badSize shape offset size
 
 -- 14: rank 0 or above the rank; 15: too few unit dimensions
+abbrev pub rankRules : Tensor → SubConfig → Rules
+rankRules t s =
+    overall 14 (eqb (s .rank) 0 || ltb (t .rank) (s .rank)) then
+    overall 15 (ltb (howMany (t .rank) (isUnit (at (s .size)))) (excess t s))
+
 unfoldable pub rankFault : Tensor → SubConfig → Fault
-rankFault t s =
-    when 14 0 (eqb (s .rank) 0 || ltb (t .rank) (s .rank)) orElse
-    when 15 0 (ltb (howMany (t .rank) (isUnit (at (s .size)))) (excess t s))
+rankFault t s = firstFault (rankRules t s)
+
+abbrev pub subRules : Tensor → SubConfig → ℕ → Rules
+subRules t s srcLen =
+    sourceRules t then
+    overall 5 (ltb srcLen (span t)) then
+    fromFirst 7 (t .rank) (λ d. badOffset (shapeAt t d) (at (s .offset) d)) then
+    fromFirst 8 (t .rank) (λ d. badSubSize (shapeAt t d) (at (s .offset) d) (at (s .size) d)) then
+    rankRules t s
 
 unfoldable pub subFault : Tensor → SubConfig → ℕ → Fault
-subFault t s srcLen =
-    sourceFault t orElse
-    when 5 0 (ltb srcLen (span t)) orElse
-    lowest 7 (t .rank) (λ d. badOffset (shapeAt t d) (at (s .offset) d)) orElse
-    lowest 8 (t .rank) (λ d. badSubSize (shapeAt t d) (at (s .offset) d) (at (s .size) d)) orElse
-    rankFault t s
+subFault t s srcLen = firstFault (subRules t s srcLen)
 
 -- the sizes for shapes, and the resolved strides of the whole plane
 unfoldable pub subOf : Tensor → SubConfig → Tensor

@@ -1,5 +1,5 @@
--- What a reader must believe, in the paper's order. Then what the theorems claim: Good (what acceptance tells), Orders (the rules of
--- each call, in order), Unseen (entries past the rank, and the fill), Claims (all else). Private holds what only private functions cite.
+-- What a reader must believe, in the paper's order. Then what the theorems claim: Good (what acceptance tells), Unseen (entries past
+-- the rank, and the fill), Claims (all else). Private holds what only private functions cite.
 pub mod Arrays
 pub mod Planes
 pub mod Moves
@@ -7,7 +7,6 @@ pub mod Settings
 pub mod Numbers
 pub mod Helpers
 pub mod Good
-pub mod Orders
 pub mod Unseen
 pub mod Claims
 pub mod Private

@@ -9,8 +9,8 @@ use Rattle.faults.specs.declared.Fault.{Fault}
 use Rattle.plane.specs.declared.Answer.{Answer}
 use Rattle.plane.specs.declared.RoomAnswer.{RoomAnswer}
 use Rattle.plane.specs.Arrays.{at, firsts, zeros, sum, some, or0}
-use Rattle.faults.specs.Faults.{when, _orElse_, lowest, outward, ifFault}
-use Rattle.plane.specs.Planes.{shapeAt, badStrideAt, strides, span, sourceFault}
+use Rattle.faults.specs.Faults.{ifFault, Rules, overall, fromFirst, fromLast, _then_, firstFault}
+use Rattle.plane.specs.Planes.{shapeAt, badStrideAt, strides, span, sourceRules}
 
 -- ---- By source dimension d
 
@@ -74,32 +74,44 @@ abbrev pub badDstOffsetOf : Tensor → Config → ℕ → Bool
 badDstOffsetOf t c = badDstOffsetAt (at (dstExtents t c)) (at (dstStrides t c)) (at (c .«dst_offset»))
 
 -- 6 to 10
+abbrev pub configRules : Tensor → Config → Rules
+configRules t c =
+    fromFirst 6 (t .rank) (badPermAt (t .rank) (at (c .perm))) then
+    fromFirst 7 (t .rank) (λ d. badOffset (shapeAt t d) (at (c .offset) d)) then
+    fromFirst 8 (t .rank) (λ d. badSize (shapeAt t d) (at (c .offset) d) (at (c .size) d)) then
+    fromFirst 9 (t .rank) (λ d. badStep (at (c .step) d)) then
+    fromFirst 10 (t .rank) (λ d. badExtent (extent t c d))
+
 unfoldable pub configFault : Tensor → Config → Fault
-configFault t c =
-    lowest 6 (t .rank) (badPermAt (t .rank) (at (c .perm))) orElse
-    lowest 7 (t .rank) (λ d. badOffset (shapeAt t d) (at (c .offset) d)) orElse
-    lowest 8 (t .rank) (λ d. badSize (shapeAt t d) (at (c .offset) d) (at (c .size) d)) orElse
-    lowest 9 (t .rank) (λ d. badStep (at (c .step) d)) orElse
-    lowest 10 (t .rank) (λ d. badExtent (extent t c d))
+configFault t c = firstFault (configRules t c)
 
 -- 11 and 12
+abbrev pub dstRules : Tensor → Config → Rules
+dstRules t c =
+    fromLast 11 (t .rank) (badStrideAt (t .rank) (at (dstExtents t c)) (at (c .«dst_stride»))) then
+    fromFirst 12 (t .rank) (badDstOffsetOf t c)
+
 unfoldable pub dstFault : Tensor → Config → Fault
-dstFault t c =
-    outward 11 (t .rank) (badStrideAt (t .rank) (at (dstExtents t c)) (at (c .«dst_stride»))) orElse
-    lowest 12 (t .rank) (badDstOffsetOf t c)
+dstFault t c = firstFault (dstRules t c)
 
 -- a move is refused with 5 for a source shorter than the span, and with 13 for a destination shorter than need
-unfoldable pub moveFault : Tensor → Config → ℕ → ℕ → Fault
-moveFault t c srcLen dstLen =
-    sourceFault t orElse
-    when 5 0 (ltb srcLen (span t)) orElse
-    configFault t c orElse
-    dstFault t c orElse
-    when 13 0 (ltb dstLen (need t c))
+abbrev pub moveRules : Tensor → Config → ℕ → ℕ → Rules
+moveRules t c srcLen dstLen =
+    sourceRules t then
+    overall 5 (ltb srcLen (span t)) then
+    configRules t c then
+    dstRules t c then
+    overall 13 (ltb dstLen (need t c))
 
--- a room question knows no lengths
+unfoldable pub moveFault : Tensor → Config → ℕ → ℕ → Fault
+moveFault t c srcLen dstLen = firstFault (moveRules t c srcLen dstLen)
+
+-- a room question knows no lengths: no 5 and no 13
+abbrev pub roomRules : Tensor → Config → Rules
+roomRules t c = sourceRules t then configRules t c then dstRules t c
+
 unfoldable pub roomFault : Tensor → Config → Fault
-roomFault t c = sourceFault t orElse configFault t c orElse dstFault t c
+roomFault t c = firstFault (roomRules t c)
 
 -- ---- The answers
 

@@ -8,7 +8,7 @@ use Rattle.plane.specs.declared.Tensor.{Tensor}
 use Rattle.faults.specs.declared.Fault.{Fault}
 use Rattle.plane.specs.declared.Source.{Source}
 use Rattle.plane.specs.Arrays.{at, firsts, zeros, sum, or0}
-use Rattle.faults.specs.Faults.{when, _orElse_, lowest, outward, ifFault}
+use Rattle.faults.specs.Faults.{ifFault, Rules, overall, fromFirst, fromLast, _then_, firstFault}
 
 abbrev pub zeroTensor : Tensor
 zeroTensor = record { rank = 0; «element_size» = 0; shape = zeros; stride = zeros }
@@ -72,12 +72,15 @@ unfoldable pub span : Tensor → ℕ
 span t = (1 + sum (t .rank) (λ d. sourceAt t d (shapeAt t d - 1))) * t .«element_size»
 
 -- 1 to 4
+abbrev pub sourceRules : Tensor → Rules
+sourceRules t =
+    overall 1 (badRank (t .rank)) then
+    overall 2 (badElement (t .«element_size»)) then
+    fromFirst 3 (t .rank) (λ d. badShape (shapeAt t d)) then
+    fromLast 4 (t .rank) (badStrideAt (t .rank) (shapeAt t) (strideAt t))
+
 unfoldable pub sourceFault : Tensor → Fault
-sourceFault t =
-    when 1 0 (badRank (t .rank)) orElse
-    when 2 0 (badElement (t .«element_size»)) orElse
-    lowest 3 (t .rank) (λ d. badShape (shapeAt t d)) orElse
-    outward 4 (t .rank) (badStrideAt (t .rank) (shapeAt t) (strideAt t))
+sourceFault t = firstFault (sourceRules t)
 
 -- a tensor record by itself: its resolved strides and its span; zeros besides a fault
 unfoldable pub sourceOf : Tensor → Source

@@ -25,19 +25,19 @@ use Rattle.record.proofs.Laying.{record-laid}
 
 module _ (bs : List ℕ) where
   pub read-25 : badLength (length bs) ≡ true → readFault bs ≡ fault 25 0
-  unfolding readFault
+  unfolding readFault fieldsFault
   read-25 l = given 25 0 _ _ (omega arith) l
 
   pub read-26 : badLength (length bs) ≡ false → badMark bs ≡ true → readFault bs ≡ fault 26 0
-  unfolding readFault
+  unfolding readFault fieldsFault
   read-26 l m = spared 25 0 _ _ l ∙ given 26 0 _ _ (omega arith) m
 
   pub read-27 : badLength (length bs) ≡ false → badMark bs ≡ false → badVersion bs ≡ true → readFault bs ≡ fault 27 0
-  unfolding readFault
+  unfolding readFault fieldsFault
   read-27 l m v = spared 25 0 _ _ l ∙ spared 26 0 _ _ m ∙ given 27 0 _ _ (omega arith) v
 
   pub read-fields : badLength (length bs) ≡ false → badMark bs ≡ false → badVersion bs ≡ false → readFault bs ≡ fieldsFault (versionByLength (length bs)) (tensorIn bs) (configIn bs)
-  unfolding readFault
+  unfolding readFault fieldsFault
   read-fields l m v = spared 25 0 _ _ l ∙ spared 26 0 _ _ m ∙ spared 27 0 _ _ v
 
   pub read-refused : {f : Fault} {r : Reading} → readFault bs ≡ f → (f .status ≡ 0 → ⊥) → r ≡ noReading f → r ≡ readOf bs
@@ -83,7 +83,7 @@ module _ (t : Tensor) (c : Config) where
   room-bad n h = ap not (ne-eqb n (lengthOf (versionFor c)) h)
 
   pub write-fields : (n : ℕ) → n ≡ lengthOf (versionFor c) → writeFault t c n ≡ fieldsFault (versionFor c) t c
-  unfolding writeFault
+  unfolding writeFault fieldsFault
   write-fields n l = spared 25 0 _ _ (ap not (eq-eqb n (lengthOf (versionFor c)) l))
 
   module _ (room : List ℕ) where
@@ -97,7 +97,7 @@ module _ (t : Tensor) (c : Config) where
 
     -- as the code comes to it
     pub write-short : (length room ≡ lengthOf (versionFor c) → ⊥) → (fault 25 0 ≡ writeFault t c (length room)) × (room ≡ writtenRoom t c room)
-    unfolding writeFault
+    unfolding writeFault fieldsFault
     write-short l =
         let e : writeFault t c (length room) ≡ fault 25 0 = given 25 0 _ _ (omega arith) (room-bad (length room) l) in
         (sym e, sym (room-kept (is-fault 25 0 (omega arith) e)))

@@ -9,8 +9,7 @@ use Rattle.plane.specs.declared.Tensor.{Tensor}
 use Rattle.plane.specs.declared.Config.{Config}
 use Rattle.plane.specs.Planes.{badRank, badElement}
 use Rattle.faults.specs.declared.Fault.{Fault}
-use Rattle.faults.specs.Faults.{fault, lowest}
-use Rattle.faults.specs.Exactness.{fromFirst}
+use Rattle.faults.specs.Faults.{fault, lowest, fromFirst}
 use Rattle.faults.proofs.Bools.{both, not-first, not-second}
 use Rattle.faults.proofs.Faults.{or-path, or-clear, given, spared, when-bad, when-good, when-clear, passed, stopped}
 use Rattle.faults.proofs.Chains.{or-last}

@@ -140,7 +140,7 @@ module _ (t : Tensor) (c : Config) (f : Fits t c) where
 
 -- the theorem: what is written reads back
 pub read-back : ReadBack
-unfolding writeFault
+unfolding writeFault fieldsFault
 read-back t c f room z = ap readOf (room-written t c room z) ∙ record-back t c f (or-clear _ _ z .1)
 
 -- ---- b. Bytes read and accepted come back
@@ -253,7 +253,7 @@ record Passed (bs : List ℕ) : Type 0 where
   fields : fieldsFault (versionByLength (length bs)) (tensorIn bs) (configIn bs) .status ≡ 0
 
 passed : (bs : List ℕ) → readFault bs .status ≡ 0 → Passed bs
-unfolding readFault
+unfolding readFault fieldsFault
 passed bs z =
     let x = or-clear (when 25 0 (badLength (length bs))) _ z in
     let y = or-clear (when 26 0 (badMark bs)) _ (x .1) in

@@ -7,8 +7,7 @@ use Rattle.faults.specs.Faults.{fault}
 use Rattle.faults.specs.Exactness.{Exact}
 use Rattle.plane.specs.declared.Tensor.{Tensor}
 use Rattle.plane.specs.declared.Config.{Config}
-use Rattle.record.specs.Records.{fieldsFault, writeFault, noReading, readOf, writtenRoom}
-use Rattle.record.specs.Orders.{fieldsRules, readRules, writeRules}
+use Rattle.record.specs.Records.{fieldsRules, fieldsFault, readRules, writeRules, writeFault, noReading, readOf, writtenRoom}
 
 -- every answer is exact for the rules of its call
 abbrev pub ReadExact : Type 0

@@ -8,7 +8,7 @@ use Rattle.plane.specs.declared.Tensor.{Tensor}
 use Rattle.plane.specs.declared.Config.{Config}
 use Rattle.faults.specs.declared.Fault.{Fault}
 use Rattle.plane.specs.Arrays.{at, some}
-use Rattle.faults.specs.Faults.{when, _orElse_, lowest, ifFault}
+use Rattle.faults.specs.Faults.{ifFault, Rules, overall, fromFirst, _then_, firstFault}
 use Rattle.plane.specs.Planes.{zeroTensor, badRank, badElement}
 use Rattle.plane.specs.Numbers.{little}
 use Rattle.plane.specs.Settings.{configOf, zeroConfig}
@@ -65,23 +65,32 @@ abbrev pub badFill : ℕ → ℕ → Bool
 badFill z n = eqb n 0 || leb (256 ^ z) n
 
 -- what read and write share: 1, for version 2 also 2, 28, and for version 2 also 28 at dimension 0
+abbrev pub fieldsRules : ℕ → Tensor → Config → Rules
+fieldsRules v t c =
+    overall 1 (badRank (t .rank)) then
+    overall 2 (eqb v 2 && badElement (t .«element_size»)) then
+    fromFirst 28 4 (stray t c) then
+    overall 28 (eqb v 2 && badFill (t .«element_size») (c .fill))
+
 unfoldable pub fieldsFault : ℕ → Tensor → Config → Fault
-fieldsFault v t c =
-    when 1 0 (badRank (t .rank)) orElse
-    when 2 0 (eqb v 2 && badElement (t .«element_size»)) orElse
-    lowest 28 4 (stray t c) orElse
-    when 28 0 (eqb v 2 && badFill (t .«element_size») (c .fill))
+fieldsFault v t c = firstFault (fieldsRules v t c)
+
+abbrev pub readRules : List ℕ → Rules
+readRules bs =
+    overall 25 (badLength (length bs)) then
+    overall 26 (badMark bs) then
+    overall 27 (badVersion bs) then
+    fieldsRules (versionByLength (length bs)) (tensorIn bs) (configIn bs)
 
 unfoldable pub readFault : List ℕ → Fault
-readFault bs =
-    when 25 0 (badLength (length bs)) orElse
-    when 26 0 (badMark bs) orElse
-    when 27 0 (badVersion bs) orElse
-    fieldsFault (versionByLength (length bs)) (tensorIn bs) (configIn bs)
+readFault bs = firstFault (readRules bs)
 
 -- for a room of n bytes
+abbrev pub writeRules : Tensor → Config → ℕ → Rules
+writeRules t c n = overall 25 (badRoom c n) then fieldsRules (versionFor c) t c
+
 unfoldable pub writeFault : Tensor → Config → ℕ → Fault
-writeFault t c n = when 25 0 (badRoom c n) orElse fieldsFault (versionFor c) t c
+writeFault t c n = firstFault (writeRules t c n)
 
 -- ---- The answers
 

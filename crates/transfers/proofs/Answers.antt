@@ -1,21 +1,36 @@
 -- The answers of the calls: what each check of the code tells, in the paper's order. Assumes nothing.
-use Prim.Native.Nat.{ℕ, _-_, _≤_, _<_}
+use Prim.Native.Nat.{ℕ, _≤_, _<_}
 use native.Mathlib.Omega.{arith}
 use mathlib.Core.Path.{_≡_, refl, sym, ap, _∙_}
-use mathlib.Core.Bool.{Bool, true, false, not, _||_}
+use mathlib.Core.Bool.{true, false, not, _||_}
 use borrow.Author.Tests.{eq-eqb, ne-eqb, eqb-true, eqb-false, lt-ltb, le-ltb, ltb-false, not-false}
 use lib.Dec.{ltb, eqb}
 use Rattle.faults.specs.declared.Fault.{Fault}
-use Rattle.faults.specs.Faults.{fault, when, _orElse_}
+use Rattle.faults.specs.Faults.{fault, when, _orElse_, ifFault}
 use Rattle.faults.proofs.Bools.{either-clear, either-first, either-second, neither}
 use Rattle.faults.proofs.Faults.{status, or-none, or-found, or-clear, if-fault, if-none, when-bad, when-clear, when-zero, given, spared}
+use Rattle.faults.proofs.Chains.{overall-dim}
 use Rattle.mover.specs.declared.Job.{Job}
 use Rattle.mover.specs.declared.Verdict.{Verdict}
 use Rattle.mover.specs.Within.{jobFault, verdictOf}
 use Rattle.transfers.specs.declared.Slot.{Slot}
 use Rattle.transfers.specs.declared.Table.{Table}
-use Rattle.transfers.specs.Slots.{slotAt, withSlot, isFree, lowestFree, clashes, tableSound}
-use Rattle.transfers.specs.Calls.{openFault, prepareFault, callFault, newSlot, prepareOf, changed}
+use Rattle.transfers.specs.declared.FreshTable.{FreshTable}
+use Rattle.transfers.specs.Slots.{freshTable, slotAt, withSlot, isFree, lowestFree, clashes, tableSound, limit}
+use Rattle.transfers.specs.Calls.{freshFault, freshOf, openRules, openFault, prepareFault, callFault, newSlot, prepareOf, changed}
+
+-- ---- a fresh table: 17
+
+module _ (n : ℕ) where
+  pub fresh-17 : limit < n → record { status = 17; table = freshTable 0 } ≡ freshOf n
+  unfolding freshOf freshFault
+  fresh-17 h =
+      ap (λ (f : Fault). ifFault {A = FreshTable} f (record { status = f .status; table = freshTable 0 }) (record { status = 0; table = freshTable n }))
+      (sym (when-bad 17 0 _ (lt-ltb limit n h)))
+
+  pub fresh-0 : n ≤ limit → record { status = 0; table = freshTable n } ≡ freshOf n
+  unfolding freshOf freshFault
+  fresh-0 h = sym (if-none (freshFault n) _ _ (when-zero 17 0 _ (le-ltb limit n h)))
 
 -- ---- 17, 18
 
@@ -36,15 +51,9 @@ module _ (t : Table) (n : ℕ) where
     open-0 e = sym (status long ∙ when-zero 18 0 _ (ap not e))
 
   -- neither names a dimension
-  no-dim : (a b : Bool) → (when 17 0 a orElse when 18 0 b) .dim ≡ 0
-  unfolding when _orElse_
-  no-dim true b = refl
-  no-dim false true = refl
-  no-dim false false = refl
-
   pub open-is : openFault t n ≡ fault (openFault t n .status) 0
   unfolding openFault
-  open-is = let d = no-dim (not (eqb n (t .length))) (not (tableSound t)) in λ i. record { status = openFault t n .status; dim = d i }
+  open-is = let d = overall-dim (openRules t n) refl in λ i. record { status = openFault t n .status; dim = d i }
 
   pub record Open : Type 0 where
     pub long : n ≡ t .length
@@ -63,12 +72,12 @@ module _ (t : Table) (n : ℕ) where
 
 module _ (t : Table) (n h want : ℕ) where
   pub call-closed : {r : ℕ} → r ≡ openFault t n .status → (r ≡ 0 → ⊥) → r ≡ callFault t n h want .status
-  unfolding callFault
+  unfolding callFault openFault
   call-closed e b = e ∙ sym (status (or-found (openFault t n) _ (λ z. b (e ∙ z))))
 
   module _ (z : openFault t n .status ≡ 0) where
     call-open : callFault t n h want ≡ (when 23 0 (ltb 3 h || isFree t h) orElse when 24 0 (not (eqb (slotAt t h .state) want)))
-    unfolding callFault
+    unfolding callFault openFault
     call-open = or-none _ _ z
 
     pub call-high : 3 < h → 23 ≡ callFault t n h want .status
@@ -99,7 +108,7 @@ module _ (t : Table) (n h want : ℕ) where
     pub state : slotAt t h .state ≡ want
 
   pub called : callFault t n h want .status ≡ 0 → Called
-  unfolding callFault
+  unfolding callFault openFault
   called z =
       let w = or-clear (openFault t n) _ z in
       let v = or-clear _ _ (w .1) in
@@ -123,13 +132,13 @@ module _ (t : Table) (n : ℕ) (j : Job) where
       sym (if-fault (prepareFault t n j) _ _ (λ z. b (sym (status e) ∙ z)))
 
   pub prepare-closed : {r : ℕ} → r ≡ openFault t n .status → (r ≡ 0 → ⊥) → record { status = r; dim = 0; handle = 0; table = t } ≡ prepareOf t n j
-  unfolding prepareFault
+  unfolding prepareFault openFault jobFault
   prepare-closed e b =
       refuses (or-found (openFault t n) _ (λ z. b (e ∙ z)) ∙ open-is t n ∙ ap (λ (k : ℕ). fault k 0) (sym e)) b
 
   module _ (z : openFault t n .status ≡ 0) where
     prepare-open : prepareFault t n j ≡ (when 19 0 (eqb (lowestFree t) 4) orElse jobFault n j orElse when 22 0 (clashes t j 4))
-    unfolding prepareFault
+    unfolding prepareFault openFault jobFault
     prepare-open = or-none _ _ z
 
     pub prepare-19 : lowestFree t ≡ 4 → record { status = 19; dim = 0; handle = 0; table = t } ≡ prepareOf t n j
@@ -171,7 +180,7 @@ module _ (t : Table) (n : ℕ) (j : Job) where
     pub apart : clashes t j 4 ≡ false
 
   pub preparing : prepareFault t n j .status ≡ 0 → Preparing
-  unfolding prepareFault
+  unfolding prepareFault openFault jobFault
   preparing z =
       let a = or-clear (openFault t n) _ z in
       let b = or-clear _ _ (a .1) in

@@ -5,11 +5,12 @@ use Prim.Native.Nat.{ℕ, _+_, _-_, _≤_, _<_, min}
 use native.Mathlib.Nat.{zero-add}
 use native.Mathlib.Omega.{arith}
 use native.Mathlib.Decide.{ℕ-discrete}
-use mathlib.Core.Bool.{Bool, true, false, cond}
+use mathlib.Core.Bool.{Bool, true, false, not, cond}
 use mathlib.Core.List.{List, [], _∷_}
 use lib.Dec.{eqb, ltb}
 use lib.ListN.{length}
 use borrow.Author.Tests.{eq-eqb, ne-eqb, eqb-true, ltb-false}
+use Rattle.faults.specs.Faults.{when, _orElse_, ifFault}
 use Rattle.mover.specs.declared.Job.{Job}
 use Rattle.mover.specs.Within.{totalOf}
 use Rattle.mover.proofs.Laws.{advanced-length}
@@ -21,7 +22,7 @@ use Rattle.transfers.specs.declared.Stepped.{Stepped}
 use Rattle.transfers.specs.declared.Poll.{Poll}
 use Rattle.transfers.specs.declared.Poll.the-variants as says
 use Rattle.transfers.specs.Slots.{slotAt, freeSlot, withSlot, lowestFree, tableSound}
-use Rattle.transfers.specs.Calls.{callFault, prepareFault, newSlot, prepareOf, changed, running, startOf, releaseOf, stepCount, later, stepOf, stepMemory, left, pollSlot, pollOf}
+use Rattle.transfers.specs.Calls.{callFault, prepareFault, newSlot, prepareOf, changed, running, startOf, releaseOf, stepCount, later, stepOf, stepMemory, left, pollSlot, pollFault, pollOf}
 use Rattle.transfers.specs.Demand3.{Call, prepare, start, step, release, poll, World, after, run}
 use Rattle.transfers.specs.Claims.{spends, spend, Unreleased, BudgetsFinish}
 use Rattle.transfers.proofs.Fours.{slot-same, slot-other, lowest-is}
@@ -173,7 +174,7 @@ record Tells (t : Table) (h n : ℕ) : Type 0 where
   rest : left (slotAt t h) ≡ n
 
 tells : (t : Table) (h n : ℕ) → pollOf t h ≡ says.Running n → Tells t h n
-unfolding pollOf pollSlot
+unfolding pollOf pollFault pollSlot when _orElse_
 tells t h n =
     by-tests (tableSound t) (ltb 3 h) (eqb (slotAt t h .state) 0) (eqb (slotAt t h .state) 1) (eqb (slotAt t h .state) 2) refl refl refl
   where
@@ -181,7 +182,7 @@ tells t h n =
     not-so p f = absurd (let z = f (sym p) in omega arith)
 
     by-tests : (a b c d e : Bool) → tableSound t ≡ a → ltb 3 h ≡ b → eqb (slotAt t h .state) 2 ≡ e
-        → cond a (cond b (says.Refused 23) (cond c says.Free (cond d (says.Prepared (left (slotAt t h))) (cond e (says.Running (left (slotAt t h))) says.Done)))) (says.Refused 18) ≡ says.Running n
+        → (let f = (when 18 0 (not a) orElse when 23 0 b) in ifFault f (says.Refused (f .status)) (cond c says.Free (cond d (says.Prepared (left (slotAt t h))) (cond e (says.Running (left (slotAt t h))) says.Done)))) ≡ says.Running n
         → Tells t h n
     by-tests false b c d e pa pb pe r = not-so r (λ z. cc)
     by-tests true true c d e pa pb pe r = not-so r (λ z. cc)

@@ -2,10 +2,11 @@
 -- Assumes nothing.
 use mathlib.Core.Path.{_≡_, refl, sym, subst, subst₂}
 use Prim.Native.Nat.{ℕ, zero, suc}
-use native.Mathlib.Decide.{ℕ-discrete}
-use mathlib.Core.Bool.{Bool, true, false, cond}
+use native.Mathlib.Decide.{ℕ-discrete, decLt}
+use native.Mathlib.Omega.{arith}
+use mathlib.Core.Bool.{cond}
 use mathlib.Core.List.{List, [], _∷_}
-use lib.Dec.{eqb, leb}
+use lib.Dec.{eqb}
 use lib.ListN.{length, getD}
 use borrow.Author.Tests.{ne-eqb}
 use Rattle.faults.specs.declared.Fault.{Fault}
@@ -19,7 +20,6 @@ use Rattle.serial.specs.Machine as machine
 use Rattle.serial.proofs.Serial as serial
 use Rattle.transfers.specs.declared.Slot.{Slot}
 use Rattle.transfers.specs.declared.Table.{Table}
-use Rattle.transfers.specs.declared.FreshTable.{FreshTable}
 use Rattle.transfers.specs.declared.Prepared.{Prepared}
 use Rattle.transfers.specs.declared.Changed.{Changed}
 use Rattle.transfers.specs.declared.Stepped.{Stepped}
@@ -27,7 +27,7 @@ use Rattle.transfers.specs.Slots.{freeSlot, freshTable, slotAt, withSlot
 use Rattle.transfers.specs.Calls.{freshOf, prepareFault, callFault, newSlot, prepareOf, changed, running, startOf, releaseOf, stepCount, later, stepOf, stepMemory}
 use Rattle.transfers.specs.Demand3.{theMover, Log, notePrepare, noteStep, noteRelease, Course, made, prepared, started, stepped, freed, Call, prepare, start, step, release, poll, World, begin, after, run, ForCourses, ForRuns}
 use Rattle.transfers.proofs.Fours.{lowest-is}
-use Rattle.transfers.proofs.Answers.{called, preparing}
+use Rattle.transfers.proofs.Answers.{fresh-17, fresh-0, called, preparing}
 use Rattle.transfers.proofs.Lawful.{lawful, applied-advanced, whole-moves, clear-of}
 use Rattle.transfers.proofs.View.{view, view-with, view-free, view-taken, shown-job, later-view, quiet-view}
 use Rattle.transfers.proofs.Midway.{in-place-each}
@@ -104,8 +104,10 @@ module _ (m₀ : List ℕ) where
             (machine.step r h (s .job) (s .moved) (rw e at (view-taken t h 1 (w .range) (w .state))) b (stepCount s b) refl)
 
   fresh-shown : (n : ℕ) → Shown (freshOf n .table) m₀ []
-  unfolding freshOf
-  fresh-shown n = by-test (leb n limit)
+  fresh-shown n = elim (decLt limit n) [
+    | yes h ↦ rw (← fresh-17 n h) (machine.fresh (all-free 0))
+    | no h ↦ rw (← fresh-0 n (omega arith)) (machine.fresh (all-free n))
+  ]
     where
       all-free : (n h : ℕ) → getD (view (freshTable n)) h machine.free ≡ machine.free
       all-free n zero = refl
@@ -113,10 +115,6 @@ module _ (m₀ : List ℕ) where
       all-free n (suc (suc zero)) = refl
       all-free n (suc (suc (suc zero))) = refl
       all-free n (suc (suc (suc (suc h)))) = refl
-
-      by-test : (b : Bool) → Shown (cond {A = FreshTable} b (record { status = 0; table = freshTable n }) (record { status = 17; table = freshTable 0 }) .table) m₀ []
-      by-test true = machine.fresh (all-free n)
-      by-test false = machine.fresh (all-free 0)
 
   shown : {t : Table} {m : List ℕ} {log : Log} → Course m₀ t m log → Shown t m log
   shown (made n e) = rw e (fresh-shown n)

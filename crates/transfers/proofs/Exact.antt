@@ -1,76 +1,32 @@
--- Each refusal in its exact case and order, as in plane's file of this name, for the rules of `specs/Orders.antt`. A refused call
+-- Each refusal in its exact case and order, as in plane's file of this name. A refused call
 -- hands back the table that it was given, with zeros besides, and leaves the memory as it was. Assumes nothing.
 use Prim.Native.Nat.{ℕ}
-use native.Mathlib.Decide.{ℕ-discrete}
+use native.Mathlib.Decide.{ℕ-discrete, decLt}
 use native.Mathlib.Omega.{arith}
 use mathlib.Core.Path.{_≡_, refl, sym, ap, _∙_}
-use mathlib.Core.Bool.{Bool, true, false, cond, not, _||_}
-use mathlib.Core.List.{List, [], _∷_, _++_}
-use lib.Dec.{ltb, leb, eqb}
+use mathlib.Core.Bool.{Bool, true, false, cond}
+use mathlib.Core.List.{List}
+use lib.Dec.{eqb}
 use lib.ListN.{length}
 use Rattle.faults.specs.declared.Fault.{Fault}
-use Rattle.faults.specs.Faults.{when, _orElse_, ifFault}
-use Rattle.faults.specs.Exactness.{whole, Exact}
-use Rattle.faults.proofs.Faults.{or-none, or-found, if-fault, if-none}
-use Rattle.faults.proofs.Chains.{Positive, chain, exact, join, one-chain}
+use Rattle.faults.specs.Faults.{ifFault}
+use Rattle.faults.specs.Exactness.{Exact}
+use Rattle.faults.proofs.Faults.{if-fault, if-none}
+use Rattle.faults.proofs.Chains.{exact, exact-overall}
 use Rattle.mover.specs.declared.Job.{Job}
-use Rattle.mover.specs.Orders.{jobRules}
-use Rattle.mover.proofs.Exact.{job-chain}
 use Rattle.transfers.specs.declared.Slot.{Slot}
 use Rattle.transfers.specs.declared.Table.{Table}
 use Rattle.transfers.specs.declared.FreshTable.{FreshTable}
 use Rattle.transfers.specs.declared.Prepared.{Prepared}
 use Rattle.transfers.specs.declared.Changed.{Changed}
 use Rattle.transfers.specs.declared.Stepped.{Stepped}
-use Rattle.transfers.specs.Slots.{freshTable, slotAt, withSlot, isFree, lowestFree, clashes, tableSound, limit}
-use Rattle.transfers.specs.Calls.{freshOf, openFault, prepareFault, callFault, prepareOf, changed, startOf, releaseOf, stepOf, stepMemory, left, pollSlot, pollOf, pollStatus}
-use Rattle.transfers.specs.Orders.{freshRules, openRules, prepareRules, callRules, pollRules}
+use Rattle.transfers.specs.Slots.{freshTable, slotAt, withSlot, isFree, limit}
+use Rattle.transfers.specs.Calls.{freshRules, freshFault, freshOf, prepareRules, prepareFault, callRules, callFault, prepareOf, changed, startOf, releaseOf, stepOf, stepMemory, left, pollSlot, pollRules, pollFault, pollOf, pollStatus}
 use Rattle.transfers.specs.Claims.{ExactCalls, RefusedCalls}
-use Rattle.transfers.specs.declared.Poll.{Poll}
+use Rattle.transfers.proofs.Answers.{fresh-17, fresh-0}
 use Rattle.transfers.specs.declared.Poll.the-variants as poll
 
--- ---- the calls are held to their lists
-
-open-chain : (t : Table) (n : ℕ) → openFault t n ≡ chain (openRules t n)
-unfolding openFault
-open-chain t n =
-    join (whole 17 (not (eqb n (t .length))) ∷ []) (whole 18 (not (tableSound t)) ∷ []) (one-chain 17 _ (omega arith)) (one-chain 18 _ (omega arith))
-
-prepare-chain : (t : Table) (n : ℕ) (j : Job) → prepareFault t n j ≡ chain (prepareRules t n j)
-unfolding prepareFault
-prepare-chain t n j =
-    let full = whole 19 (eqb (lowestFree t) 4) ∷ [] in
-    let last = whole 22 (clashes t j 4) ∷ [] in
-    join (openRules t n) (full ++ jobRules n j ++ last) (open-chain t n)
-    (join full (jobRules n j ++ last) (one-chain 19 _ (omega arith)) (join (jobRules n j) last (job-chain n j) (one-chain 22 _ (omega arith))))
-
-prepare-positive : (t : Table) (n : ℕ) (j : Job) → Positive (prepareRules t n j)
-prepare-positive t n j = omega arith
-
-call-chain : (t : Table) (n h want : ℕ) → callFault t n h want ≡ chain (callRules t n h want)
-unfolding callFault
-call-chain t n h want =
-    let free = whole 23 (ltb 3 h || isFree t h) ∷ [] in
-    let other = whole 24 (not (eqb (slotAt t h .state) want)) ∷ [] in
-    join (openRules t n) (free ++ other) (open-chain t n) (join free other (one-chain 23 _ (omega arith)) (one-chain 24 _ (omega arith)))
-
--- ---- numbers and dimensions of the answers
-
-when-dim : (num : ℕ) (b : Bool) → when num 0 b .dim ≡ 0
-unfolding when
-when-dim num true = refl
-when-dim num false = refl
-
-or-dim : (f g : Fault) → f .dim ≡ 0 → g .dim ≡ 0 → (f orElse g) .dim ≡ 0
-or-dim f g p q = elim (ℕ-discrete (f .status) 0) [
-  | yes z ↦ rw (or-none f g z) q
-  | no b ↦ rw (or-found f g b) p
-]
-
-call-dim : (t : Table) (n h want : ℕ) → callFault t n h want .dim ≡ 0
-unfolding callFault openFault
-call-dim t n h want =
-    or-dim _ _ (or-dim _ _ (when-dim 17 _) (when-dim 18 _)) (or-dim _ _ (when-dim 23 _) (when-dim 24 _))
+-- ---- numbers of the answers
 
 -- an answer that has number 0 where there is no fault, and the fault's where there is one
 number-of : {A : Type 0} (f : Fault) (y x : A) (number : A → ℕ) → number y ≡ f .status → number x ≡ 0 → number (ifFault f y x) ≡ f .status
@@ -81,30 +37,21 @@ number-of f y x number p q = elim (ℕ-discrete (f .status) 0) [
 
 -- and a call that names no dimension
 call-exact : (t : Table) (n h want : ℕ) {number : ℕ} → number ≡ callFault t n h want .status → Exact (callRules t n h want) number 0
-call-exact t n h want e =
-    exact (callRules t n h want) (omega arith) (callFault t n h want) (call-chain t n h want) e (λ z. refl) (λ b. sym (call-dim t n h want))
+unfolding callFault
+call-exact t n h want e = exact-overall (callRules t n h want) (omega arith) refl e
 
 -- ---- the theorems
 
 module _ (n : ℕ) where
-  fresh-number : (v : Bool) → cond {A = FreshTable} v (record { status = 0; table = freshTable n }) (record { status = 17; table = freshTable 0 }) .status ≡ when 17 0 (not v) .status
-  unfolding when
-  fresh-number true = refl
-  fresh-number false = refl
-
   pub fresh-exact : Exact (freshRules n) (freshOf n .status) 0
-  unfolding freshOf
-  fresh-exact =
-      exact (freshRules n) (omega arith) (when 17 0 (not (leb n limit))) (one-chain 17 _ (omega arith)) (fresh-number (leb n limit))
-      (λ z. refl) (λ b. sym (when-dim 17 (not (leb n limit))))
+  unfolding freshOf freshFault
+  fresh-exact = exact-overall (freshRules n) (omega arith) refl (number-of (freshFault n) _ _ (λ (r : FreshTable). r .status) refl refl)
 
   pub fresh-refused : (freshOf n .status ≡ 0 → ⊥) → freshOf n ≡ record { status = 17; table = freshTable 0 }
-  unfolding freshOf
-  fresh-refused h = by-test (leb n limit) h
-    where
-      by-test : (v : Bool) → (cond {A = FreshTable} v (record { status = 0; table = freshTable n }) (record { status = 17; table = freshTable 0 }) .status ≡ 0 → ⊥) → cond {A = FreshTable} v (record { status = 0; table = freshTable n }) (record { status = 17; table = freshTable 0 }) ≡ record { status = 17; table = freshTable 0 }
-      by-test true h = absurd (h refl)
-      by-test false h = refl
+  fresh-refused h = elim (decLt limit n) [
+    | yes b ↦ sym (fresh-17 n b)
+    | no b ↦ absurd (h (ap (λ (r : FreshTable). r .status) (sym (fresh-0 n (omega arith)))))
+  ]
 
 module _ (t : Table) (n : ℕ) (j : Job) where
   prepare-number : prepareOf t n j .status ≡ prepareFault t n j .status
@@ -121,9 +68,9 @@ module _ (t : Table) (n : ℕ) (j : Job) where
   prepare-back b = if-fault (prepareFault t n j) _ _ b
 
   pub prepare-exact : Exact (prepareRules t n j) (prepareOf t n j .status) (prepareOf t n j .dim)
+  unfolding prepareFault
   prepare-exact =
-      exact (prepareRules t n j) (prepare-positive t n j) (prepareFault t n j) (prepare-chain t n j) prepare-number
-      prepare-plain (λ b. ap (λ (r : Prepared). r .dim) (prepare-back b))
+      exact (prepareRules t n j) (omega arith) prepare-number prepare-plain (λ b. ap (λ (r : Prepared). r .dim) (prepare-back b))
 
   pub prepare-refused : (prepareOf t n j .status ≡ 0 → ⊥) → prepareOf t n j ≡ record { status = prepareOf t n j .status; dim = prepareOf t n j .dim; handle = 0; table = t }
   prepare-refused b =
@@ -184,20 +131,12 @@ module _ (t : Table) (h : ℕ) where
   slot-number false false true k = refl
   slot-number false false false k = refl
 
-  poll-number : (v w : Bool) (r : Poll) → pollStatus r ≡ 0 → pollStatus (cond v (cond w (poll.Refused 23) r) (poll.Refused 18)) ≡ (when 18 0 (not v) orElse when 23 0 w) .status
-  unfolding when _orElse_
-  poll-number true true r e = refl
-  poll-number true false r e = e
-  poll-number false w r e = refl
-
   pub poll-exact : Exact (pollRules t h) (pollStatus (pollOf t h)) 0
-  unfolding pollOf pollSlot
+  unfolding pollOf pollFault pollSlot
   poll-exact =
-      exact (pollRules t h) (omega arith) (when 18 0 (not (tableSound t)) orElse when 23 0 (ltb 3 h))
-      (join (whole 18 (not (tableSound t)) ∷ []) (whole 23 (ltb 3 h) ∷ []) (one-chain 18 _ (omega arith)) (one-chain 23 _ (omega arith)))
-      (poll-number (tableSound t) (ltb 3 h) (pollSlot (slotAt t h))
+      exact-overall (pollRules t h) (omega arith) refl
+      (number-of (pollFault t h) _ _ pollStatus refl
       (slot-number (isFree t h) (eqb (slotAt t h .state) 1) (eqb (slotAt t h .state) 2) (left (slotAt t h))))
-      (λ z. refl) (λ b. sym (or-dim _ _ (when-dim 18 _) (when-dim 23 _)))
 
 pub exact-calls : ExactCalls
 exact-calls = record {

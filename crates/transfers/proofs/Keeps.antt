@@ -1,11 +1,11 @@
 -- Every call that is handed a sound table hands back a sound one of the same length, and a fresh table is sound. Assumes nothing.
 use Prim.Native.Nat.{ℕ, zero, suc, _+_, _≤_, _<_}
-use native.Mathlib.Decide.{ℕ-discrete}
+use native.Mathlib.Decide.{ℕ-discrete, decLt}
 use native.Mathlib.Omega.{arith}
 use mathlib.Core.Path.{_≡_, refl, sym, subst, _∙_}
 use mathlib.Core.Bool.{Bool, true, false, cond}
-use borrow.Author.Tests.{eqb-true, eqb-false, leb-true, lt-ltb}
-use lib.Dec.{leb, eqb}
+use borrow.Author.Tests.{eqb-true, eqb-false, lt-ltb}
+use lib.Dec.{eqb}
 use Rattle.faults.specs.declared.Fault.{Fault}
 use Rattle.faults.specs.Faults.{ifFault}
 use Rattle.plane.specs.Arrays.{every}
@@ -16,7 +16,6 @@ use Rattle.mover.specs.Within.{totalOf}
 use Rattle.mover.proofs.Laws.{job-total}
 use Rattle.transfers.specs.declared.Slot.{Slot}
 use Rattle.transfers.specs.declared.Table.{Table}
-use Rattle.transfers.specs.declared.FreshTable.{FreshTable}
 use Rattle.transfers.specs.declared.Prepared.{Prepared}
 use Rattle.transfers.specs.declared.Changed.{Changed}
 use Rattle.transfers.specs.declared.Stepped.{Stepped}
@@ -26,7 +25,7 @@ use Rattle.transfers.specs.Sound.{SoundTable, SoundFor, TablesStaySound}
 use Rattle.transfers.proofs.Fours.{slot-same, slot-other, with-length, lowest-is}
 use Rattle.transfers.proofs.Meeting.{breaks-either, empty-breaks}
 use Rattle.transfers.proofs.Sounds.{Busy, busy, busy-sound, sound-tells, tells-sound, right-1, right-2, right-3, right-most}
-use Rattle.transfers.proofs.Answers.{Called, called, preparing}
+use Rattle.transfers.proofs.Answers.{fresh-17, fresh-0, Called, called, preparing}
 use Rattle.transfers.proofs.Steps.{count-within}
 
 -- ---- a fresh table
@@ -56,11 +55,10 @@ free-table n h =
     })
 
 pub fresh-keeps : (n : ℕ) → tableSound (freshOf n .table) ≡ true
-unfolding freshOf
-fresh-keeps n = go (leb n limit) refl where
-  go : (v : Bool) → leb n limit ≡ v → tableSound (cond {A = FreshTable} v (record { status = 0; table = freshTable n }) (record { status = 17; table = freshTable 0 }) .table) ≡ true
-  go true e = free-table n (leb-true n limit e)
-  go false e = free-table 0 (omega arith)
+fresh-keeps n = elim (decLt limit n) [
+  | yes h ↦ rw (← fresh-17 n h) (free-table 0 (omega arith))
+  | no h ↦ rw (← fresh-0 n (omega arith)) (free-table n (omega arith))
+]
 
 -- ---- slots that are not free
 

@@ -5,18 +5,19 @@ use native.Mathlib.Omega.{arith}
 use mathlib.Core.Path.{_≡_, refl, sym, ap, subst, _∙_}
 use mathlib.Core.Logic.{inl, inr}
 use mathlib.Core.Bool.{true, false, not, true≢false}
-use mathlib.Core.List.{List, [], _∷_, _++_}
-use borrow.Author.Tests.{eq-eqb, le-leb}
+use mathlib.Core.List.{List, [], _∷_}
+use borrow.Author.Tests.{eq-eqb}
 use lib.Dec.{ltb}
 use lib.ListN.{length}
-use Rattle.faults.specs.Exactness.{Rule, whole, Given, Exact}
+use Rattle.faults.specs.Faults.{Rules, overall, _then_}
+use Rattle.faults.specs.Exactness.{Given, Exact}
 use Rattle.faults.proofs.Chains.{has, never-given}
 use Rattle.transfers.specs.declared.Table.{Table}
 use Rattle.transfers.specs.Slots.{tableSound, limit}
-use Rattle.transfers.specs.Calls.{freshOf, pollOf, pollStatus}
+use Rattle.transfers.specs.Calls.{openRules, pollRules, pollOf, pollStatus}
 use Rattle.transfers.specs.Demand3.{Log, Course, made, prepared, started, stepped, freed, Call, prepare, start, step, release, poll, World, begin, after, run}
-use Rattle.transfers.specs.Orders.{openRules, pollRules}
 use Rattle.transfers.specs.Sound.{SoundFor, Handed, by-fresh, by-prepare, by-start, by-step, by-release, Neither17Nor18, NeverClosed, AlwaysOpen}
+use Rattle.transfers.proofs.Answers.{fresh-0}
 use Rattle.transfers.proofs.Keeps.{free-table, fresh-keeps, prepare-keeps, start-keeps, step-keeps, release-keeps}
 use Rattle.transfers.proofs.Exact.{prepare-exact, start-exact, step-exact, release-exact, poll-exact}
 use Rattle.transfers.proofs.Demand3.{listed, demand-3}
@@ -33,22 +34,18 @@ handed-sound (by-release {t} r m h) = let k = handed-sound r in onward (k .long)
 
 -- ---- numbers that are not given
 
-module _ (t : Table) (n : ℕ) (k : SoundFor n t) (rest : List Rule) (a : has 17 rest ≡ false) (b : has 18 rest ≡ false) where
-  never-17 : (d : ℕ) → Given (openRules t n ++ rest) 17 d → ⊥
-  never-17 d (inl g) = true≢false (sym (g .1 .here) ∙ ap not (eq-eqb n (t .length) (sym (k .long))))
-  never-17 d (inr g) = elim (g .1) [
-    | inl x ↦ omega (arith, x .0)
-    | inr x ↦ never-given rest 17 d a (x .1)
-  ]
+module _ (t : Table) (n : ℕ) (k : SoundFor n t) (rest : Rules) (a : has 17 rest ≡ false) (b : has 18 rest ≡ false) where
+  never-17 : (d : ℕ) → Given (openRules t n then rest) 17 d → ⊥
+  never-17 d (inl (inl g)) = true≢false (sym (g .1) ∙ ap not (eq-eqb n (t .length) (sym (k .long))))
+  never-17 d (inl (inr g)) = omega (arith, g .1 .0)
+  never-17 d (inr g) = never-given rest 17 d a (g .1)
 
-  never-18 : (d : ℕ) → Given (openRules t n ++ rest) 18 d → ⊥
-  never-18 d (inl g) = omega (arith, g .0)
-  never-18 d (inr g) = elim (g .1) [
-    | inl x ↦ true≢false (sym (x .1 .here) ∙ ap not (k .sound))
-    | inr x ↦ never-given rest 18 d b (x .1)
-  ]
+  never-18 : (d : ℕ) → Given (openRules t n then rest) 18 d → ⊥
+  never-18 d (inl (inl g)) = omega (arith, g .0)
+  never-18 d (inl (inr g)) = true≢false (sym (g .1 .1) ∙ ap not (k .sound))
+  never-18 d (inr g) = never-given rest 18 d b (g .1)
 
-  neither : {number dim : ℕ} → Exact (openRules t n ++ rest) number dim → Neither17Nor18 number
+  neither : {number dim : ℕ} → Exact (openRules t n then rest) number dim → Neither17Nor18 number
   neither {number} {dim} e = record {
     not-17 = λ z. never-17 dim (e .gives 17 dim (omega arith) .0 (z, refl));
     not-18 = λ z. never-18 dim (e .gives 18 dim (omega arith) .0 (z, refl));
@@ -59,8 +56,8 @@ poll-neither : (t : Table) (h : ℕ) → tableSound t ≡ true → Neither17Nor1
 poll-neither t h p = record {
   not-17 = λ z. never-given (pollRules t h) 17 0 refl (poll-exact t h .gives 17 0 (omega arith) .0 (z, refl));
   not-18 = λ z. elim (poll-exact t h .gives 18 0 (omega arith) .0 (z, refl)) [
-    | inl x ↦ true≢false (sym (x .1 .here) ∙ ap not p)
-    | inr x ↦ never-given (whole 23 (ltb 3 h) ∷ []) 18 0 refl (x .1)
+    | inl x ↦ true≢false (sym (x .1) ∙ ap not p)
+    | inr x ↦ never-given (overall 23 (ltb 3 h)) 18 0 refl (x .1)
   ];
 }
 
@@ -89,8 +86,8 @@ run-sound [] w p = record { sound = p; long = refl }
 run-sound (c ∷ cs) w p = let k = after-sound c w p in onward (k .long) (run-sound cs (after c w) (k .sound))
 
 begin-sound : (n : ℕ) (m : List ℕ) → n ≤ limit → SoundFor n (begin n m .table)
-unfolding begin freshOf
-begin-sound n m h = rw (le-leb n limit h) (record { sound = free-table n h; long = refl })
+unfolding begin
+begin-sound n m h = rw (← fresh-0 n h) (record { sound = free-table n h; long = refl })
 
 -- ---- the courses of demand 3
 

@@ -1,12 +1,13 @@
 -- A step, and a poll: what they know of the slot, and what they answer. Assumes nothing.
-use Prim.Native.Nat.{ℕ, _+_, _-_, _≤_, _<_}
+use Prim.Native.Nat.{ℕ, _+_, _≤_, _<_}
 use native.Mathlib.Omega.{arith}
 use mathlib.Core.Path.{_≡_, sym, ap, subst, _∙_}
-use mathlib.Core.Bool.{true, false}
+use mathlib.Core.Bool.{true, false, not}
 use mathlib.Core.List.{List}
 use borrow.Author.Tests.{ne-eqb, ltb-true, lt-ltb, le-ltb}
 use lib.ListN.{length}
-use Rattle.faults.proofs.Faults.{if-fault, if-none}
+use Rattle.faults.specs.Faults.{fault}
+use Rattle.faults.proofs.Faults.{status, is-fault, given, spared, when-bad, when-zero, if-fault, if-none}
 use Rattle.mover.specs.declared.Advanced.{Advanced}
 use Rattle.mover.specs.Within.{jobFault, totalOf, advancedBy, advanceOf, advanceMemory}
 use Rattle.transfers.specs.declared.Slot.{Slot}
@@ -14,7 +15,7 @@ use Rattle.transfers.specs.declared.Table.{Table}
 use Rattle.transfers.specs.declared.Poll.{Poll}
 use Rattle.transfers.specs.declared.Poll.the-variants as poll
 use Rattle.transfers.specs.Slots.{slotAt, withSlot, tableSound}
-use Rattle.transfers.specs.Calls.{callFault, stepCount, later, stepOf, stepMemory, left, pollSlot, pollOf, pollNumbers}
+use Rattle.transfers.specs.Calls.{callFault, stepCount, later, stepOf, stepMemory, left, pollSlot, pollFault, pollOf, pollNumbers}
 use Rattle.transfers.proofs.Sounds.{Busy, busy, right-2, right-most, sound-tells}
 use Rattle.transfers.proofs.Answers.{called}
 
@@ -105,19 +106,24 @@ module _ (t : Table) (h : ℕ) where
   pub numbered : {r : Poll} → r ≡ pollOf t h → (r ≡ pollOf t h) × (pollNumbers r ≡ pollNumbers (pollOf t h))
   numbered e = (e, ap pollNumbers e)
 
-  pub poll-18 : tableSound t ≡ false → poll.Refused 18 ≡ pollOf t h
+  refused-by : {num : ℕ} → 0 < num → pollFault t h ≡ fault num 0 → poll.Refused num ≡ pollOf t h
   unfolding pollOf
-  poll-18 e = simp e
+  refused-by {num} p e = ap poll.Refused (sym (status e)) ∙ sym (if-fault (pollFault t h) _ _ (is-fault num 0 p e))
+
+  pub poll-18 : tableSound t ≡ false → poll.Refused 18 ≡ pollOf t h
+  unfolding pollFault
+  poll-18 e = refused-by (omega arith) (given 18 0 _ _ (omega arith) (ap not e))
 
   module _ (e : tableSound t ≡ true) where
     pub poll-23 : 3 < h → poll.Refused 23 ≡ pollOf t h
-    unfolding pollOf
-    poll-23 b = simp (e, lt-ltb 3 h b)
+    unfolding pollFault
+    poll-23 b = refused-by (omega arith) (spared 18 0 _ _ (ap not e) ∙ when-bad 23 0 _ (lt-ltb 3 h b))
 
     module _ (b : h ≤ 3) {s : Slot} (es : s ≡ slotAt t h) where
       pub its-poll : pollSlot s ≡ pollOf t h
-      unfolding pollOf
-      its-poll = ap pollSlot es ∙ simp (e, le-ltb 3 h b)
+      unfolding pollOf pollFault
+      its-poll =
+          ap pollSlot es ∙ sym (if-none (pollFault t h) _ _ (status (spared 18 0 _ _ (ap not e)) ∙ when-zero 23 0 _ (le-ltb 3 h b)))
 
       pub poll-free : s .state ≡ 0 → poll.Free ≡ pollOf t h
       poll-free z = slot-free s z ∙ its-poll

@@ -170,7 +170,7 @@ module _ (t t′ : Table) (a : SameTable t t′) where
 
   -- a handle above 3 gives 23, whatever would follow
   same-call : (n h want : ℕ) → callFault t n h want ≡ callFault t′ n h want
-  unfolding callFault
+  unfolding callFault openFault
   same-call n h want = or-path (same-open n) (elim (decLt h 4) [
     | yes l ↦ let state = a .slot h l .state in λ i. when 23 0 (ltb 3 h || eqb (state i) 0) orElse when 24 0 (not (eqb (state i) want))
     | no l ↦ given 23 0 _ _ (omega arith) (either-first (ltb 3 h) (isFree t h) (lt-ltb 3 h (omega arith))) ∙
@@ -187,7 +187,7 @@ module _ (t t′ : Table) (a : SameTable t t′) where
       λ i. cond (eqb (s0 i) 0) 0 (cond (eqb (s1 i) 0) 1 (cond (eqb (s2 i) 0) 2 (cond (eqb (s3 i) 0) 3 4)))
 
   same-prepare : (n : ℕ) (j j′ : Job) → SameJob j j′ → prepareFault t n j ≡ prepareFault t′ n j′
-  unfolding prepareFault
+  unfolding prepareFault openFault jobFault
   same-prepare n j j′ b =
       let first = same-open n in
       let lowest = same-lowest in

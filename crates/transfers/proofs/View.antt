@@ -4,10 +4,11 @@ use mathlib.Core.Logic.{_⊎_, ⊎-elim}
 use Prim.Native.Nat.{ℕ, zero, suc, _+_, _<_}
 use native.Mathlib.Omega.{arith}
 use native.Mathlib.Decide.{decLt}
-use mathlib.Core.Bool.{Bool, true, false, cond}
+use mathlib.Core.Bool.{Bool, true, false, not, cond}
 use mathlib.Core.List.{List}
 use lib.Dec.{eqb, ltb, eqb·suc-zero}
 use lib.ListN.{getD, set, List·getD-eq-default}
+use Rattle.faults.specs.Faults.{when, _orElse_, ifFault}
 use Rattle.plane.specs.Arrays.{table}
 use Rattle.mover.specs.declared.Job.{Job}
 use Rattle.mover.specs.Within.{totalOf}
@@ -20,7 +21,7 @@ use Rattle.transfers.specs.declared.Table.{Table}
 use Rattle.transfers.specs.declared.Poll.{Poll}
 use Rattle.transfers.specs.declared.Poll.the-variants as says
 use Rattle.transfers.specs.Slots.{slotAt, withSlot, tableSound}
-use Rattle.transfers.specs.Calls.{later, left, pollSlot, pollOf}
+use Rattle.transfers.specs.Calls.{later, left, pollSlot, pollFault, pollOf}
 use Rattle.transfers.specs.Demand3.{theMover}
 
 abbrev pub stageOf : ℕ → Stage
@@ -93,11 +94,11 @@ quiet-poll : (p : Poll) → (p ≡ says.Free) ⊎ (p ≡ says.Done) → Quiet p
 quiet-poll p = ⊎-elim (λ e. subst Quiet (sym e) tt) (λ e. subst Quiet (sym e) tt)
 
 quiet-slot : (t : Table) (h : ℕ) → Quiet (pollOf t h) → Settled theMover (viewSlot (slotAt t h))
-unfolding pollOf pollSlot
+unfolding pollOf pollFault pollSlot when _orElse_
 quiet-slot t h = by-tests (tableSound t) (ltb 3 h) (eqb (slotAt t h .state) 0) (eqb (slotAt t h .state) 1) (eqb (slotAt t h .state) 2)
   where
     by-tests : (a b c d e : Bool)
-        → Quiet (cond a (cond b (says.Refused 23) (cond c says.Free (cond d (says.Prepared (left (slotAt t h))) (cond e (says.Running (left (slotAt t h))) says.Done)))) (says.Refused 18))
+        → Quiet (let f = (when 18 0 (not a) orElse when 23 0 b) in ifFault f (says.Refused (f .status)) (cond c says.Free (cond d (says.Prepared (left (slotAt t h))) (cond e (says.Running (left (slotAt t h))) says.Done))))
         → Settled theMover
         (cond c free (taken (cond d prepared (cond e running done)) (slotAt t h .job) (slotAt t h .moved)))
     by-tests a b true d e q = tt

@@ -2,12 +2,12 @@
 use Prim.Native.Nat.{ℕ, _+_, _-_}
 use mathlib.Core.Bool.{cond, not, _||_}
 use mathlib.Core.List.{List, [], _∷_}
-use lib.Dec.{ltb, leb, eqb}
+use lib.Dec.{ltb, eqb}
 use lib.ListN.{length}
 use Rattle.faults.specs.declared.Fault.{Fault}
-use Rattle.faults.specs.Faults.{when, _orElse_, ifFault}
+use Rattle.faults.specs.Faults.{ifFault, Rules, overall, _then_, firstFault}
 use Rattle.mover.specs.declared.Job.{Job}
-use Rattle.mover.specs.Within.{jobFault, totalOf, further, advancedBy}
+use Rattle.mover.specs.Within.{jobRules, totalOf, further, advancedBy}
 use Rattle.transfers.specs.declared.Slot.{Slot}
 use Rattle.transfers.specs.declared.Table.{Table}
 use Rattle.transfers.specs.declared.FreshTable.{FreshTable}
@@ -20,32 +20,49 @@ use Rattle.transfers.specs.Slots.{freeSlot, freshTable, slotAt, withSlot
 
 -- ---- fresh
 
+-- 17
+abbrev pub freshRules : ℕ → Rules
+freshRules n = overall 17 (ltb limit n)
+
+unfoldable pub freshFault : ℕ → Fault
+freshFault n = firstFault (freshRules n)
+
+-- a refused table has length 0 and free slots
 unfoldable pub freshOf : ℕ → FreshTable
 freshOf n =
-    cond (leb n limit)
+    ifFault (freshFault n)
+    (record { status = freshFault n .status; table = freshTable 0 })
     (record { status = 0; table = freshTable n })
-    (record { status = 17; table = freshTable 0 })
 
 -- ---- what is refused, over a memory of n bytes
 
 -- 17, 18
+abbrev pub openRules : Table → ℕ → Rules
+openRules t n = overall 17 (not (eqb n (t .length))) then overall 18 (not (tableSound t))
+
 unfoldable pub openFault : Table → ℕ → Fault
-openFault t n = when 17 0 (not (eqb n (t .length))) orElse when 18 0 (not (tableSound t))
+openFault t n = firstFault (openRules t n)
 
 -- 17, 18, 19, 20, 1 to 13, 21, 22
+abbrev pub prepareRules : Table → ℕ → Job → Rules
+prepareRules t n j =
+    openRules t n then
+    overall 19 (eqb (lowestFree t) 4) then
+    jobRules n j then
+    overall 22 (clashes t j 4)
+
 unfoldable pub prepareFault : Table → ℕ → Job → Fault
-prepareFault t n j =
-    openFault t n orElse
-    when 19 0 (eqb (lowestFree t) 4) orElse
-    jobFault n j orElse
-    when 22 0 (clashes t j 4)
+prepareFault t n j = firstFault (prepareRules t n j)
 
 -- 17, 18, 23, 24, where the slot is to be in the state want
+abbrev pub callRules : Table → ℕ → ℕ → ℕ → Rules
+callRules t n h want =
+    openRules t n then
+    overall 23 (ltb 3 h || isFree t h) then
+    overall 24 (not (eqb (slotAt t h .state) want))
+
 unfoldable pub callFault : Table → ℕ → ℕ → ℕ → Fault
-callFault t n h want =
-    openFault t n orElse
-    when 23 0 (ltb 3 h || isFree t h) orElse
-    when 24 0 (not (eqb (slotAt t h .state) want))
+callFault t n h want = firstFault (callRules t n h want)
 
 -- ---- prepare
 
@@ -117,11 +134,14 @@ pollSlot s =
     (cond (eqb (s .state) 2) (poll.Running (left s)) poll.Done))
 
 -- 18, 23
+abbrev pub pollRules : Table → ℕ → Rules
+pollRules t h = overall 18 (not (tableSound t)) then overall 23 (ltb 3 h)
+
+unfoldable pub pollFault : Table → ℕ → Fault
+pollFault t h = firstFault (pollRules t h)
+
 unfoldable pub pollOf : Table → ℕ → Poll
-pollOf t h =
-    cond (tableSound t)
-    (cond (ltb 3 h) (poll.Refused 23) (pollSlot (slotAt t h)))
-    (poll.Refused 18)
+pollOf t h = ifFault (pollFault t h) (poll.Refused (pollFault t h .status)) (pollSlot (slotAt t h))
 
 -- the paper's number of a poll's answer, the state that it tells and what is left; zeros besides a refusal
 abbrev pub pollStatus : Poll → ℕ

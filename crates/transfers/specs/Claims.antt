@@ -11,8 +11,7 @@ use Rattle.mover.specs.declared.Job.{Job}
 use Rattle.transfers.specs.declared.Table.{Table}
 use Rattle.transfers.specs.declared.Poll.the-variants as says
 use Rattle.transfers.specs.Slots.{freshTable, slotAt, tableSound}
-use Rattle.transfers.specs.Calls.{freshOf, prepareOf, startOf, stepOf, stepMemory, releaseOf, left, pollOf, pollStatus, pollNumbers}
-use Rattle.transfers.specs.Orders.{freshRules, prepareRules, callRules, pollRules}
+use Rattle.transfers.specs.Calls.{freshOf, freshRules, prepareRules, callRules, prepareOf, startOf, stepOf, stepMemory, releaseOf, left, pollRules, pollOf, pollStatus, pollNumbers}
 use Rattle.transfers.specs.Demand3.{Call, prepare, start, step, release, poll, World, after, run}
 
 -- ---- refusals

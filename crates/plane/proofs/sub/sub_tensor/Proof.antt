@@ -6,7 +6,7 @@ use lib.Dec.{ltb}
 use Rattle.faults.specs.declared.Fault.{Fault}
 use Rattle.faults.specs.Faults.{when, _orElse_}
 use Rattle.plane.specs.Planes.{span, sourceFault}
-use Rattle.plane.specs.Helpers.{subFault, subTensorOf}
+use Rattle.plane.specs.Helpers.{rankFault, subFault, subTensorOf}
 use Rattle.faults.proofs.Faults.{passed, stopped}
 use Rattle.plane.proofs.Rules.{its-fault, its-good, its-strides}
 use Rattle.plane.specs.Good.{GoodSource}
@@ -25,13 +25,13 @@ long c g =
     sub-long _ _ g (i .before .before .before .source-of .ensures) (i .if1 .left) (c .if2 .left)
 
 returns : tie.Need-returns
-unfolding subTensorOf subFault
+unfolding subTensorOf subFault sourceFault rankFault
 returns c =
     let w = c .before .before .before .before .source-of .ensures in
     sub-refuses _ _ (c .refused .ensures) (c .before .if1 .taken) (stopped _ (its-fault _ w) (c .before .if1 .taken))
 
 returns-2 : tie.Need-returns-2
-unfolding subTensorOf subFault
+unfolding subTensorOf subFault sourceFault rankFault
 returns-2 c =
     let i = c .before .before .before in
     let w = i .before .before .before .source-of .ensures in
@@ -41,7 +41,7 @@ offset-fault-requires : tie.Need-offset-fault-requires
 offset-fault-requires c κs = good (c .before .before .before .before) .rank .1
 
 returns-3 : tie.Need-returns-3
-unfolding subTensorOf subFault
+unfolding subTensorOf subFault sourceFault rankFault
 returns-3 c =
     let o = c .before .before .before in
     sub-refuses _ _ (c .refused3 .ensures) (c .before .if3 .taken)
@@ -51,7 +51,7 @@ sub-size-fault-requires : tie.Need-sub-size-fault-requires
 sub-size-fault-requires c κs = good (c .before .before .before .before .before .before .before .before) .rank .1
 
 returns-4 : tie.Need-returns-4
-unfolding subTensorOf subFault
+unfolding subTensorOf subFault sourceFault rankFault
 returns-4 c =
     let z = c .before .before .before in
     let v = z .before .before in
@@ -73,7 +73,7 @@ shrink-requires c κs =
     )
 
 returns-5 : tie.Need-returns-5
-unfolding subTensorOf subFault
+unfolding subTensorOf subFault sourceFault rankFault
 returns-5 c =
     let z = c .before .before .before .before in
     let v = z .before .before in
