@@ -20,11 +20,12 @@ use Rattle.faults.proofs.Faults.{status, or-none, or-found, or-clear, or-zero, 
 use Rattle.plane.specs.Good.{GoodMove}
 use Rattle.plane.proofs.Good.{source-clear, config-clear, dst-clear, move-clear}
 use Rattle.plane.proofs.Rules.{refuses, answer-refused, answer-given, answer-status}
+use Rattle.parts.specs.Parts.{bytesOf}
 use Rattle.mover.specs.declared.Job.{Job}
 use Rattle.mover.specs.declared.plan.Plan.{Plan}
 use Rattle.mover.specs.declared.elements.Origin.the-variants.{Lent}
 use Rattle.mover.specs.Moved.{total, moveMemory}
-use Rattle.mover.specs.Within.{leaves, meets, jobFault, totalOf, verdictOf, bytesOf, advancedBy, further, advanceOf, advanceMemory}
+use Rattle.mover.specs.Within.{leaves, meets, jobFault, totalOf, verdictOf, advancedBy, further, advanceOf, advanceMemory}
 use Rattle.mover.specs.Private.Plans.{planOf}
 use Rattle.mover.specs.Private.Elements.{planTotal, movedBy}
 use Rattle.mover.specs.Private.Ready.{Ready}

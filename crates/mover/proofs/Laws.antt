@@ -23,11 +23,12 @@ use Rattle.plane.specs.Good.{GoodMove, GoodSource, GoodConfig}
 use Rattle.plane.proofs.Good.{move-good}
 use Rattle.plane.proofs.Bounds.{element-small}
 use Rattle.plane.proofs.Rules.{answer-status, dst-extent}
-use Rattle.mover.specs.declared.Part.{Part}
+use Rattle.parts.specs.Parts.{Has, bytesOf}
+use Rattle.parts.specs.declared.Part.{Part}
 use Rattle.mover.specs.declared.Job.{Job}
 use Rattle.mover.specs.Moved.{extentAt, total, stored, moved, moveMemory}
-use Rattle.mover.specs.Within.{leaves, meets, jobFault, totalOf, bytesOf, advancedBy}
-use Rattle.mover.specs.Claims.{Has, MoveLaws, JobLaws}
+use Rattle.mover.specs.Within.{leaves, meets, jobFault, totalOf, advancedBy}
+use Rattle.mover.specs.Claims.{MoveLaws, JobLaws}
 use Rattle.mover.proofs.Bytes.{getD-sets-out, length-take-most}
 use Rattle.mover.proofs.Parts.{part-own, part-other, part-again}
 

@@ -8,7 +8,7 @@ use mathlib.Core.Path.{_≡_, sym, ap, _∙_}
 use mathlib.Core.Bool.{false, _&&_, true≢false}
 use borrow.Author.Tests.{ltb-true, lt-ltb, le-ltb}
 use lib.Dec.{ltb}
-use Rattle.mover.specs.declared.Part.{Part}
+use Rattle.parts.specs.declared.Part.{Part}
 use Rattle.mover.specs.Within.{meets}
 use Rattle.mover.specs.Claims.{MeetsShared, SharedMeets, MeetsApart, LeavesEnd, LeavesByte, ByteLeaves, EmptyLeaves}
 

@@ -21,11 +21,11 @@ use Rattle.plane.proofs.Arrays.{product-same}
 use Rattle.plane.proofs.Bounds.{product-most}
 use Rattle.plane.proofs.Rules.{dst-extent}
 use Rattle.plane.proofs.Numbers.{length-little}
-use Rattle.mover.specs.declared.Part.{Part}
+use Rattle.parts.specs.Parts.{bytesOf}
+use Rattle.parts.specs.declared.Part.{Part}
 use Rattle.mover.specs.declared.plain.Row.{Row}
 use Rattle.mover.specs.Element.{areKept, sourcePlace, place, padded, element}
 use Rattle.mover.specs.Moved.{extentAt, total, perStep, coordOf, stored, moved}
-use Rattle.mover.specs.Within.{bytesOf}
 use Rattle.mover.specs.Private.Rows.{sourceIn, ApartIn, sizeOf, rowBytes, Storable, inwardOf, inside, coordTo, sourceTerm, placeTerm, RowOf, Passable, Stands, stretchIn, Comes}
 use Rattle.mover.proofs.Bytes.{length-cond, pick-same}
 use Rattle.mover.proofs.Laws.{moved-length}

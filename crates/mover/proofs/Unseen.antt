@@ -24,11 +24,12 @@ use Rattle.plane.proofs.Good.{move-good}
 use Rattle.plane.specs.Unseen.{SameTensor, SameArrays, UnseenSub}
 use Rattle.plane.proofs.Configs.{same-offset, same-step, same-dst-offset, same-perm, same-pre}
 use Rattle.plane.proofs.Unseen.{fault-unseen, strides-unseen, kept-unseen, extents-unseen, dst-strides-unseen, sub-unseen}
+use Rattle.parts.specs.Parts.{bytesOf}
 use Rattle.mover.specs.declared.Job.{Job}
 use Rattle.mover.specs.Claims.{SameFill, SameAsked, SameJob, MovesUnseen}
 use Rattle.mover.specs.Element.{dimOf, kOf, isKept, areKept, sourcePlace, place, padded, element}
 use Rattle.mover.specs.Moved.{total, perStep, coordOf, stored, moved, moveMemory}
-use Rattle.mover.specs.Within.{leaves, meets, jobFault, totalOf, verdictOf, bytesOf, advancedBy, further, advanceOf, advanceMemory}
+use Rattle.mover.specs.Within.{leaves, meets, jobFault, totalOf, verdictOf, advancedBy, further, advanceOf, advanceMemory}
 use Rattle.mover.specs.SubPart.{subPart}
 use Rattle.mover.proofs.Laws.{job-good}
 use Rattle.mover.proofs.SubParts.{partBy, part-by}

@@ -20,12 +20,13 @@ use Rattle.plane.proofs.Good.{move-clear}
 use Rattle.plane.proofs.Rules.{answer-given, dst-extent}
 use Rattle.faults.specs.Faults.{ifFault}
 use Rattle.faults.proofs.Faults.{if-fault, if-none}
-use Rattle.mover.specs.declared.Part.{Part}
+use Rattle.parts.specs.Parts.{bytesOf}
+use Rattle.parts.specs.declared.Part.{Part}
 use Rattle.mover.specs.declared.Job.{Job}
 use Rattle.mover.specs.declared.Verdict.{Verdict}
 use Rattle.mover.specs.declared.plain.Row.{Row}
 use Rattle.mover.specs.Moved.{extentAt, total, moved, moveMemory}
-use Rattle.mover.specs.Within.{jobFault, totalOf, verdictOf, bytesOf, advancedBy, further, advanceOf, advanceMemory}
+use Rattle.mover.specs.Within.{jobFault, totalOf, verdictOf, advancedBy, further, advanceOf, advanceMemory}
 use Rattle.mover.specs.Private.Rows.{sourceIn, ApartIn, rowOf, inside, RowOf, Stands, stretchIn, Comes}
 use Rattle.mover.proofs.Judged.{move-room}
 use Rattle.mover.proofs.Laws.{moved-length, moved-whole, put-back, source-fits, destination-fits, job-good, job-apart, advanced-none}

@@ -13,10 +13,11 @@ use Rattle.plane.specs.Arrays.{at, sum}
 use Rattle.plane.specs.Moves.{dstStrides, need}
 use Rattle.plane.specs.Numbers.{little}
 use Rattle.plane.specs.Unseen.{SameTensor, SameArrays, UnseenSub}
-use Rattle.mover.specs.declared.Part.{Part}
+use Rattle.parts.specs.declared.Part.{Part}
+use Rattle.parts.specs.Parts.{Has, Apart, bytesOf}
 use Rattle.mover.specs.declared.Job.{Job}
 use Rattle.mover.specs.Moved.{total, moved, moveMemory}
-use Rattle.mover.specs.Within.{leaves, meets, jobRules, jobFault, totalOf, verdictOf, bytesOf, advancedBy, advanceOf, advanceMemory}
+use Rattle.mover.specs.Within.{leaves, meets, jobRules, jobFault, totalOf, verdictOf, advancedBy, advanceOf, advanceMemory}
 use Rattle.mover.specs.SubPart.{subPart}
 use Rattle.mover.specs.Demand2.{IsCoordinate, endAt, Accepted}
 
@@ -61,10 +62,6 @@ RowsEnd =
 
 -- ---- Parts
 
--- the byte i is one of the part's
-abbrev pub Has : Part → ℕ → Type 0
-Has p i = (p .start ≤ i) × (i < p .start + p .length)
-
 -- two parts meet exactly if they share a byte
 abbrev pub MeetsShared : Type 0
 MeetsShared = (p q : Part) → meets p q ≡ true → (i : ℕ) × Has p i × Has q i
@@ -73,7 +70,7 @@ abbrev pub SharedMeets : Type 0
 SharedMeets = (p q : Part) (i : ℕ) → Has p i → Has q i → meets p q ≡ true
 
 abbrev pub MeetsApart : Type 0
-MeetsApart = (p q : Part) → meets p q ≡ false → (i : ℕ) → Has p i → Has q i → ⊥
+MeetsApart = (p q : Part) → meets p q ≡ false → Apart p q
 
 -- a part leaves a memory of n bytes exactly if it ends past it
 abbrev pub LeavesEnd : Type 0
@@ -139,7 +136,7 @@ pub record PassingJob (m : List ℕ) (j : Job) : Type 0 where
   -- its parts lie in the memory, and share no byte
   pub source : j .source .start + j .source .length ≤ length m
   pub destination : j .destination .start + j .destination .length ≤ length m
-  pub apart : (i : ℕ) → Has (j .source) i → Has (j .destination) i → ⊥
+  pub apart : Apart (j .source) (j .destination)
   -- the move between them is accepted
   pub accepted : Accepted (j .tensor) (j .config) (bytesOf (j .source) m) (bytesOf (j .destination) m)
   -- no element moved changes nothing; k elements, then l more, are k + l

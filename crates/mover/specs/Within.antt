@@ -3,12 +3,13 @@ use Prim.Native.Nat.{ℕ, _+_, _-_, min, max}
 use mathlib.Core.Bool.{Bool, _||_}
 use mathlib.Core.List.{List}
 use lib.Dec.{ltb}
-use lib.ListN.{length, take, drop}
+use lib.ListN.{length}
 use lib.Seq.{sets}
 use Rattle.faults.specs.declared.Fault.{Fault}
 use Rattle.faults.specs.Faults.{ifFault, Rules, overall, _then_, firstFault}
 use Rattle.plane.specs.Moves.{moveRules}
-use Rattle.mover.specs.declared.Part.{Part}
+use Rattle.parts.specs.declared.Part.{Part}
+use Rattle.parts.specs.Parts.{bytesOf}
 use Rattle.mover.specs.declared.Job.{Job}
 use Rattle.mover.specs.declared.Verdict.{Verdict}
 use Rattle.mover.specs.declared.Advanced.{Advanced}
@@ -41,10 +42,6 @@ verdictOf n j = record {
   dim = jobFault n j .dim;
   total = ifFault (jobFault n j) 0 (totalOf j);
 }
-
--- the bytes of a part
-abbrev pub bytesOf : Part → List ℕ → List ℕ
-bytesOf p m = take (p .length) (drop (p .start) m)
 
 -- the memory with n elements of the job moved, those from number `from` on
 unfoldable pub advancedBy : Job → ℕ → ℕ → List ℕ → List ℕ

@@ -25,6 +25,7 @@ mod sub; // a sub-tensor of a lent source
 pub mod plain; // the plain engine, for readers: the same two calls
 
 pub use moves::move_plane;
+pub use parts::Part;
 pub use plane::Answer;
 pub use plane::Config;
 pub use plane::Tensor;
@@ -33,12 +34,6 @@ pub use sub::sub_tensor;
 pub use within::advance;
 pub use within::judge_job;
 pub use within::meets;
-
-// A part of a memory: length bytes from the byte start on.
-pub struct Part {
-    pub start: u64,
-    pub length: u64,
-}
 
 // A move between two parts of one memory.
 pub struct Job {

@@ -7,9 +7,9 @@ use crate::layers::by_bands;
 use crate::plan::Plan;
 ghost use mathlib.Core.Path.{_≡_};
 ghost use Prim.Native.Nat.{_-_, min, _<_};
+ghost use Rattle.parts.specs.Parts.{bytesOf};
 ghost use Rattle.mover.specs.Private.Elements.{planTotal, movedFrom};
 ghost use Rattle.mover.specs.Private.Ready.{Ready, LiesIn, PartsApart, movedWithin};
-ghost use Rattle.mover.specs.Within.{bytesOf};
 
 // Whether a stretch is too short for more than its runs: a few elements, or a single row.
 fn is_short(plan: Plan, budget: usize) -> bool {

@@ -5,7 +5,7 @@ use Prim.Native.Nat.{ℕ, _+_, _≤_}
 use native.Mathlib.Nat.{zero-add}
 use mathlib.Core.List.{List}
 use lib.ListN.{length}
-use Rattle.serial.specs.Parts.{bytesOf, replaced}
+use Rattle.parts.specs.Parts.{bytesOf, replaced}
 use Rattle.serial.specs.Machine.{Mover, applied, wholeMove, Clear}
 use Rattle.serial.specs.Claims.{Lawful}
 use Rattle.serial.proofs.Memory.{apart-sym, length-bytes, length-replaced, bytes-replaced, bytes-kept, replaced-again, replaced-own, replaced-comm}

@@ -9,7 +9,8 @@ use native.Mathlib.Decide.{decLt}
 use mathlib.Core.List.{List, [], _∷_}
 use lib.ListN.{length, drop, getD, set, length-set, length-take, length-drop}
 use lib.Seq.{sets, length-sets, getD-take, getD-drop, ext-getD, getD-set-same, getD-set-other}
-use Rattle.serial.specs.Parts.{Part, Has, Apart, bytesOf, replaced}
+use Rattle.parts.specs.declared.Part.{Part}
+use Rattle.parts.specs.Parts.{Has, Apart, bytesOf, replaced}
 
 pub apart-sym : (p q : Part) → Apart p q → Apart q p
 apart-sym p q a i x y = a i y x

@@ -10,7 +10,7 @@ use lib.Dec.{eqb}
 use lib.ListN.{length, getD, set, length-set}
 use lib.Seq.{getD-set-same, getD-set-other, set-set, set-comm, set-getD}
 use borrow.Author.Tests.{eq-eqb, ne-eqb}
-use Rattle.serial.specs.Parts.{bytesOf}
+use Rattle.parts.specs.Parts.{bytesOf}
 use Rattle.serial.specs.Machine.{Mover, Stage, prepared, running, done, Slot, free, taken, Life, held, released, isHeld, Entry, entered, reporting, isFor, edit, applied, Clear}
 use Rattle.serial.specs.Claims.{Lawful, EveryHeld, Finished}
 use Rattle.serial.proofs.Applied.{Fits, clear-sym, length-applied, source-kept, destination-now, applied-first, more-first, source-other, destination-other, applied-comm}

@@ -3,7 +3,7 @@ use mathlib.Core.Path.{_≡_}
 use Prim.Native.Nat.{ℕ, _+_, _≤_}
 use mathlib.Core.List.{List, [], _∷_}
 use lib.ListN.{length, getD}
-use Rattle.serial.specs.Parts.{Apart, bytesOf}
+use Rattle.parts.specs.Parts.{Apart, bytesOf}
 use Rattle.serial.specs.Machine.{Mover, prepared, running, done, Slot, free, taken, held, Entry, wholeMove, Reached}
 
 -- ---- asked of the mover

@@ -6,7 +6,8 @@ use mathlib.Core.Bool.{Bool, true, false, cond, _&&_}
 use mathlib.Core.List.{List, [], _∷_}
 use lib.Dec.{eqb}
 use lib.ListN.{length, getD, set}
-use Rattle.serial.specs.Parts.{Part, Apart, bytesOf, replaced}
+use Rattle.parts.specs.declared.Part.{Part}
+use Rattle.parts.specs.Parts.{Apart, bytesOf, replaced}
 
 -- ---- the mover
 

@@ -12,7 +12,7 @@ use Rattle.plane.specs.Arrays.{at, zeros, every}
 use Rattle.faults.proofs.Bools.{both-first, both-second}
 use Rattle.plane.proofs.Arrays.{every-each}
 use Rattle.plane.proofs.Configs.{same-config}
-use Rattle.mover.specs.declared.Part.{Part}
+use Rattle.parts.specs.declared.Part.{Part}
 use Rattle.mover.specs.declared.Job.{Job}
 use Rattle.transfers.specs.declared.Slot.{Slot}
 use Rattle.plane.specs.Settings.{arrayCount, arrayOf, zeroConfig}

@@ -9,18 +9,18 @@ use lib.ListN.{length}
 use lib.Seq.{length-sets}
 use Rattle.faults.proofs.Bools.{either-clear}
 use Rattle.mover.specs.declared.Job.{Job}
-use Rattle.mover.specs.Within.{meets, jobFault, totalOf, bytesOf, advancedBy}
+use Rattle.mover.specs.Within.{meets, jobFault, totalOf, advancedBy}
 use Rattle.mover.proofs.Laws.{moved-none, moved-more, moved-length, source-fits, destination-fits, job-apart, job-whole, job-judged, advanced-length, advanced-outside, advanced-whole}
 use Rattle.mover.proofs.Demand2.{demand-2}
 use Rattle.mover.proofs.Meeting.{meets-apart}
-use Rattle.serial.specs.Parts.{Apart, replaced}
+use Rattle.parts.specs.Parts.{Apart, bytesOf, replaced}
 use Rattle.serial.specs.Machine.{applied, wholeMove, Clear}
 use Rattle.serial.specs.Claims.{Lawful, Every, oneByOne}
 use Rattle.serial.proofs.Applied.{applied-whole}
 use Rattle.transfers.specs.Slots.{breaks}
-use Rattle.transfers.specs.Demand3.{partOf, theMover, Log, Passes, WholeMeant, EachMeant, WholeMoves}
+use Rattle.transfers.specs.Demand3.{theMover, Log, Passes, WholeMeant, EachMeant, WholeMoves}
 
-own-apart : (n : ℕ) (j : Job) → jobFault n j .status ≡ 0 → Apart (partOf (j .source)) (partOf (j .destination))
+own-apart : (n : ℕ) (j : Job) → jobFault n j .status ≡ 0 → Apart (j .source) (j .destination)
 own-apart n j z i a b = ⊎-elim {C = ⊥} (λ u. omega arith) (λ v. omega arith) (job-apart n j z)
 
 pub lawful : Lawful theMover

@@ -3,8 +3,9 @@ use mathlib.Core.Path.{_≡_}
 use Prim.Native.Nat.{ℕ}
 use mathlib.Core.List.{List, [], _∷_}
 use lib.ListN.{length}
+use Rattle.parts.specs.Parts.{bytesOf}
 use Rattle.mover.specs.declared.Job.{Job}
-use Rattle.mover.specs.Within.{jobFault, bytesOf}
+use Rattle.mover.specs.Within.{jobFault}
 use Rattle.mover.proofs.Demand2.{firsts-meant}
 use Rattle.mover.proofs.Laws.{job-judged}
 use Rattle.serial.specs.Machine.{Entry}

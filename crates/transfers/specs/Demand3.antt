@@ -8,12 +8,12 @@ use mathlib.Core.Bool.{cond}
 use mathlib.Core.List.{List, [], _∷_}
 use lib.Dec.{eqb}
 use lib.ListN.{length, getD}
-use Rattle.mover.specs.declared.Part.{Part}
+use Rattle.parts.specs.declared.Part.{Part}
+use Rattle.parts.specs.Parts.{bytesOf}
 use Rattle.mover.specs.declared.Job.{Job}
 use Rattle.mover.specs.Moved.{moved, moveMemory}
-use Rattle.mover.specs.Within.{jobFault, totalOf, bytesOf}
+use Rattle.mover.specs.Within.{jobFault, totalOf}
 use Rattle.mover.specs.Demand2.{Meant, FirstsMeant}
-use Rattle.serial.specs.Parts as parts
 use Rattle.serial.specs.Machine.{Mover, Entry, wholeMove, released, entered, reporting, ended, edit}
 use Rattle.serial.specs.Claims.{Every, EveryHeld, Finished, Midway, oneByOne}
 use Rattle.transfers.specs.declared.Table.{Table}
@@ -26,14 +26,11 @@ use Rattle.transfers.specs.Calls.{freshOf, prepareOf, startOf, stepOf, s
 
 -- ---- the mover of the crate mover, as the crate serial asks for one
 
-abbrev pub partOf : Part → parts.Part
-partOf p = record { start = p .start; length = p .length }
-
 abbrev pub theMover : Mover
 theMover = record {
   Job = Job;
-  source = λ j. partOf (j .source);
-  destination = λ j. partOf (j .destination);
+  source = λ j. j .source;
+  destination = λ j. j .destination;
   total = totalOf;
   verdict = λ n j. jobFault n j .status;
   move = λ j s d. moveMemory (j .tensor) (j .config) s d;

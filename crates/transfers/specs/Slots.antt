@@ -9,7 +9,7 @@ use Rattle.plane.specs.declared.Config.{Config}
 use Rattle.plane.specs.Settings.{arrayCount, arrayOf, zeroConfig}
 use Rattle.plane.specs.Planes.{zeroTensor}
 use Rattle.plane.specs.Arrays.{at, table, some, every}
-use Rattle.mover.specs.declared.Part.{Part}
+use Rattle.parts.specs.declared.Part.{Part}
 use Rattle.mover.specs.declared.Job.{Job}
 use Rattle.mover.specs.Within.{meets, jobFault, totalOf}
 use Rattle.transfers.specs.declared.Slot.{Slot}

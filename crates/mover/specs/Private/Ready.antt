@@ -3,12 +3,12 @@ use mathlib.Core.List.{List}
 use Prim.Native.Nat.{ℕ, _+_, _-_, _^_, _≤_, _<_}
 use lib.ListN.{length}
 use lib.Seq.{sets}
-use Rattle.mover.specs.declared.Part.{Part}
+use Rattle.parts.specs.Parts.{bytesOf}
+use Rattle.parts.specs.declared.Part.{Part}
 use Rattle.mover.specs.declared.plan.Axis.{Axis}
 use Rattle.mover.specs.declared.plan.Plan.{Plan}
 use Rattle.mover.specs.declared.elements.Origin.{Origin}
 use Rattle.mover.specs.declared.elements.Origin.the-variants.{Inside}
-use Rattle.mover.specs.Within.{bytesOf}
 use Rattle.mover.specs.Private.Elements.{sourceBytes, summed, placeOf, planTotal, co0, co1, co2, co3, movedBy}
 use Rattle.plane.specs.Planes.{Sized}
 use Rattle.mover.specs.Private.Runs.{BytesApart}

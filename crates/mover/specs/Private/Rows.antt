@@ -15,11 +15,11 @@ use Rattle.plane.specs.Numbers.{little}
 use Rattle.plane.specs.Planes.{Sized, srcStrides, sourceAt, span, sourceOf}
 use Rattle.plane.specs.Moves.{dstStrides, need, accepted, roomOf}
 use Rattle.plane.specs.Good.{GoodSource, GoodConfig, GoodDst}
-use Rattle.mover.specs.declared.Part.{Part}
+use Rattle.parts.specs.Parts.{bytesOf}
+use Rattle.parts.specs.declared.Part.{Part}
 use Rattle.mover.specs.declared.plain.Row.{Row}
 use Rattle.mover.specs.Element.{dimOf, kOf, isKept}
 use Rattle.mover.specs.Moved.{extentAt, moved}
-use Rattle.mover.specs.Within.{bytesOf}
 
 -- ---- one element
 

@@ -1,13 +1,9 @@
--- Parts of a memory.
+-- Parts of a memory: their bytes, and when two share none.
 use Prim.Native.Nat.{ℕ, _+_, _≤_, _<_}
 use mathlib.Core.List.{List}
 use lib.ListN.{take, drop}
 use lib.Seq.{sets}
-
--- `length` bytes, from the byte `start` on
-pub record Part : Type 0 where
-  pub start : ℕ
-  pub length : ℕ
+use Rattle.parts.specs.declared.Part.{Part}
 
 -- the byte i is one of the part's
 abbrev pub Has : Part → ℕ → Type 0

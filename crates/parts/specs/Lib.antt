@@ -1,0 +1,2 @@
+-- What a reader must believe.
+pub mod Parts
