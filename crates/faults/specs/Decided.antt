@@ -12,5 +12,5 @@ pub record Decided
 -- what is read off the result or off what was lent: two outcomes that the contract allows have the same
 pub record OneLeft
     {K : Type 0} {A R E : K → Type 0} {B : Type 0}
-    (post : (κ : K) → A κ → R κ → E κ → Type 0) (left : (κ : K) → R κ → E κ → B) : Type 0 where
-  pub one : (κ : K) (a : A κ) (x y : R κ) (s t : E κ) → post κ a x s → post κ a y t → left κ x s ≡ left κ y t
+    (post : (κ : K) → A κ → R κ → E κ → Type 0) (off : (κ : K) → R κ → E κ → B) : Type 0 where
+  pub one : (κ : K) (a : A κ) (x y : R κ) (s t : E κ) → post κ a x s → post κ a y t → off κ x s ≡ off κ y t

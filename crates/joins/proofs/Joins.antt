@@ -13,7 +13,7 @@ use lib.ListN.{length}
 use Rattle.plane.specs.declared.Tensor.{Tensor}
 use Rattle.plane.specs.Arrays.{at, zeros}
 use Rattle.plane.specs.Planes.{shapeAt, strideAt}
-use Rattle.plane.proofs.Arrays.{table-at, zeros-at}
+use Rattle.plane.proofs.Arrays.{array-at, zeros-at}
 use Rattle.plane.proofs.Falling.{strides-at}
 use Rattle.plane.specs.Good.{FromTo, GoodSource}
 use Rattle.plane.proofs.Good.{source-good, source-clear}
@@ -37,20 +37,20 @@ module _ {a b : Tensor} {d : ℕ} {stride srcA srcB dst : List ℕ} (p : Joinabl
 
   shape-along : shapeAt w d ≡ shapeAt a d + shapeAt b d
   shape-along =
-      table-at (λ i. shapeAt a i + cond (eqb i d) (shapeAt b i) 0) 0 d (omega (arith, p .along, few)) ∙
+      array-at (λ i. shapeAt a i + cond (eqb i d) (shapeAt b i) 0) 0 d (omega (arith, p .along, few)) ∙
       rw (eq-eqb d d refl)
 
   behind-along : at (behind a d) d ≡ shapeAt a d
-  behind-along = table-at (λ i. cond (eqb i d) (shapeAt a i) 0) 0 d (omega (arith, p .along, few)) ∙ rw (eq-eqb d d refl)
+  behind-along = array-at (λ i. cond (eqb i d) (shapeAt a i) 0) 0 d (omega (arith, p .along, few)) ∙ rw (eq-eqb d d refl)
 
   module _ (i : ℕ) (h : i < a .rank) (n : i ≡ d → ⊥) where
     shape-aside : shapeAt w i ≡ shapeAt a i
     shape-aside =
-        table-at (λ i. shapeAt a i + cond (eqb i d) (shapeAt b i) 0) 0 i (omega (arith, few)) ∙
+        array-at (λ i. shapeAt a i + cond (eqb i d) (shapeAt b i) 0) 0 i (omega (arith, few)) ∙
         rw (ne-eqb i d n) (omega arith)
 
     behind-aside : at (behind a d) i ≡ 0
-    behind-aside = table-at (λ i. cond (eqb i d) (shapeAt a i) 0) 0 i (omega (arith, few)) ∙ rw (ne-eqb i d n)
+    behind-aside = array-at (λ i. cond (eqb i d) (shapeAt a i) 0) 0 i (omega (arith, few)) ∙ rw (ne-eqb i d n)
 
   -- what holds along d, and in any other dimension, holds in all
   each : (P : ℕ → Type 0) → P d → ((i : ℕ) → i < a .rank → (i ≡ d → ⊥) → P i) → (i : ℕ) → i < a .rank → P i

@@ -10,7 +10,7 @@ use lib.Dec.{eqb}
 use lib.ListN.{length, getD}
 use Rattle.plane.specs.declared.Tensor.{Tensor}
 use Rattle.plane.specs.declared.Config.{Config}
-use Rattle.plane.specs.Arrays.{at, table, zeros}
+use Rattle.plane.specs.Arrays.{at, array, zeros}
 use Rattle.plane.specs.Planes.{shapeAt, strideAt, srcStrides, span, sourceFault}
 use Rattle.plane.specs.Good.{GoodStrides}
 use Rattle.ready_made.specs.ReadyMade.{concatenateOf}
@@ -90,13 +90,13 @@ abbrev pub joinedOf : Tensor → Tensor → ℕ → List ℕ → Tensor
 joinedOf a b d stride = record {
   rank = a .rank;
   «element_size» = a .«element_size»;
-  shape = table (λ i. shapeAt a i + cond (eqb i d) (shapeAt b i) 0);
+  shape = array (λ i. shapeAt a i + cond (eqb i d) (shapeAt b i) 0);
   stride = stride;
 }
 
 -- b starts where a ends: along d at a's shape, which is its extent, since all else is default
 abbrev pub behind : Tensor → ℕ → List ℕ
-behind a d = table (λ i. cond (eqb i d) (shapeAt a i) 0)
+behind a d = array (λ i. cond (eqb i d) (shapeAt a i) 0)
 
 -- what is asked for
 pub record Joinable (a b : Tensor) (d : ℕ) (stride srcA srcB dst : List ℕ) : Type 0 where

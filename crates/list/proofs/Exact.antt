@@ -19,7 +19,7 @@ use Rattle.list.specs.declared.Appended.{Appended}
 use Rattle.list.specs.declared.Numbered.{Numbered}
 use Rattle.list.specs.Lists.{listRules, listFault, recordCount, recordIn, recordAt, recordRules}
 use Rattle.list.specs.Writers.{startRules, startFault, appendRules, appendFault, noAppend}
-use Rattle.list.specs.Claims.{ListExact, RecordExact, StartExact, AppendExact, RecordZeros, AppendZeros, StartKept, AppendKept}
+use Rattle.list.specs.Claims.{ListExact, RecordExact, StartExact, AppendExact, RecordZeros, AppendZeros, StartUnchanged, AppendUnchanged}
 use Rattle.list.proofs.Answers.{in-or-past, at-past, at-in}
 use Rattle.list.proofs.Writing.{start-same, append-same, append-refused, append-told, append-status}
 
@@ -45,11 +45,11 @@ append-zeros buffer n t c h =
     let e = append-refused buffer n t c (λ z. h (append-status buffer n t c ∙ z)) in
     e ∙ ap (λ (a : Appended). noAppend (fault (a .status) (a .dim))) (sym e)
 
-pub start-kept : StartKept
-start-kept buffer h = start-same buffer h
+pub start-unchanged : StartUnchanged
+start-unchanged buffer h = start-same buffer h
 
-pub append-kept : AppendKept
-append-kept buffer n t c h = append-same buffer n t c (λ z. h (append-status buffer n t c ∙ z))
+pub append-unchanged : AppendUnchanged
+append-unchanged buffer n t c h = append-same buffer n t c (λ z. h (append-status buffer n t c ∙ z))
 
 -- ---- a record of a list
 

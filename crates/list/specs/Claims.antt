@@ -94,11 +94,11 @@ HandedAll =
 -- ---- What changes in a buffer
 
 -- a refused start or append changes no byte
-abbrev pub StartKept : Type 0
-StartKept = (buffer : List ℕ) → (startFault buffer .status ≡ 0 → ⊥) → startedBuffer buffer ≡ buffer
+abbrev pub StartUnchanged : Type 0
+StartUnchanged = (buffer : List ℕ) → (startFault buffer .status ≡ 0 → ⊥) → startedBuffer buffer ≡ buffer
 
-abbrev pub AppendKept : Type 0
-AppendKept =
+abbrev pub AppendUnchanged : Type 0
+AppendUnchanged =
     (buffer : List ℕ) (n : ℕ) (t : Tensor) (c : Config) →
     (appendOf buffer n t c .status ≡ 0 → ⊥) → appendedBuffer buffer n t c ≡ buffer
 

@@ -32,7 +32,7 @@ use Rattle.list.specs.Writers.{startFault, startedBuffer, noAppend, appendOf, a
 use Rattle.transfers.specs.declared.Table.{Table}
 use Rattle.transfers.specs.Slots.{zeroJob, freshTable, withSlot}
 use Rattle.transfers.specs.Calls.{prepareOf, startOf, stepOf, releaseOf, pollOf, pollNumbers}
-use Rattle.transfers.specs.Demand3.{Call, prepare, start, step, release, poll, World, begin, after}
+use Rattle.transfers.specs.Demand3.{Call, prepare, start, step, release, poll, World, freshWorld, after}
 
 -- ---- what an example is
 
@@ -71,8 +71,8 @@ pub data Letter : Type 0 where
   besides : Letter
 
 infix 70 _shows_
-pub data Row : Type 0 where
-  _shows_ : Letter → Example → Row
+pub data Lettered : Type 0 where
+  _shows_ : Letter → Example → Lettered
 
 -- ---- when a table is right: the definitions that decide the public calls give what it says
 
@@ -117,7 +117,7 @@ abbrev pub given : Example → Outcome
 given (move t c source over a out) = of-move (judgeOf t c (length source) (length over)) (moveMemory t c source over)
 given (stretch j from budget m a out) = of-stretch (advanceOf j from budget m) (advanceMemory j from budget m)
 given (sub t s source a part) = of-sub (subTensorOf t s (length source)) (subPart t s source)
-given (transfers m cs out) = of-calls (replies cs (begin (length m) m))
+given (transfers m cs out) = of-calls (replies cs (freshWorld (length m) m))
 given (handed-in t m cs out) = of-calls (replies cs (record { table = t; memory = m; log = [] }))
 given (room t c a) = of-room (roomOf t c)
 given (count t from a) = of-count (countOf t from)
@@ -140,11 +140,11 @@ said (begins buffer status out) = of-start status out
 said (append buffer n t c a out) = of-append a out
 
 -- entry by entry, each under its letter
-abbrev pub outcomes : (Example → Outcome) → List Row → List (Letter × Outcome)
+abbrev pub outcomes : (Example → Outcome) → List Lettered → List (Letter × Outcome)
 outcomes f [] = []
 outcomes f (l shows e ∷ es) = (l, f e) ∷ outcomes f es
 
-abbrev pub AllRight : List Row → Type 0
+abbrev pub AllRight : List Lettered → Type 0
 AllRight es = outcomes given es ≡ outcomes said es
 
 -- ---- how the entries are written
@@ -282,8 +282,8 @@ acceptedSub n size shape stride byte =
 
 -- ---- the table
 
-abbrev pub table : List Row
-table =
+abbrev pub examples : List Lettered
+examples =
     -- (2,3) 1..6, perm (1,0): 1 4 2 5 3 6
     A shows move (compact 2 1 (two 2 3)) (withPerm defaults (two 1 0)) (upTo 6) (over 6)
     (acceptedMove 2 1 (3 ∷ 2 ∷ 0 ∷ 0 ∷ []) (2 ∷ 1 ∷ 0 ∷ 0 ∷ []) 6) (1 ∷ 4 ∷ 2 ∷ 5 ∷ 3 ∷ 6 ∷ []) ∷

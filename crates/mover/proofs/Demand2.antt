@@ -20,7 +20,7 @@ use Rattle.plane.proofs.Arrays.{every-all, every-each, every-fails}
 use Rattle.plane.specs.Good.{GoodConfig, GoodMove}
 use Rattle.mover.specs.Element.{dimOf, kOf, isKept, areKept, sourcePlace, padded, element}
 use Rattle.mover.specs.Moved.{total, coordOf, moved, moveMemory}
-use Rattle.mover.specs.Demand2.{IsCoordinate, KeptAt, endAt, sourceByte, Spares, InPlaceAt, Meant, FirstsMeant, Accepted, AcceptedMeant, AcceptedOnly, AcceptedFirsts, AcceptedFirstsOnly, RefusedKept}
+use Rattle.mover.specs.Demand2.{IsCoordinate, KeptAt, endAt, sourceByte, Spares, InPlaceAt, Meant, FirstsMeant, Accepted, AcceptedMeant, AcceptedOnly, AcceptedFirsts, AcceptedFirstsOnly, RefusedUnchanged}
 use Rattle.mover.proofs.Laws.{judged, judged-good, moved-length, moved-whole, moved-refused}
 use Rattle.mover.proofs.Keeping.{range-test, test-range, place-same, source-same}
 use Rattle.mover.proofs.Fitting.{home-fits, place-fits}
@@ -207,7 +207,7 @@ module _ (t : Tensor) (c : Config) (src dst : List ℕ) (n : ℕ) (e f : List �
 -- ---- the theorems
 
 -- a refused move leaves the destination as it was
-pub demand-2-refused : RefusedKept
+pub demand-2-refused : RefusedUnchanged
 demand-2-refused t c src dst h = moved-refused t c src dst h
 
 module _ (t : Tensor) (c : Config) (src dst : List ℕ) (z : Accepted t c src dst) where

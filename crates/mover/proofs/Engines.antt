@@ -10,7 +10,7 @@ use lib.ListN.{length}
 use Rattle.faults.proofs.Faults.{if-none}
 use Rattle.mover.specs.declared.Job.{Job}
 use Rattle.mover.specs.Within.{jobFault, totalOf, further, advancedBy, advanceOf, advanceMemory}
-use Rattle.mover.proofs.Exact.{advance-kept}
+use Rattle.mover.proofs.Exact.{advance-unchanged}
 use Rattle.mover.specs.Engines.{SameOnAll, SameFirsts, StretchesJoin, GoesOn}
 use Rattle.mover.proofs.Laws.{advanced-length, advanced-none, advanced-more}
 use Rattle.mover.proofs.moves.move_plane.Reads as move-plane
@@ -45,8 +45,8 @@ module _ (j : Job) (k l : ℕ) (m : List ℕ) (z : jobFault (length m) j .status
   then-clear : jobFault (length then) j .status ≡ 0
   then-clear = rw (advanced-length j 0 (further j 0 k) m) z
 
-  joined : advancedBy j k (further j k l) then ≡ advancedBy j 0 (further j 0 (k + l)) m
-  joined = elim (decLe k (totalOf j)) [
+  one-stretch : advancedBy j k (further j k l) then ≡ advancedBy j 0 (further j 0 (k + l)) m
+  one-stretch = elim (decLe k (totalOf j)) [
     | yes h ↦
         let a : further j 0 k ≡ k = omega arith in
         let b : k + further j k l ≡ further j 0 (k + l) = omega arith in
@@ -63,8 +63,8 @@ unfolding advanceOf
 stretches-join j k l m = elim (ℕ-discrete (jobFault (length m) j .status) 0) [
   | yes z ↦
       ap (λ (e : List ℕ). advanceMemory j k l e) (accepted j 0 k m z) ∙ accepted j k l (advancedBy j 0 (further j 0 k) m) (then-clear j k l m z) ∙
-      joined j k l m z ∙ sym (accepted j 0 (k + l) m z)
-  | no z ↦ ap (λ (e : List ℕ). advanceMemory j k l e) (advance-kept j 0 k m z) ∙ advance-kept j k l m z ∙ sym (advance-kept j 0 (k + l) m z)
+      one-stretch j k l m z ∙ sym (accepted j 0 (k + l) m z)
+  | no z ↦ ap (λ (e : List ℕ). advanceMemory j k l e) (advance-unchanged j 0 k m z) ∙ advance-unchanged j k l m z ∙ sym (advance-unchanged j 0 (k + l) m z)
 ]
 
 -- a contract that says of the memory left what a stretch's does

@@ -4,7 +4,7 @@ use lib.ListN.{length}
 use Rattle.faults.proofs.Faults.{if-fault}
 use Rattle.faults.proofs.Chains.{exact-fault}
 use Rattle.mover.specs.Within.{jobRules, jobFault, totalOf, verdictOf, further, advancedBy, advanceOf, advanceMemory}
-use Rattle.mover.specs.Claims.{JobExact, JobZeros, AdvanceExact, AdvanceZeros, AdvanceKept}
+use Rattle.mover.specs.Claims.{JobExact, JobZeros, AdvanceExact, AdvanceZeros, AdvanceUnchanged}
 
 pub job-exact : JobExact
 unfolding verdictOf jobFault
@@ -23,6 +23,6 @@ unfolding advanceOf
 advance-zeros j from budget m h = if-fault (jobFault (length m) j) 0 (further j from budget) h
 
 -- a refused one changes no byte
-pub advance-kept : AdvanceKept
+pub advance-unchanged : AdvanceUnchanged
 unfolding advanceOf advanceMemory
-advance-kept j from budget m h = if-fault (jobFault (length m) j) m (advancedBy j from (further j from budget) m) h
+advance-unchanged j from budget m h = if-fault (jobFault (length m) j) m (advancedBy j from (further j from budget) m) h

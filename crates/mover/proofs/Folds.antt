@@ -18,7 +18,7 @@ use Rattle.mover.specs.declared.elements.Origin.{Origin}
 use Rattle.mover.specs.Private.Plans.{lone}
 use Rattle.mover.specs.Private.Elements.{axisKept, planKept, summed, placeOf, homeOf, padding, planBytes, planTotal, co0, co1, co2, co3, putAt, putNumber, movedBy, sourceBytes, movedFrom}
 use Rattle.mover.specs.Private.Ready.{homeEnd, placeEnd, GoodAxis, GoodAxes, placeBy, InExtents, Ready}
-use Rattle.mover.specs.Private.Folding.{Follows, Joins, joinedOf, bytesBy, Foldable, Folds}
+use Rattle.mover.specs.Private.Folding.{Follows, Joins, asOne, bytesBy, Foldable, Folds}
 use Rattle.mover.proofs.Bytes.{pick-same}
 use Rattle.mover.proofs.Keeping.{range-test}
 use Rattle.mover.proofs.Places.{all-kept-of, axis-some}
@@ -117,9 +117,9 @@ module _ {x y : Axis} (u : GoodAxis x) (v : GoodAxis y) where
         last = rw (f .stride) (last-scaled (x .extent) e (y .stride) (axis-some u) some);
       }
 
-  joined-both : Joins x y → Both x y (joinedOf x y)
-  unfolding joinedOf
-  joined-both j = elim (decLt 1 (y .extent)) [
+  one-both : Joins x y → Both x y (asOne x y)
+  unfolding asOne
+  one-both j = elim (decLt 1 (y .extent)) [
     | yes l ↦
         rw (ne-eqb (y .extent) 1 (λ e. omega arith))
         (⊎-elim (λ e. absurd (omega arith)) both-follows j)
@@ -275,20 +275,20 @@ folds-then f h = let e = f .total in record {
 
 -- from p on, with the axes a, b, c and d so far
 module _ {p : Plan} {a b c d : Axis} (f : Folds p (withAxes p a b c d)) where
-  pub fold-first : {x y : Axis} → Joins a b → x ≡ lone → y ≡ joinedOf a b → Folds p (withAxes p x y c d)
+  pub fold-first : {x y : Axis} → Joins a b → x ≡ lone → y ≡ asOne a b → Folds p (withAxes p x y c d)
   fold-first j ex ey =
       let g = f .axes in
-      rw (ex, ey) (folds-then f (first-folds p a b c d (joinedOf a b) g (joined-both (g .in0) (g .in1) j)))
+      rw (ex, ey) (folds-then f (first-folds p a b c d (asOne a b) g (one-both (g .in0) (g .in1) j)))
 
-  pub fold-middle : {x y z : Axis} → Joins b c → x ≡ lone → y ≡ a → z ≡ joinedOf b c → Folds p (withAxes p x y z d)
+  pub fold-middle : {x y z : Axis} → Joins b c → x ≡ lone → y ≡ a → z ≡ asOne b c → Folds p (withAxes p x y z d)
   fold-middle j ex ey ez =
       let g = f .axes in
-      rw (ex, ey, ez) (folds-then f (middle-folds p a b c d (joinedOf b c) g (joined-both (g .in1) (g .in2) j)))
+      rw (ex, ey, ez) (folds-then f (middle-folds p a b c d (asOne b c) g (one-both (g .in1) (g .in2) j)))
 
-  pub fold-last : {x y z w : Axis} → Joins c d → x ≡ lone → y ≡ a → z ≡ b → w ≡ joinedOf c d → Folds p (withAxes p x y z w)
+  pub fold-last : {x y z w : Axis} → Joins c d → x ≡ lone → y ≡ a → z ≡ b → w ≡ asOne c d → Folds p (withAxes p x y z w)
   fold-last j ex ey ez ew =
       let g = f .axes in
-      rw (ex, ey, ez, ew) (folds-then f (last-folds p a b c d (joinedOf c d) g (joined-both (g .in2) (g .in3) j)))
+      rw (ex, ey, ez, ew) (folds-then f (last-folds p a b c d (asOne c d) g (one-both (g .in2) (g .in3) j)))
 
   pub fold-not : {x y z w : Axis} → x ≡ a → y ≡ b → z ≡ c → w ≡ d → Folds p (withAxes p x y z w)
   fold-not ex ey ez ew = rw (ex, ey, ez, ew) f

@@ -12,7 +12,7 @@ use Rattle.mover.specs.declared.elements.Origin.the-variants.{Lent, Insi
 use Rattle.mover.specs.Private.Elements.{sourceBytes, padding}
 use Rattle.mover.specs.Private.Adding.{along}
 use Rattle.mover.specs.Private.Runs.{runStored, keptBytes, runCopied, runPadded, Readable, Writable}
-use Rattle.mover.specs.Private.Patches.{rowsStored, patchPlace, patchHome, patchBytes, patchStored, patchCopied, patchPadded, swappedOf, rowOf, PatchFits, PatchReads}
+use Rattle.mover.specs.Private.Patches.{rowsStored, patchPlace, patchHome, patchBytes, patchStored, patchCopied, patchPadded, swappedOf, patchRow, PatchFits, PatchReads}
 use Rattle.mover.proofs.Bytes.{length-take-most, bytes-same}
 use Rattle.mover.proofs.Places.{still-held}
 use Rattle.mover.proofs.Adding.{along-fits, along-none, along-next, along-on}
@@ -75,10 +75,10 @@ module _ {d₀ : List ℕ} {p : Patch} {d : List ℕ} {to k : ℕ} (a : Padded d
   pub pads-length : length d ≡ length d₀
   pads-length = ap length (a .bytes) ∙ length-rows (λ i j. padding (p .size) (p .pad)) (p .to) (p .«row_stride») (p .stride) (p .columns) k d₀
 
-  pub pad-writes : (at : ℕ) → k < p .rows → Writable d (rowOf p at to)
+  pub pad-writes : (at : ℕ) → k < p .rows → Writable d (patchRow p at to)
   pad-writes at h = record { sized = w .sized; held = λ j l. rw (a .place) (omega (arith, pads-length, w .held k j h l)) }
 
-  pub pads-next : (at : ℕ) {to' : ℕ} {d' : List ℕ} → k < p .rows → d' ≡ runPadded d (rowOf p at to) → to' ≡ (to + p .«row_stride») % 2 ^ 64 → Padded d₀ p d' to' (k + 1)
+  pub pads-next : (at : ℕ) {to' : ℕ} {d' : List ℕ} → k < p .rows → d' ≡ runPadded d (patchRow p at to) → to' ≡ (to + p .«row_stride») % 2 ^ 64 → Padded d₀ p d' to' (k + 1)
   unfolding rowsStored
   pads-next at h e t = record {
     within = omega arith;
@@ -151,16 +151,16 @@ module _ {o : Origin} {s d₀ : List ℕ} {p : Patch} {d : List ℕ} {at to k : 
 
   -- the next row
   module _ (h : k < p .rows) where
-    pub row-writes : Writable d (rowOf p at to)
+    pub row-writes : Writable d (patchRow p at to)
     row-writes = record { sized = w .sized; held = λ j l. rw (a .place) (omega (arith, rows-length, w .held k j h l)) }
 
-    pub row-reads : Readable o s d (rowOf p at to)
+    pub row-reads : Readable o s d (patchRow p at to)
     row-reads = record {
       held = λ j l. rw (a .home) (still-held o s d₀ d rows-length (r .held k j h l));
       parted = λ j l hj hl. rw (a .home, a .place) (r .parted k j k l h hj h hl);
     }
 
-    pub rows-next : {at' to' : ℕ} {d' : List ℕ} → d' ≡ runCopied o s d (rowOf p at to)
+    pub rows-next : {at' to' : ℕ} {d' : List ℕ} → d' ≡ runCopied o s d (patchRow p at to)
         → at' ≡ (at + p .«row_jump») % 2 ^ 64 → to' ≡ (to + p .«row_stride») % 2 ^ 64 → Rowed o s d₀ p d' at' to' (k + 1)
     unfolding rowsStored
     rows-next e x y = record {
@@ -169,16 +169,16 @@ module _ {o : Origin} {s d₀ : List ℕ} {p : Patch} {d : List ℕ} {at to k : 
       place = y ∙ ap (λ (z : ℕ). (z + p .«row_stride») % 2 ^ 64) (a .place) ∙ along-next (p .to) (p .«row_stride») k;
       bytes =
           e ∙ rw (add-one)
-          (ap (λ (z : ℕ). runStored (keptBytes (sourceBytes o s d) (rowOf p at to)) z (p .stride) (p .columns) d) (a .place)
-          ∙ run-same (keptBytes (sourceBytes o s d) (rowOf p at to)) (patchBytes (sourceBytes o s d₀) p k) (along (p .to) (p .«row_stride») k) (p .stride) (p .columns) d
+          (ap (λ (z : ℕ). runStored (keptBytes (sourceBytes o s d) (patchRow p at to)) z (p .stride) (p .columns) d) (a .place)
+          ∙ run-same (keptBytes (sourceBytes o s d) (patchRow p at to)) (patchBytes (sourceBytes o s d₀) p k) (along (p .to) (p .«row_stride») k) (p .stride) (p .columns) d
           (λ j l. rw (a .home) (its-bytes k j h l))
           ∙ ap (runStored (patchBytes (sourceBytes o s d₀) p k) (along (p .to) (p .«row_stride») k) (p .stride) (p .columns)) (a .bytes));
     }
 
     -- where its elements stand side by side in both, it is a run of bytes
-    pub row-block : p .jump ≡ p .size → p .stride ≡ p .size → length s + length d₀ < 2 ^ 64 → Block o s d (rowOf p at to)
+    pub row-block : p .jump ≡ p .size → p .stride ≡ p .size → length s + length d₀ < 2 ^ 64 → Block o s d (patchRow p at to)
     row-block ej es f =
-        block o s d (rowOf p at to) (rw (a .home) (along-fits (p .at) (p .«row_jump») k)) (rw (a .place) (along-fits (p .to) (p .«row_stride») k))
+        block o s d (patchRow p at to) (rw (a .home) (along-fits (p .at) (p .«row_jump») k)) (rw (a .place) (along-fits (p .to) (p .«row_stride») k))
         (omega (arith, rows-length)) row-writes row-reads ej es
 
   -- the next n rows

@@ -64,8 +64,8 @@ tested true pre n x = elim (decLe pre x) [
   | no l ↦ rw (lt-leb pre x (omega arith))
 ]
 
-joined : (b s y z : ℕ) → b + s * z + y * z ≡ b + (s + y) * z
-joined b s y z = rw add-mul (omega arith)
+one-sum : (b s y z : ℕ) → b + s * z + y * z ≡ b + (s + y) * z
+one-sum b s y z = rw add-mul (omega arith)
 
 sum-first : (f : ℕ → ℕ) (i n : ℕ) → i ≤ n → sum i f ≤ sum n f
 unfolding sum
@@ -167,12 +167,12 @@ module _ {t : Tensor} {p r i : ℕ} {w : Row} (g : RowOf t p r i w) where
                 ap (λ (n : ℕ). every (suc i) (λ j. isKept t c j (coordTo t c (suc i) n j))) (sym its-number);
             at-source = λ k.
                 its-from k ∙ ap (λ (f : ℕ). f + sourceTerm t c i x * z) (g .at-source (both-first (w .kept) (isKept t c i x) (sym its-kept ∙ k))) ∙
-                joined p (sum i (λ j. sourceTerm t c j (coordTo t c i (w .number) j))) (sourceTerm t c i x) z ∙
+                one-sum p (sum i (λ j. sourceTerm t c j (coordTo t c i (w .number) j))) (sourceTerm t c i x) z ∙
                 ap (λ (y : ℕ). p + y * z) (sum-row t c i (w .number) x l (sourceTerm t c)) ∙
                 ap (λ (n : ℕ). p + sum (suc i) (λ j. sourceTerm t c j (coordTo t c (suc i) n j)) * z) (sym its-number);
             at-place =
                 its-to ∙ ap (λ (f : ℕ). f + placeTerm t c i x * z) (g .at-place) ∙
-                joined r (sum i (λ j. placeTerm t c j (coordTo t c i (w .number) j))) (placeTerm t c i x) z ∙
+                one-sum r (sum i (λ j. placeTerm t c j (coordTo t c i (w .number) j))) (placeTerm t c i x) z ∙
                 ap (λ (y : ℕ). r + y * z) (sum-row t c i (w .number) x l (placeTerm t c)) ∙
                 ap (λ (n : ℕ). r + sum (suc i) (λ j. placeTerm t c j (coordTo t c (suc i) n j)) * z) (sym its-number);
           }

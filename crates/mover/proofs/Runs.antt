@@ -33,7 +33,7 @@ module _ (x : Axis) (c most : ℕ) {n : ℕ} (f : x .pre + x .count ≤ x .exten
     cut = omega arith;
     row = omega arith;
     same = λ k g. rw (lt-leb (x .pre) (c + k) (omega arith));
-    whole = λ g. inl (omega arith);
+    full = λ g. inl (omega arith);
   }
 
   pub run-kept : x .pre ≤ c → c - x .pre < x .count → n ≡ min (x .count - (c - x .pre)) most → Alike x true c most (record { kept = true; n = n })
@@ -43,7 +43,7 @@ module _ (x : Axis) (c most : ℕ) {n : ℕ} (f : x .pre + x .count ≤ x .exten
     cut = omega arith;
     row = omega arith;
     same = λ k i. range-test (x .pre) (c + k) (x .count) (omega arith, omega arith);
-    whole = λ i. inr (omega arith);
+    full = λ i. inr (omega arith);
   }
 
   pub run-behind : {outer : Bool} → (outer ≡ false) ⊎ ((x .pre ≤ c) × (x .count ≤ c - x .pre)) → n ≡ min (x .extent - c) most → Alike x outer c most (record { kept = false; n = n })
@@ -57,7 +57,7 @@ module _ (x : Axis) (c most : ℕ) {n : ℕ} (f : x .pre + x .count ≤ x .exten
         (λ u. rw u)
         (λ v. not-second outer (axisKept x (c + k)) (rw (le-ltb (c + k - x .pre) (x .count) (omega arith)) (not-second (leb (x .pre) (c + k)) false refl)))
         h;
-    whole = λ i. inr (omega arith);
+    full = λ i. inr (omega arith);
   }
 
 -- ---- what it stores

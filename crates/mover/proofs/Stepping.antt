@@ -12,7 +12,7 @@ use Rattle.mover.specs.declared.patches.Patch.{Patch}
 use Rattle.mover.specs.declared.tiles.Tile.{Tile}
 use Rattle.mover.specs.declared.tiles.Tile.the-variants.{Turned, Split, Merged}
 use Rattle.mover.specs.Private.Adding.{along}
-use Rattle.mover.specs.Private.Patches.{swappedOf, sixteenthOf, stepOf, tileColumns, Tiled}
+use Rattle.mover.specs.Private.Patches.{swappedOf, sixteenthOf, tileStep, tileColumns, Tiled}
 use Rattle.mover.proofs.Patched.{someRows}
 
 -- some columns of a patch, the first at `at` and to `to`
@@ -78,12 +78,12 @@ pub sixteen-on : (a : ℕ) (z j : ℕ) {b : ℕ} → Sized z → (z ≡ 3 → �
 sixteen-on a z j h n e g = near a (sixteenthOf z) j (rw e (sixteen z h n)) g
 
 -- the next tile
-pub tile-home : (t : Tile) (p : Patch) → Sized (p .size) → Tiled t p → (at : ℕ) {b : ℕ} → b ≡ (at + stepOf t p .jump) % 2 ^ 64 → b ≡ along at (p .jump) (tileColumns t p)
+pub tile-home : (t : Tile) (p : Patch) → Sized (p .size) → Tiled t p → (at : ℕ) {b : ℕ} → b ≡ (at + tileStep t p .jump) % 2 ^ 64 → b ≡ along at (p .jump) (tileColumns t p)
 tile-home Turned p s h at g = far at (sixteenthOf (p .size)) (p .jump) refl g
 tile-home Split p s h at g = near at 32 (p .jump) (rw (h .jump)) g
 tile-home Merged p s h at g = near at 16 (p .jump) (rw (h .jump)) g
 
-pub tile-place : (t : Tile) (p : Patch) → Sized (p .size) → Tiled t p → (to : ℕ) {b : ℕ} → b ≡ (to + stepOf t p .stride) % 2 ^ 64 → b ≡ along to (p .stride) (tileColumns t p)
+pub tile-place : (t : Tile) (p : Patch) → Sized (p .size) → Tiled t p → (to : ℕ) {b : ℕ} → b ≡ (to + tileStep t p .stride) % 2 ^ 64 → b ≡ along to (p .stride) (tileColumns t p)
 tile-place Turned p s h to g = sixteen-on to (p .size) (p .stride) s (h .turns .size) (h .turns .stride) g
 tile-place Split p s h to g = near to 32 (p .stride) (rw (h .stride)) g
 tile-place Merged p s h to g = near to 16 (p .stride) (rw (h .stride)) g

@@ -51,10 +51,10 @@ pub record Cut (e c left n : ℕ) : Type 0 where
   pub some : 0 < n
   pub paid : n ≤ left
   pub row : c + n ≤ e
-  pub whole : 0 < left - n → c + n ≡ e
+  pub full : 0 < left - n → c + n ≡ e
 
 pub cut-row : (e c left : ℕ) {n : ℕ} → c < e → 0 < left → n ≡ min (e - c) left → Cut e c left n
-cut-row e c left h l q = record { some = omega arith; paid = omega arith; row = omega arith; whole = λ g. omega arith }
+cut-row e c left h l q = record { some = omega arith; paid = omega arith; row = omega arith; full = λ g. omega arith }
 
 least-all : (q n t : ℕ) → q + n ≤ t → min n (t - q) ≡ n
 least-all q n t h = min-eq-left (omega arith)
@@ -222,7 +222,7 @@ module _ {o : Origin} {p : Plan} {s d₀ : List ℕ} {from budget : ℕ} {d : Li
               ⊎-elim
               (λ x. a .home (omega arith) (omega arith) ∙ ap (along (u .row .at) (p .d3 .jump)) (omega arith))
               (λ y. absurd (omega arith))
-              (l .whole (omega arith));
+              (l .full (omega arith));
         })
 
   -- here is an element
@@ -262,7 +262,7 @@ module _ {o : Origin} {p : Plan} {s d₀ : List ℕ} {from budget : ℕ} {d : Li
           layer = a .layer;
           row = a .row;
           place = ap (λ (y : ℕ). along y (p .d3 .stride) n) (a .place) ∙ along-on (u .row .to) (p .d3 .stride) c3 n;
-          home = λ h v. absurd (omega (arith, g .whole h, r .axes .in3 .within));
+          home = λ h v. absurd (omega (arith, g .full h, r .axes .in3 .within));
         }
 
     pub row-turn : Ready o p s d → {k : ℕ} {d' : List ℕ} → k ≡ min n (planTotal p - (from + (budget - left))) → d' ≡ movedFrom o p s d (from + (budget - left)) k

@@ -41,8 +41,8 @@ AdvanceZeros =
     (j : Job) (from budget : ℕ) (m : List ℕ) → let a = advanceOf j from budget m in (a .status ≡ 0 → ⊥) → a .count ≡ 0
 
 -- a refused stretch changes no byte
-abbrev pub AdvanceKept : Type 0
-AdvanceKept =
+abbrev pub AdvanceUnchanged : Type 0
+AdvanceUnchanged =
     (j : Job) (from budget : ℕ) (m : List ℕ) → (advanceOf j from budget m .status ≡ 0 → ⊥) → advanceMemory j from budget m ≡ m
 
 -- ---- How far an accepted move reaches

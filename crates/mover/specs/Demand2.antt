@@ -99,5 +99,5 @@ AcceptedFirstsOnly =
     (n : ℕ) (e : List ℕ) → n ≤ total t c → FirstsMeant t c src dst n e → e ≡ moved t c src 0 n dst
 
 -- a refused move leaves the destination as it was
-abbrev pub RefusedKept : Type 0
-RefusedKept = (t : Tensor) (c : Config) (src dst : List ℕ) → (Accepted t c src dst → ⊥) → moveMemory t c src dst ≡ dst
+abbrev pub RefusedUnchanged : Type 0
+RefusedUnchanged = (t : Tensor) (c : Config) (src dst : List ℕ) → (Accepted t c src dst → ⊥) → moveMemory t c src dst ≡ dst

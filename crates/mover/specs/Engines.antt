@@ -1,6 +1,6 @@
 -- Two engines: what is claimed of the first engine's calls and the plain one's. `post` and `plain` are the contracts of two such calls, as
 -- the checker reads them off the source: κ are lifetimes, a the arguments, x and y answers, s and t what was lent, as it is at the
--- exit, of which `left` is the memory. Neither asks anything of its caller (`Decided`), so a is any input.
+-- exit, of which `mem` is the memory. Neither asks anything of its caller (`Decided`), so a is any input.
 use Prim.Native.Nat.{ℕ, _+_}
 use mathlib.Core.Path.{_≡_}
 use mathlib.Core.List.{List}
@@ -10,19 +10,19 @@ use Rattle.mover.specs.Within.{advanceMemory}
 -- the same status, answer and memory on all inputs, refused ones included
 pub record SameOnAll
     {K : Type 0} {A R E : K → Type 0}
-    (post plain : (κ : K) → A κ → R κ → E κ → Type 0) (left : (κ : K) → E κ → List ℕ) : Type 0 where
+    (post plain : (κ : K) → A κ → R κ → E κ → Type 0) (mem : (κ : K) → E κ → List ℕ) : Type 0 where
   -- whatever the first engine may answer and leave, the plain one may, and the other way round
   pub there : (κ : K) (a : A κ) (x : R κ) (s : E κ) → post κ a x s → plain κ a x s
   pub back : (κ : K) (a : A κ) (x : R κ) (s : E κ) → plain κ a x s → post κ a x s
   -- and where one has answered x and left s, and the other y and t, these are the same
   pub answer : (κ : K) (a : A κ) (x y : R κ) (s t : E κ) → post κ a x s → plain κ a y t → x ≡ y
-  pub memory : (κ : K) (a : A κ) (x y : R κ) (s t : E κ) → post κ a x s → plain κ a y t → left κ s ≡ left κ t
+  pub memory : (κ : K) (a : A κ) (x y : R κ) (s t : E κ) → post κ a x s → plain κ a y t → mem κ s ≡ mem κ t
 
 -- given the same first elements, for every number of them, both leave the same memory. `from` is the element that a stretch starts with
 pub record SameFirsts
     {K : Type 0} {A R E : K → Type 0}
-    (post plain : (κ : K) → A κ → R κ → E κ → Type 0) (from : (κ : K) → A κ → ℕ) (left : (κ : K) → E κ → List ℕ) : Type 0 where
-  pub memory : (κ : K) (a : A κ) (x y : R κ) (s t : E κ) → from κ a ≡ 0 → post κ a x s → plain κ a y t → left κ s ≡ left κ t
+    (post plain : (κ : K) → A κ → R κ → E κ → Type 0) (from : (κ : K) → A κ → ℕ) (mem : (κ : K) → E κ → List ℕ) : Type 0 where
+  pub memory : (κ : K) (a : A κ) (x y : R κ) (s t : E κ) → from κ a ≡ 0 → post κ a x s → plain κ a y t → mem κ s ≡ mem κ t
 
 -- a stretch of k elements, then one of l more, leave what one of k + l leaves
 abbrev pub StretchesJoin : Type 0
@@ -34,7 +34,7 @@ StretchesJoin =
 pub record GoesOn
     {K : Type 0} {A R E : K → Type 0} (post : (κ : K) → A κ → R κ → E κ → Type 0)
     (lent : (κ : K) → A κ → List ℕ) (job : (κ : K) → A κ → Job) (from budget : (κ : K) → A κ → ℕ)
-    (left : (κ : K) → E κ → List ℕ) : Type 0 where
+    (mem : (κ : K) → E κ → List ℕ) : Type 0 where
   pub onward : (κ : K) (a : A κ) (x : R κ) (s : E κ) (m : List ℕ) →
       lent κ a ≡ advanceMemory (job κ a) 0 (from κ a) m → post κ a x s →
-      left κ s ≡ advanceMemory (job κ a) 0 (from κ a + budget κ a) m
+      mem κ s ≡ advanceMemory (job κ a) 0 (from κ a + budget κ a) m

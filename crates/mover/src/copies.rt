@@ -1,10 +1,10 @@
 // Bytes side by side: n of them from `at` of the source to `to`, in longer and in shorter blocks, and one by one.
+use crate::arrays::read_block;
+use crate::arrays::read_sixteen;
+use crate::arrays::write_block;
+use crate::arrays::write_sixteen;
 use crate::elements::Origin;
 use crate::elements::byte;
-use crate::leaves::read_block;
-use crate::leaves::read_sixteen;
-use crate::leaves::write_block;
-use crate::leaves::write_sixteen;
 ghost use mathlib.Core.Path.{_≡_};
 ghost use Prim.Native.Nat.{_+_, _*_, _^_, _≤_, _<_};
 ghost use lib.ListN.{length, take, drop};

@@ -1,13 +1,13 @@
 // A run of elements, by the way that its jump and its stride allow. The tests are equalities with what a way needs: a jump may also be one
 // down, which as 64 bits count is a large number.
+use crate::arrays::read_evens;
+use crate::arrays::write_sixteen;
 use crate::copies::bytes;
 use crate::copies::copy_bytes;
 use crate::elements::Course;
 use crate::elements::Origin;
 use crate::elements::copy_each;
 use crate::elements::pad_run;
-use crate::leaves::read_evens;
-use crate::leaves::write_sixteen;
 use std::num::wrapping_add_usize;
 ghost use mathlib.Core.Path.{_≡_};
 ghost use mathlib.Core.Bool.{true};
@@ -29,7 +29,7 @@ fn evens(src: &[u8], dst: &[u8], origin: Origin, at: usize) -> [u8; 16]
     }
 }
 
-fn room(src: &[u8], dst: &[u8], origin: Origin) -> usize
+fn source_length(src: &[u8], dst: &[u8], origin: Origin) -> usize
     ensures { λ r. ⌜ r ≡ length (sourceBytes origin (now (src .entry)) (now (dst .entry))) ⌝ }
 {
     match origin {
@@ -51,7 +51,7 @@ fn are_pairs(room: usize, at: usize, n: usize) -> bool
 }
 
 // How many of n pairs do: all, or all but the last, or it is not looked further.
-fn pairs(room: usize, at: usize, n: usize) -> usize
+fn pairs_in(room: usize, at: usize, n: usize) -> usize
     ensures { λ r. ⌜ (r ≤ n) × (0 < r → at + r + r ≤ room) ⌝ }
 {
     if are_pairs(room, at, n) {
@@ -73,7 +73,7 @@ fn copy_evens(src: &[u8], dst: &mut [u8], origin: Origin, c: Course) -> usize
     ensures next { λ r. ⌜ r ≡ along (c .to) (c .stride) (c .n) ⌝ }
     ensures written { λ _. ⌜ now (dst .exit) ≡ runCopied origin (now (src .entry)) (now (dst .entry)) c ⌝ }
 {
-    let n = pairs(room(src, dst, origin), c.at, c.n);
+    let n = pairs_in(source_length(src, dst, origin), c.at, c.n);
     let mut at = c.at;
     let mut to = c.to;
     let mut k = 0;

@@ -6,7 +6,7 @@ use crate::plan::lone;
 ghost use mathlib.Core.Path.{_≡_};
 ghost use mathlib.Core.Bool.{true};
 ghost use Prim.Native.Nat.{_*_, _^_, _<_};
-ghost use Rattle.mover.specs.Private.Folding.{Joins, joinedOf, Folds, Foldable};
+ghost use Rattle.mover.specs.Private.Folding.{Joins, asOne, Folds, Foldable};
 
 // Whether e times `inner` is `outer`.
 fn is_times(outer: usize, e: usize, inner: usize) -> bool
@@ -40,10 +40,10 @@ fn joins(x: Axis, y: Axis) -> bool
 }
 
 // Both as one.
-fn joined(x: Axis, y: Axis) -> Axis
+fn as_one(x: Axis, y: Axis) -> Axis
     requires { ⌜ x .extent * y .extent < 2 ^ 64 ⌝ }
     requires { ⌜ x .pre * y .extent < 2 ^ 64 × (x .count * y .extent < 2 ^ 64) ⌝ }
-    ensures { λ r. ⌜ r ≡ joinedOf x y ⌝ }
+    ensures { λ r. ⌜ r ≡ asOne x y ⌝ }
 {
     if y.extent == 1 {
         return x;
@@ -69,16 +69,16 @@ pub(crate) fn folded(p: Plan) -> Plan
     let mut d2 = p.d2;
     let mut d3 = p.d3;
     if joins(d0, d1) {
-        d1 = joined(d0, d1);
+        d1 = as_one(d0, d1);
         d0 = lone();
     }
     if joins(d1, d2) {
-        d2 = joined(d1, d2);
+        d2 = as_one(d1, d2);
         d1 = d0;
         d0 = lone();
     }
     if joins(d2, d3) {
-        d3 = joined(d2, d3);
+        d3 = as_one(d2, d3);
         d2 = d1;
         d1 = d0;
         d0 = lone();

@@ -7,8 +7,8 @@ mod start; // where a step begins
 mod folded; // dimensions that are one
 mod alike; // where neighbours end that are all kept or all padding
 mod elements; // elements one by one, copied or of padding
-mod leaves; // leaves: bytes that go through an array
-mod shuffles; // leaves: arrays in another order
+mod arrays; // bytes that go through an array
+mod shuffles; // arrays in another order
 mod copies; // bytes side by side
 mod courses; // a run of elements
 mod patches; // rows and columns of elements

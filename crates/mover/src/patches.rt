@@ -9,7 +9,7 @@ use crate::elements::copy_each;
 use crate::elements::pad_run;
 use std::num::wrapping_add_usize;
 ghost use mathlib.Core.Path.{_≡_};
-ghost use Rattle.mover.specs.Private.Patches.{Lines, swappedOf, rowOf, patchCopied, patchPadded, PatchFits, PatchReads};
+ghost use Rattle.mover.specs.Private.Patches.{Lines, swappedOf, patchRow, patchCopied, patchPadded, PatchFits, PatchReads};
 
 // Element (i, j) stands i rows and j columns on from the first, in source and destination, in bytes.
 pub(crate) struct Patch {
@@ -42,7 +42,7 @@ pub(crate) fn swapped(p: Patch) -> Patch
 
 // The row whose first element is at `at` and goes to `to`.
 fn row(p: Patch, at: usize, to: usize) -> Course
-    ensures { λ r. ⌜ r ≡ rowOf p at to ⌝ }
+    ensures { λ r. ⌜ r ≡ patchRow p at to ⌝ }
 {
     let pad = p.pad;
     Course {

@@ -1,11 +1,11 @@
 // Leaves: elements of a local array put into another order. A shuffle takes the halves of an array in turn: element k of the first half
 // goes to 2k, of the second to 2k + 1. Some of them, one after the other, exchange rows and columns. `copy` moves an
 // element of any size, with the array for a lent source.
+use crate::arrays::copy_block;
+use crate::arrays::copy_blocks;
 use crate::elements::Course;
 use crate::elements::Origin;
 use crate::elements::copy;
-use crate::leaves::copy_block;
-use crate::leaves::copy_blocks;
 ghost use mathlib.Core.Path.{_≡_};
 ghost use Prim.Native.Nat.{_+_, _*_, _/_, _%_, _≤_, min};
 ghost use lib.ListN.{length, getD};

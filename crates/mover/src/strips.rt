@@ -6,7 +6,7 @@ use crate::tiles::Tile;
 use crate::tiles::copy_tile;
 use std::num::wrapping_add_usize;
 ghost use mathlib.Core.Path.{_≡_};
-ghost use Rattle.mover.specs.Private.Patches.{Tiled, Turns, acrossOf, sixteenthOf, stepOf, patchCopied, PatchFits, PatchReads};
+ghost use Rattle.mover.specs.Private.Patches.{Tiled, Turns, acrossOf, sixteenthOf, tileStep, patchCopied, PatchFits, PatchReads};
 
 // From a tile to the next: how many columns, and how far in source and destination.
 pub(crate) struct Step {
@@ -46,7 +46,7 @@ fn sixteenth(size: usize) -> usize
 
 // The step of a kind of tile.
 fn step_of(tile: Tile, p: Patch) -> Step
-    ensures { λ r. ⌜ r ≡ stepOf tile p ⌝ }
+    ensures { λ r. ⌜ r ≡ tileStep tile p ⌝ }
 {
     match tile {
         Tile::Turned => Step {

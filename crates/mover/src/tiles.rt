@@ -1,8 +1,8 @@
 // Tiles: a few rows by a few columns of a patch, read, put into their order in an array, and stored.
+use crate::arrays::copy_block;
+use crate::arrays::copy_blocks;
 use crate::elements::Course;
 use crate::elements::Origin;
-use crate::leaves::copy_block;
-use crate::leaves::copy_blocks;
 use crate::patches::Patch;
 use crate::shuffles::merge;
 use crate::shuffles::split;

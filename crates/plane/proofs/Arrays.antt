@@ -11,21 +11,21 @@ use mathlib.Core.List.{List, [], _∷_}
 use borrow.Author.Tests.{lt-ltb, le-ltb}
 use lib.ListN.{getD, set, length, length-set}
 use lib.Seq.{ext-getD, getD-set-same, getD-set-other}
-use Rattle.plane.specs.Arrays.{at, below, table, firstsOr, zeros, sum, product, some, every, howMany}
+use Rattle.plane.specs.Arrays.{at, below, array, firstsOr, zeros, sum, product, some, every, howMany}
 use Rattle.faults.proofs.Bools.{either-clear, either-first, either-second, neither, both-first, both-second, both, not-first, not-second}
 
 -- ---- four entries
 
-pub table-at : {A : Type 0} (f : ℕ → A) (z : A) (d : ℕ) → d < 4 → getD (table f) d z ≡ f d
-table-at f z zero h = refl
-table-at f z (suc zero) h = refl
-table-at f z (suc (suc zero)) h = refl
-table-at f z (suc (suc (suc zero))) h = refl
-table-at f z (suc (suc (suc (suc d)))) h = absurd (not-suc-le-zero (le-of-suc-le-suc (le-of-suc-le-suc (le-of-suc-le-suc (le-of-suc-le-suc h)))))
+pub array-at : {A : Type 0} (f : ℕ → A) (z : A) (d : ℕ) → d < 4 → getD (array f) d z ≡ f d
+array-at f z zero h = refl
+array-at f z (suc zero) h = refl
+array-at f z (suc (suc zero)) h = refl
+array-at f z (suc (suc (suc zero))) h = refl
+array-at f z (suc (suc (suc (suc d)))) h = absurd (not-suc-le-zero (le-of-suc-le-suc (le-of-suc-le-suc (le-of-suc-le-suc (le-of-suc-le-suc h)))))
 
 -- whatever the entries are: z stands at and past the rank
 module _ {A : Type 0} (z : A) where
-  pub same-at : (d : ℕ) → getD (table (λ _. z)) d z ≡ z
+  pub same-at : (d : ℕ) → getD (array (λ _. z)) d z ≡ z
   same-at zero = refl
   same-at (suc zero) = refl
   same-at (suc (suc zero)) = refl
@@ -33,8 +33,8 @@ module _ {A : Type 0} (z : A) where
   same-at (suc (suc (suc (suc d)))) = refl
 
   -- a list of four is the table of its entries
-  pub is-table : (l : List A) (f : ℕ → A) → length l ≡ 4 → ((d : ℕ) → d < 4 → getD l d z ≡ f d) → l ≡ table f
-  is-table l f e h = ext-getD z l (table f) e (λ d q. let r : d < 4 = omega arith in h d r ∙ sym (table-at f z d r))
+  pub is-array : (l : List A) (f : ℕ → A) → length l ≡ 4 → ((d : ℕ) → d < 4 → getD l d z ≡ f d) → l ≡ array f
+  is-array l f e h = ext-getD z l (array f) e (λ d q. let r : d < 4 = omega arith in h d r ∙ sym (array-at f z d r))
 
   pub below-lt : (n d : ℕ) (v : A) → d < n → below z n d v ≡ v
   below-lt n d v h = simp (lt-ltb d n h)
@@ -50,7 +50,7 @@ module _ {A : Type 0} (z : A) where
 
   pub firsts-at : (n : ℕ) (f : ℕ → A) (d : ℕ) → n ≤ 4 → d < n → getD (firstsOr z n f) d z ≡ f d
   unfolding firstsOr
-  firsts-at n f d m h = table-at (λ d. below z n d (f d)) z d (omega arith) ∙ below-lt n d (f d) h
+  firsts-at n f d m h = array-at (λ d. below z n d (f d)) z d (omega arith) ∙ below-lt n d (f d) h
 
   -- the same entries below n: the same array
   pub firsts-same : (n : ℕ) (f g : ℕ → A) → ((k : ℕ) → k < n → f k ≡ g k) → firstsOr z n f ≡ firstsOr z n g
@@ -71,7 +71,7 @@ pub record Filled {A : Type 0} (z : A) (n : ℕ) (f : ℕ → A) (out : List A) 
   pub entries : (j : ℕ) → getD out j z ≡ below z d j (f j)
 
 module _ {A : Type 0} {z : A} {n : ℕ} {f : ℕ → A} where
-  pub filled-start : Filled z n f (table (λ _. z)) 0
+  pub filled-start : Filled z n f (array (λ _. z)) 0
   filled-start =
       record { within = omega arith; long = refl; entries = λ j. same-at z j ∙ sym (below-past z 0 j (f j) (omega arith)) }
 
@@ -95,7 +95,7 @@ module _ {A : Type 0} {z : A} {n : ℕ} {f : ℕ → A} where
     filled-end w h =
         let l = w .within in
         let q : d ≡ n = omega arith in
-        is-table z out (λ k. below z n k (f k)) (w .long) (λ j r. w .entries j ∙ ap (λ (m : ℕ). below z m j (f j)) q)
+        is-array z out (λ k. below z n k (f k)) (w .long) (λ j r. w .entries j ∙ ap (λ (m : ℕ). below z m j (f j)) q)
 
 pub filled-same : {A : Type 0} {z : A} {n : ℕ} {f g : ℕ → A} {out : List A} {d : ℕ} → ((k : ℕ) → k < d → f k ≡ g k) → Filled z n f out d → Filled z n g out d
 filled-same {z = z} {d = d} h w =

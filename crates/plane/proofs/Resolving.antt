@@ -15,7 +15,7 @@ use Rattle.plane.specs.Arrays.{below, firstsOr, zeros, or0}
 use Rattle.faults.specs.Faults.{none, fault, when, first, outward, ifFault}
 use Rattle.plane.specs.Planes.{badStride, inner, resolved, badStrideAt, strides}
 use Rattle.plane.specs.Private.{stridesOf}
-use Rattle.plane.proofs.Arrays.{zeros-at, is-table}
+use Rattle.plane.proofs.Arrays.{zeros-at, is-array}
 use Rattle.faults.proofs.Faults.{status, is-fault, or-none, when-bad, when-good, first-at, if-fault, if-none}
 
 module _ (n : ℕ) (shape stride : ℕ → ℕ) where
@@ -145,5 +145,5 @@ module _ (n : ℕ) (shape stride : ℕ → ℕ) where
     walked-end {out} {p} {d} {f} is o w =
         let z : n - d ≡ n = omega arith in
         strides-path (is ∙ sym (subst (λ (k : ℕ). first k met ≡ none) z (w .good)))
-        (is-table 0 out (λ j. below 0 n j (resolved n shape stride j)) (w .long) (λ j q. w .filled j ∙ simp (o, leb·zero)) ∙
+        (is-array 0 out (λ j. below 0 n j (resolved n shape stride j)) (w .long) (λ j q. w .filled j ∙ simp (o, leb·zero)) ∙
         ap (λ (g : Fault). ifFault g zeros (strides n shape stride)) (sym is))

@@ -33,7 +33,7 @@ module _ (size : ℕ → ℕ) (excess : ℕ) where
     pub fewer : lackingAt d ≡ lackingAt (suc d) + 1
 
   -- dimension d stays, behind those that stay before it
-  pub record Kept (d : ℕ) : Type 0 where
+  pub record Stays (d : ℕ) : Type 0 where
     pub list : staying size excess (suc d) ≡ staying size excess d ++ (d ∷ [])
     pub same : lackingAt d ≡ lackingAt (suc d)
 
@@ -48,9 +48,9 @@ module _ (size : ℕ → ℕ) (excess : ℕ) where
         fewer = simp u (omega arith);
       }
 
-  pub kept : (d : ℕ) → removed size excess d ≡ false → Kept d
+  pub stays : (d : ℕ) → removed size excess d ≡ false → Stays d
   unfolding staying howMany
-  kept d e = record {
+  stays d e = record {
     list = simp e;
     same = elim (ℕ-discrete (size d) 1) [
       | yes u ↦
@@ -61,10 +61,10 @@ module _ (size : ℕ → ℕ) (excess : ℕ) where
     ];
   }
 
-  pub fate : (d : ℕ) → Gone d ⊎ Kept d
-  fate d = elim (removed size excess d) as (λ b. removed size excess d ≡ b → Gone d ⊎ Kept d) [
+  pub fate : (d : ℕ) → Gone d ⊎ Stays d
+  fate d = elim (removed size excess d) as (λ b. removed size excess d ≡ b → Gone d ⊎ Stays d) [
     | true ↦ λ e. inl (gone d e)
-    | false ↦ λ e. inr (kept d e)
+    | false ↦ λ e. inr (stays d e)
   ] refl
 
   -- ---- how many stay, and which
@@ -77,24 +77,24 @@ module _ (size : ℕ → ℕ) (excess : ℕ) where
       let h = staying-length d in
       ⊎-elim
       (λ (g : Gone d). let e = g .fewer in rw (g .list) (omega arith))
-      (λ (k : Kept d). let e = k .same in rw (k .list) (simp length-append (omega arith)))
+      (λ (k : Stays d). let e = k .same in rw (k .list) (simp length-append (omega arith)))
       (fate d)
 
   -- a dimension that stays is the last of those up to it
   module _ (d : ℕ) where
-    pub kept-length : Kept d → length (staying size excess (suc d)) ≡ suc (length (staying size excess d))
-    kept-length k = rw (k .list) (simp length-append (omega arith))
+    pub stays-length : Stays d → length (staying size excess (suc d)) ≡ suc (length (staying size excess d))
+    stays-length k = rw (k .list) (simp length-append (omega arith))
 
-    pub kept-last : Kept d → at (staying size excess (suc d)) (length (staying size excess d)) ≡ d
-    kept-last k = rw (k .list) (getD-append-seam (staying size excess d) d [] 0)
+    pub stays-last : Stays d → at (staying size excess (suc d)) (length (staying size excess d)) ≡ d
+    stays-last k = rw (k .list) (getD-append-seam (staying size excess d) d [] 0)
 
-    pub kept-before : Kept d → (j : ℕ) → j < length (staying size excess d) → at (staying size excess (suc d)) j ≡ at (staying size excess d) j
-    kept-before k j h = rw (k .list) (List·getD-append (staying size excess d) (d ∷ []) 0 j h)
+    pub stays-before : Stays d → (j : ℕ) → j < length (staying size excess d) → at (staying size excess (suc d)) j ≡ at (staying size excess d) j
+    stays-before k j h = rw (k .list) (List·getD-append (staying size excess d) (d ∷ []) 0 j h)
 
     -- an entry is the last, or one from before
-    kept-cases : Kept d → (P : ℕ → Type 0) → P (length (staying size excess d)) → ((j : ℕ) → j < length (staying size excess d) → P j) → (j : ℕ) → j < length (staying size excess (suc d)) → P j
-    kept-cases k P here all j h =
-        ⊎-elim (λ q. subst P (sym q) here) (all j) (eq-or-lt-of-le (le-of-suc-le-suc (rw (kept-length k) at h)))
+    stays-cases : Stays d → (P : ℕ → Type 0) → P (length (staying size excess d)) → ((j : ℕ) → j < length (staying size excess d) → P j) → (j : ℕ) → j < length (staying size excess (suc d)) → P j
+    stays-cases k P here all j h =
+        ⊎-elim (λ q. subst P (sym q) here) (all j) (eq-or-lt-of-le (le-of-suc-le-suc (rw (stays-length k) at h)))
 
   none-stay : length (staying size excess 0) ≡ 0
   unfolding staying
@@ -106,10 +106,10 @@ module _ (size : ℕ → ℕ) (excess : ℕ) where
   staying-below (suc d) j h =
       ⊎-elim
       (λ (g : Gone d). rw (g .list) (let b = staying-below d j (rw (g .list) at h) in omega arith))
-      (λ (k : Kept d).
-      kept-cases d k (λ m. at (staying size excess (suc d)) m < suc d)
-      (omega (arith, kept-last d k))
-      (λ m q. omega (arith, kept-before d k m q, staying-below d m q))
+      (λ (k : Stays d).
+      stays-cases d k (λ m. at (staying size excess (suc d)) m < suc d)
+      (omega (arith, stays-last d k))
+      (λ m q. omega (arith, stays-before d k m q, staying-below d m q))
       j h)
       (fate d)
 
@@ -119,10 +119,10 @@ module _ (size : ℕ → ℕ) (excess : ℕ) where
   staying-rises (suc d) i j l h =
       ⊎-elim
       (λ (g : Gone d). rw (g .list) (staying-rises d i j l (rw (g .list) at h)))
-      (λ (k : Kept d).
-      kept-cases d k (λ m. i < m → at (staying size excess (suc d)) i < at (staying size excess (suc d)) m)
-      (λ p. omega (arith, kept-last d k, kept-before d k i p, staying-below d i p))
-      (λ m q p. omega (arith, kept-before d k m q, kept-before d k i (omega arith), staying-rises d i m p q))
+      (λ (k : Stays d).
+      stays-cases d k (λ m. i < m → at (staying size excess (suc d)) i < at (staying size excess (suc d)) m)
+      (λ p. omega (arith, stays-last d k, stays-before d k i p, staying-below d i p))
+      (λ m q p. omega (arith, stays-before d k m q, stays-before d k i (omega arith), staying-rises d i m p q))
       j h l)
       (fate d)
 
@@ -134,9 +134,9 @@ module _ (size : ℕ → ℕ) (excess : ℕ) where
       let h = staying-sum f z d in
       ⊎-elim
       (λ (g : Gone d). rw (g .list) (omega (arith, z d (g .unit))))
-      (λ (k : Kept d).
-      rw (kept-length d k)
-      (omega (arith, sum-same (length (staying size excess d)) _ _ (λ j q. ap f (kept-before d k j q)) ∙ h, ap f (kept-last d k))))
+      (λ (k : Stays d).
+      rw (stays-length d k)
+      (omega (arith, sum-same (length (staying size excess d)) _ _ (λ j q. ap f (stays-before d k j q)) ∙ h, ap f (stays-last d k))))
       (fate d)
 
 -- where there are units enough, as many stay as should
@@ -196,22 +196,22 @@ module _ (n : ℕ) (size stride : ℕ → ℕ) (excess : ℕ) where
         })
 
     -- one more entry of an array, behind those of the dimensions that stay
-    one-more : (f : ℕ → ℕ) (a : List ℕ) → n ≤ 4 → Kept size excess d → Filled 0 4 (λ j. f (at (staying size excess d) j)) a k → Filled 0 4 (λ j. f (at (staying size excess (suc d)) j)) (set a k (f d)) (k + 1)
+    one-more : (f : ℕ → ℕ) (a : List ℕ) → n ≤ 4 → Stays size excess d → Filled 0 4 (λ j. f (at (staying size excess d) j)) a k → Filled 0 4 (λ j. f (at (staying size excess (suc d)) j)) (set a k (f d)) (k + 1)
     one-more f a four g v =
         let c = w .count in
         filled-more (omega arith)
-        (filled-same (λ j q. ap f (sym (kept-before size excess d g j (omega arith)))) v)
+        (filled-same (λ j q. ap f (sym (stays-before size excess d g j (omega arith)))) v)
         (omega (arith, w .few))
-        (ap f (sym (rw c (kept-last size excess d g))))
+        (ap f (sym (rw c (stays-last size excess d g))))
 
     pub shrunk-kept : n ≤ 4 → (isUnit size d && ltb 0 lacking) ≡ false → Shrunk (set shape k (size d)) (set out k (stride d)) lacking (k + 1) (d + 1)
     shrunk-kept four e =
-        let g = kept size excess d (sym tested ∙ e) in
+        let g = stays size excess d (sym tested ∙ e) in
         subst (λ (j : ℕ). Shrunk (set shape k (size d)) (set out k (stride d)) lacking (k + 1) j) (sym (add-one d))
         (record {
           within = h;
           few = omega (arith, w .few);
-          count = omega (arith, w .count, kept-length size excess d g);
+          count = omega (arith, w .count, stays-length size excess d g);
           left = w .left ∙ g .same;
           shapes = one-more size shape four g (w .shapes);
           strides = one-more stride out four g (w .strides);

@@ -14,12 +14,12 @@ abbrev pub below : {A : Type 0} → A → ℕ → ℕ → A → A
 below z n d v = cond (ltb d n) v z
 
 -- the array of four entries
-abbrev pub table : {A : Type 0} → (ℕ → A) → List A
-table f = f 0 ∷ f 1 ∷ f 2 ∷ f 3 ∷ []
+abbrev pub array : {A : Type 0} → (ℕ → A) → List A
+array f = f 0 ∷ f 1 ∷ f 2 ∷ f 3 ∷ []
 
 -- the array with the entries of f below the rank n, and z at and past it
 unfoldable pub firstsOr : {A : Type 0} → A → ℕ → (ℕ → A) → List A
-firstsOr z n f = table (λ d. below z n d (f d))
+firstsOr z n f = array (λ d. below z n d (f d))
 
 -- and 0 at and past it
 abbrev pub firsts : ℕ → (ℕ → ℕ) → List ℕ

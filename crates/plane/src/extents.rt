@@ -20,7 +20,7 @@ fn taken(shape: u32, offset: u32, size: u32) -> u32
 }
 
 // How many are kept of m, one in each step, rounded up.
-fn kept(m: u32, step: u32) -> u64
+fn kept_count(m: u32, step: u32) -> u64
     requires { ⌜ 0 < step ⌝ }
     ensures { λ r. ⌜ (r ≡ upward m step) × (r ≤ 8589934590) ⌝ }
 {
@@ -41,7 +41,7 @@ fn extent_at(t: Tensor, c: Config, d: usize) -> u64
     ensures { λ r. ⌜ r ≡ extent t c d ⌝ }
 {
     let m = taken(t.shape[d], c.offset[d], c.size[d]);
-    padded(c.pre[d], kept(m, c.step[d]), c.post[d])
+    padded(c.pre[d], kept_count(m, c.step[d]), c.post[d])
 }
 
 // 10

@@ -14,9 +14,9 @@ use Rattle.plane.specs.Arrays.{at, some}
 use Rattle.plane.proofs.Numbers.{length-little}
 use Rattle.faults.proofs.Bools.{either-clear}
 use Rattle.plane.specs.Numbers.{little, number}
-use Rattle.record.specs.Layout.{part, joined, fourIn, fourBytes}
+use Rattle.record.specs.Layout.{part, consecutive, fourIn, fourBytes}
 use Rattle.record.specs.RoundTrip.{Bytes}
-use Rattle.record.proofs.Parts.{part-cons, length-joined, sum-const, stored-next}
+use Rattle.record.proofs.Parts.{part-cons, length-consecutive, sum-const, stored-next}
 
 bytes-take : (n : ℕ) (bs : List ℕ) → Bytes bs → Bytes (take n bs)
 bytes-take zero bs h i = omega arith
@@ -90,10 +90,10 @@ two-halves l p x ea eb =
     ap (sets l p) (sym (little-halves x))
 
 pub length-four : (w : ℕ) (xs : List ℕ) → length (fourBytes w xs) ≡ 4 * w
-length-four w xs = length-joined 4 (λ d. little w (at xs d)) (λ _. w) (λ k _. length-little w (at xs k)) ∙ sum-const 4 w
+length-four w xs = length-consecutive 4 (λ d. little w (at xs d)) (λ _. w) (λ k _. length-little w (at xs k)) ∙ sum-const 4 w
 
 pub four-stored : (l : List ℕ) (p w : ℕ) (xs : List ℕ) {a b c d : List ℕ} → a ≡ sets l p (little w (at xs 0)) → b ≡ sets a (p + w) (little w (at xs 1)) → c ≡ sets b (p + (w + w)) (little w (at xs 2)) → d ≡ sets c (p + (w + w + w)) (little w (at xs 3)) → d ≡ sets l p (fourBytes w xs)
-unfolding joined
+unfolding consecutive
 four-stored l p w xs ea eb ec ed =
     let n : ℕ → List ℕ = λ k. little w (at xs k) in
     let long : (k : ℕ) → length (little w (at xs k)) ≡ w = λ k. length-little w (at xs k) in

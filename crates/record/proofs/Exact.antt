@@ -6,7 +6,7 @@ use Rattle.faults.specs.Faults.{fault}
 use Rattle.faults.proofs.Chains.{exact, exact-fault}
 use Rattle.record.specs.declared.Reading.{Reading}
 use Rattle.record.specs.Records.{fieldsRules, fieldsFault, readRules, readFault, writeRules, writeFault, noReading}
-use Rattle.record.specs.Claims.{ReadExact, FieldsExact, WriteExact, ReadZeros, WriteKept}
+use Rattle.record.specs.Claims.{ReadExact, FieldsExact, WriteExact, ReadZeros, WriteUnchanged}
 use Rattle.record.proofs.Answers.{read-refused, read-given, read-status, room-kept}
 
 -- ---- the theorems
@@ -32,5 +32,5 @@ unfolding writeFault
 write-exact t c n = exact-fault (writeRules t c n) (omega arith)
 
 -- a refused write changes no byte
-pub write-kept : WriteKept
-write-kept t c room h = room-kept t c room h
+pub write-unchanged : WriteUnchanged
+write-unchanged t c room h = room-kept t c room h

@@ -10,7 +10,7 @@ use Rattle.plane.specs.Arrays.{zeros, sum, some}
 use Rattle.faults.specs.Faults.{fault, when, _orElse_, first, lowest}
 use Rattle.plane.specs.Settings.{zeroConfig, withStep, withPerm, withPost, withFill}
 use Rattle.plane.specs.Numbers.{little, number}
-use Rattle.record.specs.Layout.{joined, start}
+use Rattle.record.specs.Layout.{consecutive, start}
 use Rattle.record.specs.Records.{tensorIn, configIn, recordBytes, stray, fieldsFault, readFault, writeFault, noReading, reading, readOf, writtenRoom}
 
 -- example A: shape (2,3), permutation (1,0)
@@ -26,7 +26,7 @@ bytesA =
     (1 ∷ 0 ∷ 0 ∷ 0 ∷ 1 ∷ []) ++ replicate 43 0 ++ (1 ∷ []) ++ replicate 11 0
 
 pub written-a : writtenRoom tensorA configA (replicate 131 9) ≡ bytesA
-unfolding writtenRoom writeFault fieldsFault stray recordBytes joined little when _orElse_ lowest first some
+unfolding writtenRoom writeFault fieldsFault stray recordBytes consecutive little when _orElse_ lowest first some
 written-a = refl
 
 pub read-a : readOf bytesA ≡ reading tensorA configA
@@ -38,7 +38,7 @@ abbrev pub bytesFilled : List ℕ
 bytesFilled = set bytesA 3 2 ++ (128 ∷ 0 ∷ 0 ∷ 0 ∷ [])
 
 pub written-filled : writtenRoom tensorA (withFill configA 128) (replicate 135 9) ≡ bytesFilled
-unfolding writtenRoom writeFault fieldsFault stray recordBytes joined little when _orElse_ lowest first some
+unfolding writtenRoom writeFault fieldsFault stray recordBytes consecutive little when _orElse_ lowest first some
 written-filled = refl
 
 pub read-filled : readOf bytesFilled ≡ reading tensorA (withFill configA 128)
@@ -62,7 +62,7 @@ abbrev pub bytesThree : List ℕ
 bytesThree = set (set bytesA 3 2) 6 3 ++ (17 ∷ 34 ∷ 51 ∷ 0 ∷ [])
 
 pub written-three : writtenRoom tensorThree (withFill configA 3351057) (replicate 135 9) ≡ bytesThree
-unfolding writtenRoom writeFault fieldsFault stray recordBytes joined little when _orElse_ lowest first some
+unfolding writtenRoom writeFault fieldsFault stray recordBytes consecutive little when _orElse_ lowest first some
 written-three = refl
 
 pub read-three : readOf bytesThree ≡ reading tensorThree (withFill configA 3351057)

@@ -10,10 +10,10 @@ use Rattle.plane.specs.declared.Config.{Config}
 use Rattle.plane.specs.Arrays.{sum}
 use Rattle.plane.proofs.Numbers.{length-little}
 use Rattle.plane.specs.Numbers.{little}
-use Rattle.record.specs.Layout.{joined, groupCount, group, width, fourBytes, recordLength, fillWidth, lengthOf, versionFor, headBytes}
+use Rattle.record.specs.Layout.{consecutive, groupCount, group, width, fourBytes, recordLength, fillWidth, lengthOf, versionFor, headBytes}
 use Rattle.record.specs.Records.{recordBytes}
 use Rattle.record.specs.Private.{tensorBytes, configAt, configBytes}
-use Rattle.record.proofs.Parts.{Stored, stored-next, sets-next, sets-whole, length-joined}
+use Rattle.record.proofs.Parts.{Stored, stored-next, sets-next, sets-whole, length-consecutive}
 use Rattle.record.proofs.Digits.{length-four}
 
 -- a group stored behind what is stored already
@@ -33,7 +33,7 @@ module _ (l : List ℕ) (v : ℕ) (t : Tensor) where
 
 module _ (l : List ℕ) (c : Config) {m1 m2 m3 m4 m5 m6 m7 m8 : List ℕ} (e1 : m1 ≡ sets l configAt (fourBytes 4 (c .offset))) (e2 : m2 ≡ sets m1 55 (fourBytes 4 (c .size))) (e3 : m3 ≡ sets m2 71 (fourBytes 4 (c .step))) (e4 : m4 ≡ sets m3 87 (fourBytes 4 (c .«dst_offset»))) (e5 : m5 ≡ sets m4 103 (fourBytes 4 (c .«dst_stride»))) (e6 : m6 ≡ sets m5 119 (fourBytes 1 (c .perm))) (e7 : m7 ≡ sets m6 123 (fourBytes 1 (c .pre))) (e8 : m8 ≡ sets m7 127 (fourBytes 1 (c .post))) where
   pub config-laid : m8 ≡ sets l configAt (configBytes c)
-  unfolding configBytes joined
+  unfolding configBytes consecutive
   config-laid =
       let a = fourBytes 4 (c .offset) in
       let b = a ++ fourBytes 4 (c .size) in
@@ -57,13 +57,13 @@ regroup h a b d e f g k m n p = simp append-assoc
 module _ (t : Tensor) (c : Config) where
   -- up to the end of the groups
   abbrev before : List ℕ
-  before = headBytes (versionFor c) (t .rank) (t .«element_size») ++ joined groupCount (λ k. fourBytes (width k) (group t c k))
+  before = headBytes (versionFor c) (t .rank) (t .«element_size») ++ consecutive groupCount (λ k. fourBytes (width k) (group t c k))
 
   pub length-before : length before ≡ recordLength
   unfolding little sum
   length-before =
-      length-append (headBytes (versionFor c) (t .rank) (t .«element_size»)) (joined groupCount (λ k. fourBytes (width k) (group t c k))) ∙
-      ap (λ (n : ℕ). 7 + n) (length-joined groupCount (λ k. fourBytes (width k) (group t c k)) (λ k. 4 * width k) (λ k _. length-four (width k) (group t c k)))
+      length-append (headBytes (versionFor c) (t .rank) (t .«element_size»)) (consecutive groupCount (λ k. fourBytes (width k) (group t c k))) ∙
+      ap (λ (n : ℕ). 7 + n) (length-consecutive groupCount (λ k. fourBytes (width k) (group t c k)) (λ k. 4 * width k) (λ k _. length-four (width k) (group t c k)))
 
   pub length-record : length (recordBytes t c) ≡ lengthOf (versionFor c)
   unfolding recordBytes
@@ -72,7 +72,7 @@ module _ (t : Tensor) (c : Config) where
       length-append before fill ∙ ap₂ (λ (m n : ℕ). m + n) length-before (length-little (fillWidth (versionFor c)) (c .fill))
 
   two-pieces : tensorBytes (versionFor c) t ++ configBytes c ≡ before
-  unfolding tensorBytes configBytes joined
+  unfolding tensorBytes configBytes consecutive
   two-pieces =
       regroup (headBytes (versionFor c) (t .rank) (t .«element_size»)) (fourBytes 4 (t .shape)) (fourBytes 4 (t .stride)) (fourBytes 4 (c .offset)) (fourBytes 4 (c .size))
       (fourBytes 4 (c .step)) (fourBytes 4 (c .«dst_offset»)) (fourBytes 4 (c .«dst_stride»)) (fourBytes 1 (c .perm)) (fourBytes 1 (c .pre)) (fourBytes 1 (c .post))

@@ -9,7 +9,7 @@ use mathlib.Core.List.{List, [], _∷_, _++_, append-nil}
 use lib.ListN.{length, take, drop, length-append, length-drop, drop-of-length-le}
 use lib.Seq.{sets, sets-eq, length-take-le, take-all, drop-cons, take-append-le, drop-append-le, drop-append-add, drop-at, take-take, take-add, drop-drop}
 use Rattle.plane.specs.Arrays.{at, sum}
-use Rattle.record.specs.Layout.{part, joined}
+use Rattle.record.specs.Layout.{part, consecutive}
 
 -- ---- parts
 
@@ -51,37 +51,37 @@ sum-step (suc n) k len h =
     (λ q. let e = sum-step n k len q in omega arith)
     (eq-or-lt-of-le (le-of-suc-le-suc h))
 
-pub joined-same : (n : ℕ) (f g : ℕ → List ℕ) → ((k : ℕ) → k < n → f k ≡ g k) → joined n f ≡ joined n g
-unfolding joined
-joined-same zero f g h = refl
-joined-same (suc n) f g h =
-    ap₂ (λ (x y : List ℕ). x ++ y) (joined-same n f g (λ k q. h k (omega arith))) (h n (omega arith))
+pub consecutive-same : (n : ℕ) (f g : ℕ → List ℕ) → ((k : ℕ) → k < n → f k ≡ g k) → consecutive n f ≡ consecutive n g
+unfolding consecutive
+consecutive-same zero f g h = refl
+consecutive-same (suc n) f g h =
+    ap₂ (λ (x y : List ℕ). x ++ y) (consecutive-same n f g (λ k q. h k (omega arith))) (h n (omega arith))
 
-pub length-joined : (n : ℕ) (f : ℕ → List ℕ) (len : ℕ → ℕ) → ((k : ℕ) → k < n → length (f k) ≡ len k) → length (joined n f) ≡ sum n len
-unfolding joined sum
-length-joined zero f len h = refl
-length-joined (suc n) f len h =
-    length-append (joined n f) (f n) ∙ ap₂ (λ (x y : ℕ). x + y) (length-joined n f len (λ k q. h k (omega arith))) (h n (omega arith))
+pub length-consecutive : (n : ℕ) (f : ℕ → List ℕ) (len : ℕ → ℕ) → ((k : ℕ) → k < n → length (f k) ≡ len k) → length (consecutive n f) ≡ sum n len
+unfolding consecutive sum
+length-consecutive zero f len h = refl
+length-consecutive (suc n) f len h =
+    length-append (consecutive n f) (f n) ∙ ap₂ (λ (x y : ℕ). x + y) (length-consecutive n f len (λ k q. h k (omega arith))) (h n (omega arith))
 
 -- each list is found where those before it end
-pub part-joined : (n : ℕ) (f : ℕ → List ℕ) (len : ℕ → ℕ) (k : ℕ) → ((j : ℕ) → j < n → length (f j) ≡ len j) → k < n → part (sum k len) (len k) (joined n f) ≡ f k
-unfolding joined
-part-joined zero f len k h q = absurd (not-suc-le-zero q)
-part-joined (suc n) f len k h q =
-    let l = length-joined n f len (λ j r. h j (omega arith)) in
+pub part-consecutive : (n : ℕ) (f : ℕ → List ℕ) (len : ℕ → ℕ) (k : ℕ) → ((j : ℕ) → j < n → length (f j) ≡ len j) → k < n → part (sum k len) (len k) (consecutive n f) ≡ f k
+unfolding consecutive
+part-consecutive zero f len k h q = absurd (not-suc-le-zero q)
+part-consecutive (suc n) f len k h q =
+    let l = length-consecutive n f len (λ j r. h j (omega arith)) in
     ⊎-elim
-    (λ e. subst (λ (m : ℕ). part (sum m len) (len m) (joined n f ++ f n) ≡ f m) (sym e)
-    (ap (take (len n)) (drop-at (joined n f) (f n) (sum n len) l) ∙ take-all (len n) (f n) (let s = h n (omega arith) in omega arith)))
+    (λ e. subst (λ (m : ℕ). part (sum m len) (len m) (consecutive n f ++ f n) ≡ f m) (sym e)
+    (ap (take (len n)) (drop-at (consecutive n f) (f n) (sum n len) l) ∙ take-all (len n) (f n) (let s = h n (omega arith) in omega arith)))
     (λ r. let s = sum-step n k len r in
-    part-left (joined n f) (f n) (sum k len) (len k) (omega arith) ∙ part-joined n f len k (λ j p. h j (omega arith)) r)
+    part-left (consecutive n f) (f n) (sum k len) (len k) (omega arith) ∙ part-consecutive n f len k (λ j p. h j (omega arith)) r)
     (eq-or-lt-of-le (le-of-suc-le-suc q))
 
 -- parts that follow one another make one part
-pub joined-parts : (n p : ℕ) (len : ℕ → ℕ) (bs : List ℕ) → joined n (λ k. part (p + sum k len) (len k) bs) ≡ part p (sum n len) bs
-unfolding joined sum
-joined-parts zero p len bs = refl
-joined-parts (suc n) p len bs =
-    ap (λ (l : List ℕ). l ++ part (p + sum n len) (len n) bs) (joined-parts n p len bs) ∙
+pub consecutive-parts : (n p : ℕ) (len : ℕ → ℕ) (bs : List ℕ) → consecutive n (λ k. part (p + sum k len) (len k) bs) ≡ part p (sum n len) bs
+unfolding consecutive sum
+consecutive-parts zero p len bs = refl
+consecutive-parts (suc n) p len bs =
+    ap (λ (l : List ℕ). l ++ part (p + sum n len) (len n) bs) (consecutive-parts n p len bs) ∙
     ap (λ (l : List ℕ). part p (sum n len) bs ++ take (len n) l) (sym (drop-drop (sum n len) p bs)) ∙
     sym (take-add (sum n len) (len n) (drop p bs))
 

@@ -17,17 +17,17 @@ use Rattle.plane.specs.declared.Config.{Config}
 use Rattle.plane.specs.Arrays.{at, sum, some}
 use Rattle.faults.specs.Faults.{when}
 use Rattle.plane.specs.Settings.{arrayOf}
-use Rattle.plane.proofs.Arrays.{table-at, is-table}
+use Rattle.plane.proofs.Arrays.{array-at, is-array}
 use Rattle.plane.proofs.Configs.{same-config}
 use Rattle.plane.proofs.Numbers.{length-little}
 use Rattle.faults.proofs.Bools.{either-clear}
 use Rattle.faults.proofs.Faults.{status, or-clear, when-clear}
 use Rattle.record.specs.declared.Reading.{Reading}
 use Rattle.plane.specs.Numbers.{little, number}
-use Rattle.record.specs.Layout.{part, joined, recordLength, fillWidth, lengthOf, versionByLength, versionFor, versionIn, rankIn, sizeIn, fillIn, headBytes, groupCount, group, width, start, fourBytes}
+use Rattle.record.specs.Layout.{part, consecutive, recordLength, fillWidth, lengthOf, versionByLength, versionFor, versionIn, rankIn, sizeIn, fillIn, headBytes, groupCount, group, width, start, fourBytes}
 use Rattle.record.specs.Records.{groupIn, tensorIn, configIn, recordBytes, lengthIn, badLength, badMark, badVersion, fieldsFault, readFault, writeFault, reading, readOf, writtenRoom}
 use Rattle.record.specs.RoundTrip.{Fits, Bytes, OneWriting, ReadBack, WriteBack, ReadLength, SameFieldsSameBytes, AcceptedOnce, RefusedOrOnce}
-use Rattle.record.proofs.Parts.{part-cons, length-part, part-append, part-left, part-part, sum-step, sum-const, joined-same, part-joined, joined-parts}
+use Rattle.record.proofs.Parts.{part-cons, length-part, part-append, part-left, part-part, sum-step, sum-const, consecutive-same, part-consecutive, consecutive-parts}
 use Rattle.record.proofs.Digits.{bytes-part, number-little, little-number, number-fits, length-four, head-is}
 use Rattle.record.proofs.Laying.{length-before, length-record}
 use Rattle.record.proofs.Lengths.{two-lengths, fill-none, long-enough, length-again, by-version, version-plain, version-filled, version-again, length-right}
@@ -61,7 +61,7 @@ module _ (t : Tensor) (c : Config) (f : Fits t c) where
       let xs = group t c k in
       let s = sum k four in
       let heads = headBytes (versionFor c) (t .rank) (t .«element_size») in
-      let all = joined groupCount (λ j. fourBytes (width j) (group t c j)) in
+      let all = consecutive groupCount (λ j. fourBytes (width j) (group t c j)) in
       let place : start k + d * w ≡ length heads + (s + d * w) = omega arith in
       let same : d * w ≡ sum d (λ _. w) = sym (sum-const d w) in
       let ends = group-end k h in
@@ -72,14 +72,14 @@ module _ (t : Tensor) (c : Config) (f : Fits t c) where
       ap (λ (p : ℕ). part p w (heads ++ all)) place ∙
       part-append heads all (s + d * w) w ∙
       sym (part-part s (4 * w) (d * w) w all (within d w q)) ∙
-      ap (part (d * w) w) (part-joined groupCount (λ j. fourBytes (width j) (group t c j)) four k (λ j _. length-four (width j) (group t c j)) h) ∙
+      ap (part (d * w) w) (part-consecutive groupCount (λ j. fourBytes (width j) (group t c j)) four k (λ j _. length-four (width j) (group t c j)) h) ∙
       ap (λ (p : ℕ). part p w (fourBytes w xs)) same ∙
-      part-joined 4 (λ j. little w (at xs j)) (λ _. w) d (λ j _. length-little w (at xs j)) q) ∙
+      part-consecutive 4 (λ j. little w (at xs j)) (λ _. w) d (λ j _. length-little w (at xs j)) q) ∙
       number-little w (at xs d) (f .small k d h q)
 
   group-back : (k : ℕ) → k < groupCount → groupIn (recordBytes t c) k ≡ group t c k
   group-back k h =
-      sym (is-table 0 (group t c k) (λ d. number (part (start k + d * width k) (width k) (recordBytes t c))) (f .long k h) (λ d q. sym (entry-back k d h q)))
+      sym (is-array 0 (group t c k) (λ d. number (part (start k + d * width k) (width k) (recordBytes t c))) (f .long k h) (λ d q. sym (entry-back k d h q)))
 
   tensor-back : tensorIn (recordBytes t c) ≡ t
   unfolding tensorIn recordBytes little
@@ -97,7 +97,7 @@ module _ (t : Tensor) (c : Config) (f : Fits t c) where
   unfolding recordBytes
   fill-back =
       let w = fillWidth (versionFor c) in
-      let before = headBytes (versionFor c) (t .rank) (t .«element_size») ++ joined groupCount (λ j. fourBytes (width j) (group t c j)) in
+      let before = headBytes (versionFor c) (t .rank) (t .«element_size») ++ consecutive groupCount (λ j. fourBytes (width j) (group t c j)) in
       let place : recordLength ≡ length before + 0 = let long = length-before t c in omega arith in
       let short : w ≤ 4 = by-version c (λ v. fillWidth v ≤ 4) (omega arith) (omega arith) in
       ap number
@@ -176,28 +176,28 @@ module _ (bs : List ℕ) (b : Bytes bs) where
         let e = group-ends k h in
         let i = within d w q in
         let n = length-part p w bs (omega arith) in
-        ap (little w) (table-at g 0 d q) ∙ ap (λ (m : ℕ). little m (g d)) (sym n) ∙ little-number (part p w bs) (bytes-part bs b p w)
+        ap (little w) (array-at g 0 d q) ∙ ap (λ (m : ℕ). little m (g d)) (sym n) ∙ little-number (part p w bs) (bytes-part bs b p w)
 
     group-bytes : (k : ℕ) → k < groupCount → fourBytes (width k) (groupIn bs k) ≡ part (start k) (4 * width k) bs
     group-bytes k h =
         let w = width k in
-        joined-same 4 _ (λ d. part (start k + sum d (λ _. w)) w bs)
+        consecutive-same 4 _ (λ d. part (start k + sum d (λ _. w)) w bs)
         (λ d q. entry-bytes k d h q ∙ ap (λ (m : ℕ). part (start k + m) w bs) (sym (sum-const d w))) ∙
-        joined-parts 4 (start k) (λ _. w) bs ∙ ap (λ (m : ℕ). part (start k) m bs) (sum-const 4 w)
+        consecutive-parts 4 (start k) (λ _. w) bs ∙ ap (λ (m : ℕ). part (start k) m bs) (sum-const 4 w)
 
-    groups-bytes : joined groupCount (λ k. fourBytes (width k) (group (tensorIn bs) (configIn bs) k)) ≡ part 7 124 bs
+    groups-bytes : consecutive groupCount (λ k. fourBytes (width k) (group (tensorIn bs) (configIn bs) k)) ≡ part 7 124 bs
     unfolding start sum four
     groups-bytes =
-        joined-same groupCount _ (λ k. part (7 + sum k four) (four k) bs)
+        consecutive-same groupCount _ (λ k. part (7 + sum k four) (four k) bs)
         (λ k h. ap (fourBytes (width k)) (group-in k h) ∙ group-bytes k h) ∙
-        joined-parts groupCount 7 four bs
+        consecutive-parts groupCount 7 four bs
 
     head-bytes : badMark bs ≡ false → badVersion bs ≡ false → headBytes (versionByLength (length bs)) (rankIn bs) (sizeIn bs) ≡ part 0 7 bs
     head-bytes m v =
         head-is 82 77 86 (versionByLength (length bs)) bs _ b (omega arith) m v
         (sym (part-cons 5 1 bs (omega arith) ∙ ap (λ (l : List ℕ). rankIn bs ∷ l) (part-cons 6 0 bs (omega arith))))
 
-    before-bytes : badMark bs ≡ false → badVersion bs ≡ false → headBytes (versionByLength (length bs)) (rankIn bs) (sizeIn bs) ++ joined groupCount (λ k. fourBytes (width k) (group (tensorIn bs) (configIn bs) k)) ≡ take recordLength bs
+    before-bytes : badMark bs ≡ false → badVersion bs ≡ false → headBytes (versionByLength (length bs)) (rankIn bs) (sizeIn bs) ++ consecutive groupCount (λ k. fourBytes (width k) (group (tensorIn bs) (configIn bs) k)) ≡ take recordLength bs
     before-bytes m v = ap₂ (λ (x y : List ℕ). x ++ y) (head-bytes m v) groups-bytes ∙ sym (take-add 7 124 bs)
 
     fits-read : Fits (tensorIn bs) (configIn bs)
@@ -218,7 +218,7 @@ module _ (bs : List ℕ) (b : Bytes bs) where
             let i = within d w q in
             let n = length-part p w bs (omega arith) in
             let z : at (group (tensorIn bs) (configIn bs) k) d ≡ number (part p w bs) =
-            ap (λ (xs : List ℕ). at xs d) (group-in k h) ∙ table-at (λ j. number (part (start k + j * w) w bs)) 0 d q in
+            ap (λ (xs : List ℕ). at xs d) (group-in k h) ∙ array-at (λ j. number (part (start k + j * w) w bs)) 0 d q in
             let y : number (part p w bs) < 256 ^ w = subst (λ (m : ℕ). number (part p w bs) < 256 ^ m) n (number-fits (part p w bs) (bytes-part bs b p w)) in
             rw z y
 
@@ -280,7 +280,7 @@ version-same bs p =
 bytes-back : (bs : List ℕ) → Bytes bs → Passed bs → recordBytes (tensorIn bs) (configIn bs) ≡ bs
 unfolding recordBytes tensorIn configIn
 bytes-back bs b p =
-    ap (λ (v : ℕ). headBytes v (rankIn bs) (sizeIn bs) ++ joined groupCount (λ k. fourBytes (width k) (group (tensorIn bs) (configIn bs) k)) ++ little (fillWidth v) (fillIn bs)) (version-same bs p) ∙
+    ap (λ (v : ℕ). headBytes v (rankIn bs) (sizeIn bs) ++ consecutive groupCount (λ k. fourBytes (width k) (group (tensorIn bs) (configIn bs) k)) ++ little (fillWidth v) (fillIn bs)) (version-same bs p) ∙
     ap₂ (λ (x y : List ℕ). x ++ y) (before-bytes bs b (long-enough (length bs) (p .long)) (p .mark) (p .version)) (fill-bytes bs b (p .long)) ∙
     take-append-drop recordLength bs
 

@@ -25,6 +25,6 @@ abbrev pub ReadZeros : Type 0
 ReadZeros = (bs : List ℕ) → let a = readOf bs in (a .status ≡ 0 → ⊥) → a ≡ noReading (fault (a .status) (a .dim))
 
 -- a refused write changes no byte
-abbrev pub WriteKept : Type 0
-WriteKept =
+abbrev pub WriteUnchanged : Type 0
+WriteUnchanged =
     (t : Tensor) (c : Config) (room : List ℕ) → (writeFault t c (length room) .status ≡ 0 → ⊥) → writtenRoom t c room ≡ room

@@ -7,7 +7,7 @@ use lib.Dec.{ltb, eqb}
 use lib.ListN.{getD, take, drop}
 use Rattle.plane.specs.declared.Tensor.{Tensor}
 use Rattle.plane.specs.declared.Config.{Config}
-use Rattle.plane.specs.Arrays.{at, table, sum}
+use Rattle.plane.specs.Arrays.{at, array, sum}
 use Rattle.plane.specs.Settings.{arrayCount, arrays}
 use Rattle.plane.specs.Numbers.{little, number}
 
@@ -18,9 +18,9 @@ abbrev pub part : ℕ → ℕ → List ℕ → List ℕ
 part p n bs = take n (drop p bs)
 
 -- f 0, f 1, .., f (n - 1), one after the other
-unfoldable pub joined : ℕ → (ℕ → List ℕ) → List ℕ
-joined zero f = []
-joined (suc k) f = joined k f ++ f k
+unfoldable pub consecutive : ℕ → (ℕ → List ℕ) → List ℕ
+consecutive zero f = []
+consecutive (suc k) f = consecutive k f ++ f k
 
 -- ---- The table: seven bytes, ten groups of four numbers, and in version 2 the fill
 
@@ -96,8 +96,8 @@ start k = headLength + sum k (λ j. 4 * width j)
 
 -- as it stands from byte p on
 abbrev pub fourIn : ℕ → ℕ → List ℕ → List ℕ
-fourIn p w bs = table (λ d. number (part (p + d * w) w bs))
+fourIn p w bs = array (λ d. number (part (p + d * w) w bs))
 
 -- its bytes
 abbrev pub fourBytes : ℕ → List ℕ → List ℕ
-fourBytes w xs = joined 4 (λ d. little w (at xs d))
+fourBytes w xs = consecutive 4 (λ d. little w (at xs d))

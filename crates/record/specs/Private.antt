@@ -4,7 +4,7 @@ use mathlib.Core.List.{List, _++_}
 use Rattle.plane.specs.declared.Tensor.{Tensor}
 use Rattle.plane.specs.declared.Config.{Config}
 use Rattle.plane.specs.Settings.{arrayCount, arrayOf}
-use Rattle.record.specs.Layout.{joined, headLength, headBytes, width, fourBytes}
+use Rattle.record.specs.Layout.{consecutive, headLength, headBytes, width, fourBytes}
 
 -- the bytes of a record of version v up to the end of the strides
 unfoldable pub tensorBytes : ℕ → Tensor → List ℕ
@@ -16,4 +16,4 @@ configAt = headLength + 2 * (4 * 4)
 
 -- the bytes from there to the end of the groups
 unfoldable pub configBytes : Config → List ℕ
-configBytes c = joined arrayCount (λ k. fourBytes (width (2 + k)) (arrayOf c k))
+configBytes c = consecutive arrayCount (λ k. fourBytes (width (2 + k)) (arrayOf c k))

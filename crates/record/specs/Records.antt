@@ -13,7 +13,7 @@ use Rattle.plane.specs.Planes.{zeroTensor, badRank, badElement}
 use Rattle.plane.specs.Numbers.{little}
 use Rattle.plane.specs.Settings.{configOf, zeroConfig}
 use Rattle.record.specs.declared.Reading.{Reading}
-use Rattle.record.specs.Layout.{joined, fillWidth, lengthOf, versionByLength, versionFor, mark, versionIn, rankIn, sizeIn, fillIn}
+use Rattle.record.specs.Layout.{consecutive, fillWidth, lengthOf, versionByLength, versionFor, mark, versionIn, rankIn, sizeIn, fillIn}
 use Rattle.record.specs.Layout.{headBytes, groupCount, group, width, start, fourIn, fourBytes}
 
 -- ---- The fields that bytes hold, and the bytes of fields
@@ -31,7 +31,7 @@ configIn bs = configOf (λ k. groupIn bs (2 + k)) (fillIn bs)
 unfoldable pub recordBytes : Tensor → Config → List ℕ
 recordBytes t c =
     headBytes (versionFor c) (t .rank) (t .«element_size») ++
-    joined groupCount (λ k. fourBytes (width k) (group t c k)) ++
+    consecutive groupCount (λ k. fourBytes (width k) (group t c k)) ++
     little (fillWidth (versionFor c)) (c .fill)
 
 -- how long a record is that begins with these bytes, by its version; too few to have one count as version 1

@@ -7,12 +7,12 @@ use mathlib.Core.List.{List}
 use borrow.Author.Tests.{eq-eqb, ne-eqb, le-ltb}
 use Rattle.plane.specs.declared.Tensor.{Tensor}
 use Rattle.plane.specs.declared.Config.{Config}
-use Rattle.plane.specs.Arrays.{at, table, firsts, zeros, sum, product}
+use Rattle.plane.specs.Arrays.{at, array, firsts, zeros, sum, product}
 use Rattle.plane.specs.Planes.{shapeAt, strideAt, resolved, srcStrides, sourceAt}
 use Rattle.plane.specs.Moves.{taken, count, extent, dstExtents, dstStrides}
 use Rattle.plane.specs.Settings.{withDstOffset, withDstStride}
 use Rattle.ready_made.specs.ReadyMade.{defaults, cutTo, madeFor}
-use Rattle.plane.proofs.Arrays.{table-at, zeros-at, firsts-at, firsts-same, sum-same, product-same}
+use Rattle.plane.proofs.Arrays.{array-at, zeros-at, firsts-at, firsts-same, sum-same, product-same}
 use Rattle.plane.specs.Good.{GoodSource, GoodConfig, GoodDst}
 use Rattle.plane.proofs.Falling.{strides-hold}
 use Rattle.mover.specs.Element.{sourcePlace}
@@ -101,8 +101,8 @@ module _ (n : ℕ) (few : n ≤ 4) where
   pub cut-zero : (i : ℕ) → i < n → at (firsts n (at zeros)) i ≡ 0
   cut-zero i h = cut-at zeros i h ∙ zeros-at i
 
-  pub cut-table : (f : ℕ → ℕ) (i : ℕ) → i < n → at (firsts n (at (table f))) i ≡ f i
-  cut-table f i h = cut-at (table f) i h ∙ table-at f 0 i (omega arith)
+  pub cut-array : (f : ℕ → ℕ) (i : ℕ) → i < n → at (firsts n (at (array f))) i ≡ f i
+  cut-array f i h = cut-at (array f) i h ∙ array-at f 0 i (omega arith)
 
 -- ---- ready-made configurations of a rank that is taken
 
@@ -119,10 +119,10 @@ module _ (u : Tensor) (few : u .rank ≤ 4) (o s : List ℕ) where
   pub placing-whole : Boxed u (placing (u .rank) o s) (u .shape)
   unfolding cutTo
   placing-whole = record {
-    perm = cut-table (u .rank) few (λ d. d);
+    perm = cut-array (u .rank) few (λ d. d);
     pre = cut-zero (u .rank) few;
     post = cut-zero (u .rank) few;
-    step = cut-table (u .rank) few (λ d. 1);
+    step = cut-array (u .rank) few (λ d. 1);
     size = λ i h. taken-all u (placing (u .rank) o s) i (cut-zero (u .rank) few i h) (cut-zero (u .rank) few i h);
   }
 

@@ -28,7 +28,7 @@ use Rattle.mover.specs.Moved.{extentAt, moveMemory}
 use Rattle.mover.proofs.Keeping.{place-same}
 use Rattle.slices.specs.Claims.{SubIsSlice, SubSliceAccepted}
 use Rattle.slices.proofs.Spread.{staying-product, staying-heads, spread, spread-at, spread-below, spread-sum, spread-back}
-use Rattle.slices.proofs.Boxes.{Boxed, boxed-extent-at, boxed-kept, boxed-stride, boxed-source, boxed-config, boxed-place, taken-some, cut-at, cut-zero, cut-table, made, copied, copy-whole, copy-place, copy-config}
+use Rattle.slices.proofs.Boxes.{Boxed, boxed-extent-at, boxed-kept, boxed-stride, boxed-source, boxed-config, boxed-place, taken-some, cut-at, cut-zero, cut-array, made, copied, copy-whole, copy-place, copy-config}
 use Rattle.mover.proofs.SubParts.{part-here}
 use Rattle.slices.proofs.SubElements.{place-whole, its-byte, its-tensor}
 use Rattle.mover.proofs.Laws.{judged, judged-good, moved-refused}
@@ -55,10 +55,10 @@ module _ {t : Tensor} {s : SubConfig} {srcLen : ℕ} (g : GoodSub t s srcLen) wh
   slice-boxed : Boxed t (sliced t s) (s .size)
   unfolding cutTo
   slice-boxed = record {
-    perm = cut-table (t .rank) few (λ d. d);
+    perm = cut-array (t .rank) few (λ d. d);
     pre = cut-zero (t .rank) few;
     post = cut-zero (t .rank) few;
-    step = cut-table (t .rank) few (λ d. 1);
+    step = cut-array (t .rank) few (λ d. 1);
     size = λ i h.
         let e = cut-at (t .rank) few (s .size) i h in
         taken-some t (sliced t s) i (omega (arith, g .size i h .0)) ∙ e;

@@ -9,7 +9,7 @@ use lib.ListN.{length}
 use Rattle.plane.specs.Arrays.{at, sum, product}
 use Rattle.plane.specs.Helpers.{removed, staying}
 use Rattle.plane.proofs.Arrays.{sum-same, product-same}
-use Rattle.plane.proofs.Staying.{Gone, Kept, gone, kept, fate, kept-length, kept-last, kept-before}
+use Rattle.plane.proofs.Staying.{Gone, Stays, gone, stays, fate, stays-length, stays-last, stays-before}
 
 module _ (size : ℕ → ℕ) (excess : ℕ) where
   none : length (staying size excess 0) ≡ 0
@@ -22,14 +22,14 @@ module _ (size : ℕ → ℕ) (excess : ℕ) where
   stays-at (suc n) d h e =
       ⊎-elim
       (λ (q : d ≡ n).
-      let k = kept size excess d e in
+      let k = stays size excess d e in
       subst (λ (m : ℕ). (length (staying size excess d) < length (staying size excess (suc m))) × (at (staying size excess (suc m)) (length (staying size excess d)) ≡ d)) q
-      (omega (arith, kept-length size excess d k), kept-last size excess d k))
+      (omega (arith, stays-length size excess d k), stays-last size excess d k))
       (λ q.
       let w = stays-at n d q e in
       ⊎-elim
       (λ (g : Gone size excess n). rw (g .list) w)
-      (λ (k : Kept size excess n). (omega (arith, w .0, kept-length size excess n k), kept-before size excess n k _ (w .0) ∙ w .1))
+      (λ (k : Stays size excess n). (omega (arith, w .0, stays-length size excess n k), stays-before size excess n k _ (w .0) ∙ w .1))
       (fate size excess n))
       (eq-or-lt-of-le (le-of-suc-le-suc h))
 
@@ -40,11 +40,11 @@ module _ (size : ℕ → ℕ) (excess : ℕ) where
   staying-product (suc n) =
       ⊎-elim
       (λ (g : Gone size excess n). rw (g .list, g .unit, mul-one) (staying-product n))
-      (λ (k : Kept size excess n).
-      rw (kept-length size excess n k)
+      (λ (k : Stays size excess n).
+      rw (stays-length size excess n k)
       (ap₂ (λ (a b : ℕ). a * b)
-      (product-same (length (staying size excess n)) _ _ (λ i h. ap size (kept-before size excess n k i h)) ∙ staying-product n)
-      (ap size (kept-last size excess n k))))
+      (product-same (length (staying size excess n)) _ _ (λ i h. ap size (stays-before size excess n k i h)) ∙ staying-product n)
+      (ap size (stays-last size excess n k))))
       (fate size excess n)
 
   pub staying-heads : (n i : ℕ) → i < length (staying size excess n) → product (suc i) (λ j. size (at (staying size excess n) j)) ≡ product (suc (at (staying size excess n) i)) size
@@ -52,15 +52,15 @@ module _ (size : ℕ → ℕ) (excess : ℕ) where
   staying-heads (suc n) i h =
       ⊎-elim
       (λ (g : Gone size excess n). rw (g .list) (staying-heads n i (rw (g .list) at h)))
-      (λ (k : Kept size excess n).
+      (λ (k : Stays size excess n).
       ⊎-elim
       (λ (q : i ≡ length (staying size excess n)).
-      rw (q, kept-last size excess n k, ← kept-length size excess n k) (staying-product (suc n)))
+      rw (q, stays-last size excess n k, ← stays-length size excess n k) (staying-product (suc n)))
       (λ q.
-      product-same (suc i) _ _ (λ j l. ap size (kept-before size excess n k j (omega arith))) ∙
+      product-same (suc i) _ _ (λ j l. ap size (stays-before size excess n k j (omega arith))) ∙
       staying-heads n i q ∙
-      ap (λ (d : ℕ). product (suc d) size) (sym (kept-before size excess n k i q)))
-      (eq-or-lt-of-le (le-of-suc-le-suc (rw (kept-length size excess n k) at h))))
+      ap (λ (d : ℕ). product (suc d) size) (sym (stays-before size excess n k i q)))
+      (eq-or-lt-of-le (le-of-suc-le-suc (rw (stays-length size excess n k) at h))))
       (fate size excess n)
 
   -- coordinates x of the dimensions that stay, by the plane's dimensions: 0 for one that is removed
@@ -73,11 +73,11 @@ module _ (size : ℕ → ℕ) (excess : ℕ) where
     spread-at (suc n) i h = elim (removed size excess n) as (λ b. removed size excess n ≡ b → spread x (at (staying size excess (suc n)) i) ≡ x i) [
       | true ↦ λ e. let g = gone size excess n e .list in rw g (spread-at n i (rw g at h))
       | false ↦ λ e.
-          let k = kept size excess n e in
+          let k = stays size excess n e in
           ⊎-elim
-          (λ (q : i ≡ length (staying size excess n)). rw (q, kept-last size excess n k, e))
-          (λ q. rw (kept-before size excess n k i q) (spread-at n i q))
-          (eq-or-lt-of-le (le-of-suc-le-suc (rw (kept-length size excess n k) at h)))
+          (λ (q : i ≡ length (staying size excess n)). rw (q, stays-last size excess n k, e))
+          (λ q. rw (stays-before size excess n k i q) (spread-at n i q))
+          (eq-or-lt-of-le (le-of-suc-le-suc (rw (stays-length size excess n k) at h)))
     ] refl
 
     pub spread-below : (n : ℕ) → ((d : ℕ) → d < n → 1 ≤ size d) → ((i : ℕ) → i < length (staying size excess n) → x i < size (at (staying size excess n) i)) → (d : ℕ) → d < n → spread x d < size d
@@ -93,11 +93,11 @@ module _ (size : ℕ → ℕ) (excess : ℕ) where
     spread-sum w (suc n) = elim (removed size excess n) as (λ b. removed size excess n ≡ b → sum (length (staying size excess (suc n))) (λ i. x i * w (at (staying size excess (suc n)) i)) ≡ sum n (λ d. spread x d * w d) + spread x n * w n) [
       | true ↦ λ e. rw (gone size excess n e .list, e, zero-mul, add-zero) (spread-sum w n)
       | false ↦ λ e.
-          let k = kept size excess n e in
-          rw (kept-length size excess n k, e)
+          let k = stays size excess n e in
+          rw (stays-length size excess n k, e)
           (ap₂ (λ (a b : ℕ). a + b)
-          (sum-same (length (staying size excess n)) _ _ (λ i h. ap (λ (d : ℕ). x i * w d) (kept-before size excess n k i h)) ∙ spread-sum w n)
-          (ap (λ (d : ℕ). x (length (staying size excess n)) * w d) (kept-last size excess n k)))
+          (sum-same (length (staying size excess n)) _ _ (λ i h. ap (λ (d : ℕ). x i * w d) (stays-before size excess n k i h)) ∙ spread-sum w n)
+          (ap (λ (d : ℕ). x (length (staying size excess n)) * w d) (stays-last size excess n k)))
     ] refl
 
   -- coordinates within the sizes are 0 in each unit dimension, so those of the dimensions that stay tell them all

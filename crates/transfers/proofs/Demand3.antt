@@ -25,7 +25,7 @@ use Rattle.transfers.specs.declared.Changed.{Changed}
 use Rattle.transfers.specs.declared.Stepped.{Stepped}
 use Rattle.transfers.specs.Slots.{freeSlot, freshTable, slotAt, withSlot, lowestFree, breaks, clashes, limit}
 use Rattle.transfers.specs.Calls.{freshOf, prepareFault, callFault, newSlot, prepareOf, changed, running, startOf, releaseOf, stepCount, later, stepOf, stepMemory}
-use Rattle.transfers.specs.Demand3.{theMover, Log, notePrepare, noteStep, noteRelease, Course, made, prepared, started, stepped, freed, Call, prepare, start, step, release, poll, World, begin, after, run, ForCourses, ForRuns}
+use Rattle.transfers.specs.Demand3.{theMover, Log, notePrepare, noteStep, noteRelease, History, made, prepared, started, stepped, freed, Call, prepare, start, step, release, poll, World, freshWorld, after, run, ForHistories, ForRuns}
 use Rattle.transfers.proofs.Fours.{lowest-is}
 use Rattle.transfers.proofs.Answers.{fresh-17, fresh-0, called, preparing}
 use Rattle.transfers.proofs.Lawful.{lawful, applied-advanced, whole-moves, clear-of}
@@ -116,38 +116,38 @@ module _ (m₀ : List ℕ) where
       all-free n (suc (suc (suc zero))) = refl
       all-free n (suc (suc (suc (suc h)))) = refl
 
-  shown : {t : Table} {m : List ℕ} {log : Log} → Course m₀ t m log → Shown t m log
+  shown : {t : Table} {m : List ℕ} {log : Log} → History m₀ t m log → Shown t m log
   shown (made n e) = rw e (fresh-shown n)
   shown (prepared {t = t} {m = m} {log = log} s j e) = rw e (prepare-shown t m log (shown s) j)
   shown (started {t = t} {m = m} {log = log} s h e) = rw e (start-shown t m log (shown s) h)
   shown (stepped {t = t} {m = m} {log = log} s h b e f) = rw (e, f) (step-shown t m log (shown s) h b)
   shown (freed {t = t} {m = m} {log = log} s h e) = rw e (release-shown t m log (shown s) h)
 
--- ---- a list of calls is a course of calls
+-- ---- a list of calls is a history of calls
 
-course-after : (m₀ : List ℕ) (c : Call) (w : World) → Course m₀ (w .table) (w .memory) (w .log)
-    → Course m₀ (after c w .table) (after c w .memory) (after c w .log)
+history-after : (m₀ : List ℕ) (c : Call) (w : World) → History m₀ (w .table) (w .memory) (w .log)
+    → History m₀ (after c w .table) (after c w .memory) (after c w .log)
 unfolding after
-course-after m₀ (prepare j) w s = prepared s j refl
-course-after m₀ (start h) w s = started s h refl
-course-after m₀ (step h b) w s = stepped s h b refl refl
-course-after m₀ (release h) w s = freed s h refl
-course-after m₀ (poll h) w s = s
+history-after m₀ (prepare j) w s = prepared s j refl
+history-after m₀ (start h) w s = started s h refl
+history-after m₀ (step h b) w s = stepped s h b refl refl
+history-after m₀ (release h) w s = freed s h refl
+history-after m₀ (poll h) w s = s
 
-course-run : (m₀ : List ℕ) (cs : List Call) (w : World) → Course m₀ (w .table) (w .memory) (w .log)
-    → Course m₀ (run cs w .table) (run cs w .memory) (run cs w .log)
+history-run : (m₀ : List ℕ) (cs : List Call) (w : World) → History m₀ (w .table) (w .memory) (w .log)
+    → History m₀ (run cs w .table) (run cs w .memory) (run cs w .log)
 unfolding run
-course-run m₀ [] w s = s
-course-run m₀ (c ∷ cs) w s = course-run m₀ cs (after c w) (course-after m₀ c w s)
+history-run m₀ [] w s = s
+history-run m₀ (c ∷ cs) w s = history-run m₀ cs (after c w) (history-after m₀ c w s)
 
 pub listed : (n : ℕ) (m₀ : List ℕ) (cs : List Call)
-    → Course m₀ (run cs (begin n m₀) .table) (run cs (begin n m₀) .memory) (run cs (begin n m₀) .log)
-unfolding begin
-listed n m₀ cs = course-run m₀ cs (begin n m₀) (made n refl)
+    → History m₀ (run cs (freshWorld n m₀) .table) (run cs (freshWorld n m₀) .memory) (run cs (freshWorld n m₀) .log)
+unfolding freshWorld
+listed n m₀ cs = history-run m₀ cs (freshWorld n m₀) (made n refl)
 
 -- ---- the theorems
 
-pub demand-3 : ForCourses
+pub demand-3 : ForHistories
 demand-3 m₀ t m log s =
     let r = shown m₀ s in
     let p = serial.passed theMover lawful m₀ (view t) m log r in

@@ -10,7 +10,7 @@ use borrow.Author.Count.{below-more}
 use borrow.Author.Tests.{eq-eqb, ne-eqb}
 use lib.Dec.{eqb}
 use lib.ListN.{length, getD, set}
-use Rattle.plane.specs.Arrays.{table}
+use Rattle.plane.specs.Arrays.{array}
 use Rattle.transfers.specs.declared.Slot.{Slot}
 use Rattle.transfers.specs.declared.Table.{Table}
 use Rattle.transfers.specs.Slots.{freeSlot, slotAt, withSlot, lowestFree}
@@ -39,7 +39,7 @@ slot-read t h e q = getD-any (t .slots) h past freeSlot (omega arith)
 
 -- ---- a slot put in its place
 
-four : (l : List Slot) → length l ≡ 4 → l ≡ table (λ i. getD l i freeSlot)
+four : (l : List Slot) → length l ≡ 4 → l ≡ array (λ i. getD l i freeSlot)
 four [] h = absurd (omega arith)
 four (a ∷ []) h = absurd (omega arith)
 four (a ∷ b ∷ []) h = absurd (omega arith)
@@ -47,7 +47,7 @@ four (a ∷ b ∷ c ∷ []) h = absurd (omega arith)
 four (a ∷ b ∷ c ∷ d ∷ []) h = refl
 four (a ∷ b ∷ c ∷ d ∷ e ∷ l) h = absurd (omega arith)
 
-set-four : (a b c d s : Slot) (h : ℕ) → h < 4 → set (a ∷ b ∷ c ∷ d ∷ []) h s ≡ table (λ i. cond (eqb i h) s (getD (a ∷ b ∷ c ∷ d ∷ []) i freeSlot))
+set-four : (a b c d s : Slot) (h : ℕ) → h < 4 → set (a ∷ b ∷ c ∷ d ∷ []) h s ≡ array (λ i. cond (eqb i h) s (getD (a ∷ b ∷ c ∷ d ∷ []) i freeSlot))
 set-four a b c d s zero q = refl
 set-four a b c d s (suc zero) q = refl
 set-four a b c d s (suc (suc zero)) q = refl

@@ -15,7 +15,7 @@ use Rattle.faults.proofs.Chains.{has, never-given}
 use Rattle.transfers.specs.declared.Table.{Table}
 use Rattle.transfers.specs.Slots.{tableSound, limit}
 use Rattle.transfers.specs.Calls.{openRules, pollRules, pollOf, pollStatus}
-use Rattle.transfers.specs.Demand3.{Log, Course, made, prepared, started, stepped, freed, Call, prepare, start, step, release, poll, World, begin, after, run}
+use Rattle.transfers.specs.Demand3.{Log, History, made, prepared, started, stepped, freed, Call, prepare, start, step, release, poll, World, freshWorld, after, run}
 use Rattle.transfers.specs.Sound.{SoundFor, Handed, by-fresh, by-prepare, by-start, by-step, by-release, Neither17Nor18, NeverClosed, AlwaysOpen}
 use Rattle.transfers.proofs.Answers.{fresh-0}
 use Rattle.transfers.proofs.Keeps.{free-table, fresh-keeps, prepare-keeps, start-keeps, step-keeps, release-keeps}
@@ -85,28 +85,28 @@ unfolding run
 run-sound [] w p = record { sound = p; long = refl }
 run-sound (c ∷ cs) w p = let k = after-sound c w p in onward (k .long) (run-sound cs (after c w) (k .sound))
 
-begin-sound : (n : ℕ) (m : List ℕ) → n ≤ limit → SoundFor n (begin n m .table)
-unfolding begin
-begin-sound n m h = rw (← fresh-0 n h) (record { sound = free-table n h; long = refl })
+fresh-world-sound : (n : ℕ) (m : List ℕ) → n ≤ limit → SoundFor n (freshWorld n m .table)
+unfolding freshWorld
+fresh-world-sound n m h = rw (← fresh-0 n h) (record { sound = free-table n h; long = refl })
 
--- ---- the courses of demand 3
+-- ---- the histories of demand 3
 
-course-sound : {m₀ : List ℕ} {t : Table} {m : List ℕ} {log : Log} → Course m₀ t m log → tableSound t ≡ true
-course-sound (made n e) = rw e (fresh-keeps n)
-course-sound (prepared {t = t} {m = m} s j e) = rw e (prepare-keeps t (course-sound s) (length m) j .sound)
-course-sound (started {t = t} {m = m} s h e) = rw e (start-keeps t (course-sound s) (length m) h .sound)
-course-sound (stepped {t = t} {m = m} s h b e f) = rw e (step-keeps t (course-sound s) (length m) h b .sound)
-course-sound (freed {t = t} {m = m} s h e) = rw e (release-keeps t (course-sound s) (length m) h .sound)
+history-sound : {m₀ : List ℕ} {t : Table} {m : List ℕ} {log : Log} → History m₀ t m log → tableSound t ≡ true
+history-sound (made n e) = rw e (fresh-keeps n)
+history-sound (prepared {t = t} {m = m} s j e) = rw e (prepare-keeps t (history-sound s) (length m) j .sound)
+history-sound (started {t = t} {m = m} s h e) = rw e (start-keeps t (history-sound s) (length m) h .sound)
+history-sound (stepped {t = t} {m = m} s h b e f) = rw e (step-keeps t (history-sound s) (length m) h b .sound)
+history-sound (freed {t = t} {m = m} s h e) = rw e (release-keeps t (history-sound s) (length m) h .sound)
 
-course-open : {m₀ : List ℕ} {t : Table} {m : List ℕ} {log : Log} → Course m₀ t m log → t .length ≡ length m₀ → NeverClosed t (length m)
-course-open {m₀} {t} {m} {log} s own =
-    sound-open t (length m) (record { sound = course-sound s; long = own ∙ sym (demand-3 m₀ t m log s .long) })
+history-open : {m₀ : List ℕ} {t : Table} {m : List ℕ} {log : Log} → History m₀ t m log → t .length ≡ length m₀ → NeverClosed t (length m)
+history-open {m₀} {t} {m} {log} s own =
+    sound-open t (length m) (record { sound = history-sound s; long = own ∙ sym (demand-3 m₀ t m log s .long) })
 
 listed-open : (m₀ : List ℕ) (cs : List Call) → length m₀ ≤ limit
-    → NeverClosed (run cs (begin (length m₀) m₀) .table) (length (run cs (begin (length m₀) m₀) .memory))
+    → NeverClosed (run cs (freshWorld (length m₀) m₀) .table) (length (run cs (freshWorld (length m₀) m₀) .memory))
 listed-open m₀ cs h =
-    let b = begin-sound (length m₀) m₀ h in
-    course-open (listed (length m₀) m₀ cs) (run-sound cs (begin (length m₀) m₀) (b .sound) .long ∙ b .long)
+    let b = fresh-world-sound (length m₀) m₀ h in
+    history-open (listed (length m₀) m₀ cs) (run-sound cs (freshWorld (length m₀) m₀) (b .sound) .long ∙ b .long)
 
 -- ---- the theorem
 
@@ -114,7 +114,7 @@ pub always-open : AlwaysOpen
 always-open = record {
   handed-sound = λ n t r. handed-sound r;
   handed-open = λ n t r. sound-open t n (handed-sound r);
-  course-sound = λ m₀ t m log s. course-sound s;
-  course-open = λ m₀ t m log s own. course-open s own;
+  history-sound = λ m₀ t m log s. history-sound s;
+  history-open = λ m₀ t m log s own. history-open s own;
   listed-open = listed-open;
 }

@@ -9,7 +9,7 @@ use mathlib.Core.List.{List}
 use lib.Dec.{eqb, ltb, eqb·suc-zero}
 use lib.ListN.{getD, set, List·getD-eq-default}
 use Rattle.faults.specs.Faults.{when, _orElse_, ifFault}
-use Rattle.plane.specs.Arrays.{table}
+use Rattle.plane.specs.Arrays.{array}
 use Rattle.mover.specs.declared.Job.{Job}
 use Rattle.mover.specs.Within.{totalOf}
 use Rattle.serial.specs.Machine.{Stage, prepared, running, done, free, taken, stageAfter}
@@ -31,7 +31,7 @@ abbrev pub viewSlot : Slot → machine.Slot Job
 viewSlot s = cond (eqb (s .state) 0) free (taken (stageOf (s .state)) (s .job) (s .moved))
 
 abbrev pub view : Table → List (machine.Slot Job)
-view t = table (λ i. viewSlot (slotAt t i))
+view t = array (λ i. viewSlot (slotAt t i))
 
 pub view-at : (t : Table) (h : ℕ) → h < 4 → getD (view t) h free ≡ viewSlot (slotAt t h)
 view-at t zero b = refl

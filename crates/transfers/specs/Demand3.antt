@@ -56,16 +56,16 @@ noteRelease h a log = cond (eqb (a .status) 0) (edit h (ended released) log) log
 -- ---- calls, one after another: table, memory and log that they lead to from a fresh table and the memory m₀
 
 -- each call is given the table that the one before handed back, and answers as its contract says. (A poll changes nothing.)
-pub data Course (m₀ : List ℕ) : Table → List ℕ → Log → Type 0 where
-  made : (n : ℕ) {a : FreshTable} → a ≡ freshOf n → Course m₀ (a .table) m₀ []
-  prepared : {t : Table} {m : List ℕ} {log : Log} → Course m₀ t m log → (j : Job) {a : Prepared}
-      → a ≡ prepareOf t (length m) j → Course m₀ (a .table) m (notePrepare j a m log)
-  started : {t : Table} {m : List ℕ} {log : Log} → Course m₀ t m log → (h : ℕ) {a : Changed}
-      → a ≡ startOf t (length m) h → Course m₀ (a .table) m log
-  stepped : {t : Table} {m : List ℕ} {log : Log} → Course m₀ t m log → (h budget : ℕ) {a : Stepped} {m′ : List ℕ}
-      → a ≡ stepOf t (length m) h budget → m′ ≡ stepMemory t h budget m → Course m₀ (a .table) m′ (noteStep h a log)
-  freed : {t : Table} {m : List ℕ} {log : Log} → Course m₀ t m log → (h : ℕ) {a : Changed}
-      → a ≡ releaseOf t (length m) h → Course m₀ (a .table) m (noteRelease h a log)
+pub data History (m₀ : List ℕ) : Table → List ℕ → Log → Type 0 where
+  made : (n : ℕ) {a : FreshTable} → a ≡ freshOf n → History m₀ (a .table) m₀ []
+  prepared : {t : Table} {m : List ℕ} {log : Log} → History m₀ t m log → (j : Job) {a : Prepared}
+      → a ≡ prepareOf t (length m) j → History m₀ (a .table) m (notePrepare j a m log)
+  started : {t : Table} {m : List ℕ} {log : Log} → History m₀ t m log → (h : ℕ) {a : Changed}
+      → a ≡ startOf t (length m) h → History m₀ (a .table) m log
+  stepped : {t : Table} {m : List ℕ} {log : Log} → History m₀ t m log → (h budget : ℕ) {a : Stepped} {m′ : List ℕ}
+      → a ≡ stepOf t (length m) h budget → m′ ≡ stepMemory t h budget m → History m₀ (a .table) m′ (noteStep h a log)
+  freed : {t : Table} {m : List ℕ} {log : Log} → History m₀ t m log → (h : ℕ) {a : Changed}
+      → a ≡ releaseOf t (length m) h → History m₀ (a .table) m (noteRelease h a log)
 
 -- the same for a list of calls
 
@@ -83,8 +83,8 @@ pub record World : Type 0 where
   pub memory : List ℕ
   pub log : Log
 
-unfoldable pub begin : ℕ → List ℕ → World
-begin n m = record { table = freshOf n .table; memory = m; log = [] }
+unfoldable pub freshWorld : ℕ → List ℕ → World
+freshWorld n m = record { table = freshOf n .table; memory = m; log = [] }
 
 unfoldable pub after : Call → World → World
 after (prepare j) w =
@@ -166,11 +166,11 @@ pub record Demand3 (m₀ : List ℕ) (t : Table) (m : List ℕ) (log : Log) : Ty
   pub in-place : EveryHeld (InPlace m) log
 
 -- for a caller who chooses each call by the answers so far
-abbrev pub ForCourses : Type 0
-ForCourses = (m₀ : List ℕ) (t : Table) (m : List ℕ) (log : Log) → Course m₀ t m log → Demand3 m₀ t m log
+abbrev pub ForHistories : Type 0
+ForHistories = (m₀ : List ℕ) (t : Table) (m : List ℕ) (log : Log) → History m₀ t m log → Demand3 m₀ t m log
 
 -- for every list of calls
 abbrev pub ForRuns : Type 0
 ForRuns =
     (n : ℕ) (m₀ : List ℕ) (cs : List Call) →
-    let w = run cs (begin n m₀) in Demand3 m₀ (w .table) (w .memory) (w .log)
+    let w = run cs (freshWorld n m₀) in Demand3 m₀ (w .table) (w .memory) (w .log)

@@ -8,7 +8,7 @@ use Rattle.plane.specs.declared.Tensor.{Tensor}
 use Rattle.plane.specs.declared.Config.{Config}
 use Rattle.plane.specs.Settings.{arrayCount, arrayOf, zeroConfig}
 use Rattle.plane.specs.Planes.{zeroTensor}
-use Rattle.plane.specs.Arrays.{at, table, some, every}
+use Rattle.plane.specs.Arrays.{at, array, some, every}
 use Rattle.parts.specs.declared.Part.{Part}
 use Rattle.mover.specs.declared.Job.{Job}
 use Rattle.mover.specs.Within.{meets, jobFault, totalOf}
@@ -29,7 +29,7 @@ freeSlot = record { state = 0; job = zeroJob; moved = 0 }
 
 -- four free slots for a memory of n bytes
 abbrev pub freshTable : ℕ → Table
-freshTable n = record { length = n; slots = table (λ i. freeSlot) }
+freshTable n = record { length = n; slots = array (λ i. freeSlot) }
 
 abbrev pub slotAt : Table → ℕ → Slot
 slotAt t h = getD (t .slots) h freeSlot
@@ -39,7 +39,7 @@ isFree t h = eqb (slotAt t h .state) 0
 
 -- the table with the slot s at h, and every other slot as it was
 unfoldable pub withSlot : Table → ℕ → Slot → Table
-withSlot t h s = record { length = t .length; slots = table (λ i. cond (eqb i h) s (slotAt t i)) }
+withSlot t h s = record { length = t .length; slots = array (λ i. cond (eqb i h) s (slotAt t i)) }
 
 -- the lowest free slot, or 4 where none is
 unfoldable pub lowestFree : Table → ℕ

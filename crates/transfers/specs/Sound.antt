@@ -11,7 +11,7 @@ use Rattle.mover.specs.declared.Job.{Job}
 use Rattle.transfers.specs.declared.Table.{Table}
 use Rattle.transfers.specs.Slots.{freeSlot, freshTable, slotAt, breaks, slotSound, tableSound, limit}
 use Rattle.transfers.specs.Calls.{freshOf, prepareOf, startOf, stepOf, releaseOf, pollOf, pollStatus}
-use Rattle.transfers.specs.Demand3.{Log, Course, Call, begin, run}
+use Rattle.transfers.specs.Demand3.{Log, History, Call, freshWorld, run}
 
 -- ---- what soundness comes to
 
@@ -89,9 +89,9 @@ pub record AlwaysOpen : Type 0 where
   -- for that caller
   pub handed-sound : (n : ℕ) (t : Table) → Handed n t → SoundFor n t
   pub handed-open : (n : ℕ) (t : Table) → Handed n t → NeverClosed t n
-  -- in the courses of demand 3
-  pub course-sound : (m₀ : List ℕ) (t : Table) (m : List ℕ) (log : Log) → Course m₀ t m log → tableSound t ≡ true
-  pub course-open : (m₀ : List ℕ) (t : Table) (m : List ℕ) (log : Log) → Course m₀ t m log → t .length ≡ length m₀ → NeverClosed t (length m)
+  -- in the histories of demand 3
+  pub history-sound : (m₀ : List ℕ) (t : Table) (m : List ℕ) (log : Log) → History m₀ t m log → tableSound t ≡ true
+  pub history-open : (m₀ : List ℕ) (t : Table) (m : List ℕ) (log : Log) → History m₀ t m log → t .length ≡ length m₀ → NeverClosed t (length m)
   -- and for every list of calls
   pub listed-open : (m₀ : List ℕ) (cs : List Call) → length m₀ ≤ limit →
-      let w = run cs (begin (length m₀) m₀) in NeverClosed (w .table) (length (w .memory))
+      let w = run cs (freshWorld (length m₀) m₀) in NeverClosed (w .table) (length (w .memory))

@@ -5,7 +5,7 @@ use Prim.Native.Nat.{ℕ, zero, suc, _+_, _-_, _*_, _/_, _%_}
 use lib.Dec.{leb, ltb}
 use lib.ListN.{take, drop}
 use lib.Seq.{sets}
-use Rattle.plane.specs.Arrays.{at, table}
+use Rattle.plane.specs.Arrays.{at, array}
 use Rattle.mover.specs.declared.plan.Axis.{Axis}
 use Rattle.mover.specs.declared.plan.Plan.{Plan}
 use Rattle.mover.specs.declared.elements.Origin.{Origin}
@@ -41,7 +41,7 @@ homeOf p c0 c1 c2 c3 =
 
 -- the bytes of a padded element: the first of these four
 abbrev pub padding : ℕ → List ℕ → List ℕ
-padding size pad = take size (table (at pad))
+padding size pad = take size (array (at pad))
 
 -- the element's bytes: the source's if every coordinate is kept, else padding
 unfoldable pub planBytes : Plan → List ℕ → ℕ → ℕ → ℕ → ℕ → List ℕ

@@ -21,8 +21,8 @@ abbrev pub Joins : Axis → Axis → Type 0
 Joins x y = (y .extent ≡ 1) ⊎ Follows x y
 
 -- both as one
-unfoldable pub joinedOf : Axis → Axis → Axis
-joinedOf x y =
+unfoldable pub asOne : Axis → Axis → Axis
+asOne x y =
     cond (eqb (y .extent) 1) x
     (record { extent = x .extent * y .extent; pre = x .pre * y .extent; count = x .count * y .extent; jump = y .jump; stride = y .stride })
 

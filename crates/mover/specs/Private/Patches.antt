@@ -59,8 +59,8 @@ swappedOf p = record {
 }
 
 -- a row of a patch, the first element at `at` and to `to`
-abbrev pub rowOf : Patch → ℕ → ℕ → Course
-rowOf p at to = record { at = at; jump = p .jump; to = to; stride = p .stride; size = p .size; pad = p .pad; n = p .columns }
+abbrev pub patchRow : Patch → ℕ → ℕ → Course
+patchRow p at to = record { at = at; jump = p .jump; to = to; stride = p .stride; size = p .size; pad = p .pad; n = p .columns }
 
 -- n rows of `width` bytes, which stand in an array one after the other, to `to` and each a stride further
 abbrev pub rowsIn : ℕ → ℕ → ℕ → ℕ → Course
@@ -125,13 +125,13 @@ Tiled Split p = SplitRows p
 Tiled Merged p = MergedRows p
 
 -- from a tile to the next
-abbrev pub stepOf : Tile → Patch → Step
-stepOf Turned p = record { columns = sixteenthOf (p .size); jump = acrossOf (p .size) (p .jump); stride = 16 }
-stepOf Split p = record { columns = 32; jump = 96; stride = 32 }
-stepOf Merged p = record { columns = 16; jump = 16; stride = 48 }
+abbrev pub tileStep : Tile → Patch → Step
+tileStep Turned p = record { columns = sixteenthOf (p .size); jump = acrossOf (p .size) (p .jump); stride = 16 }
+tileStep Split p = record { columns = 32; jump = 96; stride = 32 }
+tileStep Merged p = record { columns = 16; jump = 16; stride = 48 }
 
 abbrev pub tileColumns : Tile → Patch → ℕ
-tileColumns t p = stepOf t p .columns
+tileColumns t p = tileStep t p .columns
 
 -- columns of a plan's rows, of which the first stands at `at` and goes to `to`
 abbrev pub patchOf : Plan → ℕ → ℕ → ℕ → ℕ → Patch

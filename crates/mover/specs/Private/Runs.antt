@@ -26,7 +26,7 @@ pub record Alike (x : Axis) (outer : Bool) (c most : ℕ) (r : Run) : Type 0 whe
   pub cut : r .n ≤ most
   pub row : c + r .n ≤ x .extent
   pub same : (k : ℕ) → k < r .n → (outer && axisKept x (c + k)) ≡ r .kept
-  pub whole : r .n < most → (c + r .n ≤ x .pre) ⊎ (x .pre + x .count ≤ c + r .n)
+  pub full : r .n < most → (c + r .n ≤ x .pre) ⊎ (x .pre + x .count ≤ c + r .n)
 
 -- the course of a run of a plan's rows, at a spot
 abbrev pub courseOf : Plan → Spot → Run → Course

@@ -168,8 +168,8 @@ module _ {M : Type 1} (𝓤 : URA M) (H : Heap 𝓤) (A : Atoms 𝓤) (W : Given
   Ref a γ l d = MutRef (named 0) (a ∷ κ) R .own (lent γ l d) (vptr l 0 ∷ [])
 
   -- what is kept meanwhile: the lender's part, and the way back to the lifetime's whole token
-  abbrev Kept : ℕ → GName → ℕ → Item 𝓤
-  Kept a γ l = ‵ (flent (a ∷ κ) (Body (mem R) l 0 γ)) ⊛ raw (Rest 𝓤 H A W a half)
+  abbrev Aside : ℕ → GName → ℕ → Item 𝓤
+  Aside a γ l = ‵ (flent (a ∷ κ) (Body (mem R) l 0 γ)) ⊛ raw (Rest 𝓤 H A W a half)
 
   asks-next : (a : ℕ) (γ : GName) (l : ℕ) (d : ListReader) → ent 𝓤 (⋆ 𝓤 H A (‵ (flft (a ∷ κ) half) ∷ ‵ (flft κ half′) ∷ ‵ (Ref a γ l d) ∷ [])) (Next 𝓤 H A at-mem run .pre (to-next a γ l d))
   asks-next a γ l d =
@@ -177,7 +177,7 @@ module _ {M : Type 1} (𝓤 : URA M) (H : Heap 𝓤) (A : Atoms 𝓤) (W : Given
       nothing ! $ move ! (3 ∷ 0 ∷ []) $ join ! $ move ! (2 ∷ 0 ∷ []) $ join ! $ join ! $ frame ! $ done !
 
   abbrev Asked : ℕ → ListReader → ℕ → GName → SProp 𝓤
-  Asked l d a γ = sep 𝓤 (Next 𝓤 H A at-mem run .pre (to-next a γ l d)) (mean 𝓤 H A (Kept a γ l))
+  Asked l d a γ = sep 𝓤 (Next 𝓤 H A at-mem run .pre (to-next a γ l d)) (mean 𝓤 H A (Aside a γ l))
 
   lends-reader : (l : ℕ) (d : ListReader) → ent 𝓤 (⋆ 𝓤 H A (‵ (Lies l d) ∷ Tok ∷ [])) (H .⇛ (ex 𝓤 (λ (a : ℕ). ex 𝓤 (Asked l d a))))
   lends-reader l d =
@@ -207,9 +207,9 @@ module _ {M : Type 1} (𝓤 : URA M) (H : Heap 𝓤) (A : Atoms 𝓤) (W : Given
   Given-back l d u n = guard 𝓤 (Known d u n) (sep 𝓤 (sem 𝓤 H A (Lies l (advanced d))) (mean 𝓤 H A Tok))
 
   -- the lifetime is ended, and the reader comes back at the place after
-  gives-back : (a : ℕ) (γ : GName) (l : ℕ) (d : ListReader) (u : Val) → ent 𝓤 (sep 𝓤 (Next 𝓤 H A at-mem run .post (to-next a γ l d) u) (mean 𝓤 H A (Kept a γ l))) (H .⇛ (ex 𝓤 (Given-back l d u)))
+  gives-back : (a : ℕ) (γ : GName) (l : ℕ) (d : ListReader) (u : Val) → ent 𝓤 (sep 𝓤 (Next 𝓤 H A at-mem run .post (to-next a γ l d) u) (mean 𝓤 H A (Aside a γ l))) (H .⇛ (ex 𝓤 (Given-back l d u)))
   gives-back a γ l d u =
-      qed W (raw (Next 𝓤 H A at-mem run .post (to-next a γ l d) u) ∷ Kept a γ l ∷ []) ∵ updating ! $
+      qed W (raw (Next 𝓤 H A at-mem run .post (to-next a γ l d) u) ∷ Aside a γ l ∷ []) ∵ updating ! $
       use1 W (later (some (λ (n : Numbered). ((‵ (flft (a ∷ κ) half) ⊛ ‵ (flft κ half′) ⊛ ‵ ftrue) ⊛ ‵ (N.the-row .own n (u ∷ []))) ⊛ raw (ensured 𝓤 H A next-fn.ended (next-fn.clauses 𝓤 H A at-mem run) (a ∷ κ, (κ, tt)) (lent γ l d, tt) tt n)))) (id⊢ 𝓤 _) $ await ! tt $ pick ! (λ n.
       split ! $ move ! (1 ∷ []) $ use1 W (given (n ≡ answer d) (‵ (fres γ (R .coded .code (advanced d))))) (next-said a γ l d n) $ learn ! (λ e. move ! (1 ∷ []) $ split ! $ move ! (1 ∷ []) $
       facts ! N.the-row (Is N.the-row) (shows 𝓤 H A N.the-row) n (u ∷ []) (λ is. split ! $ move ! (1 ∷ []) $ split ! $ move ! (1 ∷ []) $ drop ! $ move ! (3 ∷ []) $ split ! $ move ! (3 ∷ 1 ∷ []) $
@@ -264,13 +264,13 @@ module _ {M : Type 1} (𝓤 : URA M) (H : Heap 𝓤) (A : Atoms 𝓤) (W : Given
         -- [the reader in its place; the token; what bytes owns; room for _10; …; …; _4; …; (of _3); _2; …; _1; …; room for _0; …]
         -- `next`
         assigns ! (addr ! (from ! (stop !))) (from ! (stop !)) (init ! 9 refl (tt, tt)) $
-        use2 W (later (some (λ (a : ℕ). some (λ (γ : GName). raw (Next 𝓤 H A at-mem run .pre (to-next a γ l₃ (r .reader))) ⊛ Kept a γ l₃)))) (lends-reader l₃ (r .reader)) $ await ! tt $ pick ! (λ a. pick ! (λ γ. split ! $
+        use2 W (later (some (λ (a : ℕ). some (λ (γ : GName). raw (Next 𝓤 H A at-mem run .pre (to-next a γ l₃ (r .reader))) ⊛ Aside a γ l₃)))) (lends-reader l₃ (r .reader)) $ await ! tt $ pick ! (λ a. pick ! (λ γ. split ! $
         calls-at ! fm (Next 𝓤 H A at-mem run) known-next (to-next a γ l₃ (r .reader)) (and-then ! (load ! (from ! (stop !)) (look ! 9 refl)) (no-more !)) (λ u′.
         use2 W (later (some (λ (n : Numbered). given (Known (r .reader) u′ n) (‵ (Lies l₃ (advanced (r .reader))) ⊛ Tok)))) (gives-back a γ l₃ (r .reader) u′) $ await ! tt $ pick ! (λ n. learn ! (λ k. split ! $
         land ! (from ! (stop !)) (init ! 15 refl (LL.lawful N.the-type N′.the-laws 𝓤 H A W .typed n _ (k .1) .0)) $ rewrite ! 15 (λ (w : Val). ‵ (fat fullShare N′.mir l₄ 0 w)) (ap only (spelled-n n u′ (k .1))) refl $
         -- `next` again
         assigns ! (addr ! (from ! (stop !))) (from ! (stop !)) (init ! 7 refl (tt, tt)) $
-        use2 W (later (some (λ (a′ : ℕ). some (λ (γ′ : GName). raw (Next 𝓤 H A at-mem run .pre (to-next a′ γ′ l₃ (advanced (r .reader)))) ⊛ Kept a′ γ′ l₃)))) (lends-reader l₃ (advanced (r .reader))) $ await ! tt $ pick ! (λ a′. pick ! (λ γ′. split ! $
+        use2 W (later (some (λ (a′ : ℕ). some (λ (γ′ : GName). raw (Next 𝓤 H A at-mem run .pre (to-next a′ γ′ l₃ (advanced (r .reader)))) ⊛ Aside a′ γ′ l₃)))) (lends-reader l₃ (advanced (r .reader))) $ await ! tt $ pick ! (λ a′. pick ! (λ γ′. split ! $
         calls-at ! fm (Next 𝓤 H A at-mem run) known-next (to-next a′ γ′ l₃ (advanced (r .reader))) (and-then ! (load ! (from ! (stop !)) (look ! 7 refl)) (no-more !)) (λ u″.
         use2 W (later (some (λ (n : Numbered). given (Known (advanced (r .reader)) u″ n) (‵ (Lies l₃ (advanced (advanced (r .reader)))) ⊛ Tok)))) (gives-back a′ γ′ l₃ (advanced (r .reader)) u″) $ await ! tt $ pick ! (λ n′. learn ! (λ k′. split ! $
         land ! (from ! (stop !)) (init ! 13 refl (LL.lawful N.the-type N′.the-laws 𝓤 H A W .typed n′ _ (k′ .1) .0)) $ rewrite ! 13 (λ (w : Val). ‵ (fat fullShare N′.mir l₅ 0 w)) (ap only (spelled-n n′ u″ (k′ .1))) refl $

@@ -4,7 +4,7 @@ use mathlib.Core.Path.{_≡_}
 use native.Mathlib.Omega.{arith}
 use borrow.Author.Needs.{needs}
 use lib.ListN.{length-set}
-use Rattle.plane.specs.Arrays.{at, table}
+use Rattle.plane.specs.Arrays.{at, array}
 use Rattle.plane.proofs.Bounds.{element-small, element-four}
 use Rattle.mover.proofs.Bytes.{copied-two, copied-three, copied-four}
 use Rattle.mover.proofs.elements.pad.Statement.{statement}
@@ -37,14 +37,14 @@ pad-spec =
     (λ c. omega (arith, c .before .pre .1, two c, c .before .good))
     (λ c. rw length-set (omega (arith, c .before .pre .1, two c)))
     (λ c. search needs)
-    (λ c. let a = c .before .before .args in rw (c .if2 .taken) (copied-two (a .dst .now) (table (at (a .t4))) 0 (a .to) (omega arith)))
+    (λ c. let a = c .before .before .args in rw (c .if2 .taken) (copied-two (a .dst .now) (array (at (a .t4))) 0 (a .to) (omega arith)))
     (λ c. search needs)
     (λ c. omega (arith, c .before .before .pre .1, three c, c .before .before .good))
     (λ c. simp length-set (omega (arith, c .before .before .pre .1, three c)))
     (λ c. search needs)
-    (λ c. let a = c .before .before .before .args in rw (c .if3 .taken) (copied-three (a .dst .now) (table (at (a .t4))) 0 (a .to) (omega arith)))
+    (λ c. let a = c .before .before .before .args in rw (c .if3 .taken) (copied-three (a .dst .now) (array (at (a .t4))) 0 (a .to) (omega arith)))
     (λ c. search needs)
     (λ c. omega (arith, c .before .before .before .pre .1, four c, c .before .before .before .good))
     (λ c. simp length-set (omega (arith, c .before .before .before .pre .1, four c)))
     (λ c. search needs)
-    (λ c. let a = c .before .before .before .args in rw (four c) (copied-four (a .dst .now) (table (at (a .t4))) 0 (a .to) (omega arith))))
+    (λ c. let a = c .before .before .before .args in rw (four c) (copied-four (a .dst .now) (array (at (a .t4))) 0 (a .to) (omega arith))))

@@ -43,20 +43,20 @@ at3 c =
     (λ w. fold-not f (w .1) (w .2) (w .3) (w .4))
     (c .if3 .came)
 
-joined-requires : tie.Need-joined-requires
-joined-requires c κs =
+as-one-requires : tie.Need-as-one-requires
+as-one-requires c κs =
     let s = c .before .before .before .before .before .before in
     let w = fits-first (s .pre) (folds-same (s .pre .axes)) in
     (w .extent, w .rest)
 
-joined-requires-2 : tie.Need-joined-requires-2
-joined-requires-2 c κs =
+as-one-requires-2 : tie.Need-as-one-requires-2
+as-one-requires-2 c κs =
     let j = c .before .before in
     let w = fits-middle (start1 j .pre) (at1 j) in
     (w .extent, w .rest)
 
-joined-requires-3 : tie.Need-joined-requires-3
-joined-requires-3 c κs =
+as-one-requires-3 : tie.Need-as-one-requires-3
+as-one-requires-3 c κs =
     let j = c .before .before in
     let w = fits-last (start2 j .pre) (at2 j) in
     (w .extent, w .rest)
@@ -66,12 +66,12 @@ folded-spec =
     tie.close
     (tie.spec
     (λ c κs. axis-some (c .before .before .before .before .pre .axes .in1))
-    joined-requires
+    as-one-requires
     (λ c κs. search needs)
     (λ c κs. axis-some (at1 c .axes .in2))
-    joined-requires-2
+    as-one-requires-2
     (λ c κs. search needs)
     (λ c κs. axis-some (at2 c .axes .in3))
-    joined-requires-3
+    as-one-requires-3
     (λ c κs. search needs)
     (λ c. at3 (c .before)))

@@ -245,7 +245,7 @@ loop2-again-2 c =
     let l = counted-of (e .before) in
     let i = l .before .before .before in
     let j = going-of i in
-    let w : begun2 j .args .plan .d3 .extent ≤ j .loop2 .c3 + l .least .result = omega (arith, cut l .whole (pos-of-ne-zero (e .if7 .left))) in (
+    let w : begun2 j .args .plan .d3 .extent ≤ j .loop2 .c3 + l .least .result = omega (arith, cut l .full (pos-of-ne-zero (e .if7 .left))) in (
       λ d₀ a. next-row (turned (e .before) d₀ (j .loop2 .inv .0 d₀ a)) (within i .in1) (within i .in2) w (c .next-row .ensures),
       λ _. axis-some (ready j .axes .in3),
     )

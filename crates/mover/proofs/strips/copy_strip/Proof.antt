@@ -7,7 +7,7 @@ use borrow.Author.Needs.{needs}
 use lib.ListN.{length}
 use Rattle.mover.specs.declared.strips.Step.{Step}
 use Rattle.mover.specs.Private.Adding.{along}
-use Rattle.mover.specs.Private.Patches.{patchCopied, swappedOf, stepOf, tileColumns, PatchFits, PatchReads}
+use Rattle.mover.specs.Private.Patches.{patchCopied, swappedOf, tileStep, tileColumns, PatchFits, PatchReads}
 use Rattle.mover.proofs.Crossing.{length-rows}
 use Rattle.mover.proofs.Patched.{Rowed, someRows, rows-start, rows-length, rows-more, rows-end, some-fit, some-read, swap-fits, swap-reads, swap-copied}
 use Rattle.mover.proofs.Stepping.{someColumns, tile-some, tiled-part, tile-part, tile-home, tile-place}
@@ -27,7 +27,7 @@ AtLoop = tie.At-loop Inv-loop μ-loop
 abbrev begun : AtLoop → tie.Start Inv-loop μ-loop
 begun l = l .before .before .before .before
 
-step-is : (l : AtLoop) → l .before .step-of .result ≡ stepOf (begun l .args .tile) (begun l .args .p)
+step-is : (l : AtLoop) → l .before .step-of .result ≡ tileStep (begun l .args .tile) (begun l .args .p)
 step-is l = l .before .step-of .ensures
 
 columns-is : (l : AtLoop) → l .before .step-of .result .columns ≡ tileColumns (begun l .args .tile) (begun l .args .p)

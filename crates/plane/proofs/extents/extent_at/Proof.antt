@@ -8,7 +8,7 @@ returns : tie.Need-returns
 unfolding extent count
 returns c =
     let k = c .before .before in
-    rw (c .padded .ensures, k .kept .ensures .0, k .before .before .before .taken .ensures)
+    rw (c .padded .ensures, k .kept-count .ensures .0, k .before .before .before .taken .ensures)
 
 pub extent-at-spec : {M : Type 1} → statement M
 extent-at-spec =

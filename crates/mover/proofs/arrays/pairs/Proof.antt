@@ -3,8 +3,8 @@ use mathlib.Core.Path.{_≡_, refl}
 use Prim.Native.Nat.{_+_, _*_, _-_}
 use native.Mathlib.Omega.{arith}
 use Rattle.mover.proofs.Filling.{Filled, fill-start, fill-more, fill-done, pairAt}
-use Rattle.mover.proofs.leaves.pairs.Statement.{statement}
-use Rattle.mover.proofs.leaves.pairs.Tie as tie
+use Rattle.mover.proofs.arrays.pairs.Statement.{statement}
+use Rattle.mover.proofs.arrays.pairs.Tie as tie
 
 abbrev Inv-loop : tie.InvT-loop
 Inv-loop src from a₀ at₀ k₀ a at k = Filled 16 (pairAt src from) a k × (at ≡ from + 2 * k)

@@ -2,8 +2,8 @@
 use mathlib.Core.Path.{_∙_}
 use borrow.Author.Needs.{needs}
 use Rattle.mover.proofs.Blocking.{block-read}
-use Rattle.mover.proofs.leaves.read_block.Statement.{statement}
-use Rattle.mover.proofs.leaves.read_block.Tie as tie
+use Rattle.mover.proofs.arrays.read_block.Statement.{statement}
+use Rattle.mover.proofs.arrays.read_block.Tie as tie
 
 returns : tie.Need-returns
 returns c =

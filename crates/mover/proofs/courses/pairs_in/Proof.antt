@@ -1,11 +1,11 @@
--- `mover::courses::pairs` tries all, and all but one. Assumes nothing.
+-- `mover::courses::pairs_in` tries all, and all but one. Assumes nothing.
 use native.Mathlib.Omega.{arith}
 use borrow.Author.Needs.{needs}
-use Rattle.mover.proofs.courses.pairs.Statement.{statement}
-use Rattle.mover.proofs.courses.pairs.Tie as tie
+use Rattle.mover.proofs.courses.pairs_in.Statement.{statement}
+use Rattle.mover.proofs.courses.pairs_in.Tie as tie
 
-pub pairs-spec : {M : Type 1} → statement M
-pairs-spec =
+pub pairs-in-spec : {M : Type 1} → statement M
+pairs-in-spec =
     tie.close
     (tie.spec
     (λ c κs. search needs)

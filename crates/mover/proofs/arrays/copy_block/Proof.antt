@@ -5,8 +5,8 @@ use native.Mathlib.Omega.{arith}
 use lib.ListN.{length, take, drop}
 use lib.Seq.{sets, length-sets}
 use Rattle.mover.proofs.Bytes.{copy-more}
-use Rattle.mover.proofs.leaves.copy_block.Statement.{statement}
-use Rattle.mover.proofs.leaves.copy_block.Tie as tie
+use Rattle.mover.proofs.arrays.copy_block.Statement.{statement}
+use Rattle.mover.proofs.arrays.copy_block.Tie as tie
 
 abbrev Inv-loop : tie.InvT-loop
 Inv-loop src at dst₀ to n i₀ dst i = (i ≤ n) × (dst ≡ sets dst₀ to (take i (drop at src)))

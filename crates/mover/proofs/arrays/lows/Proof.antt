@@ -4,8 +4,8 @@ use Prim.Native.Nat.{_-_, _%_}
 use native.Mathlib.Omega.{arith}
 use lib.ListN.{getD}
 use Rattle.mover.proofs.Filling.{Filled, fill-start, fill-more, fill-done}
-use Rattle.mover.proofs.leaves.lows.Statement.{statement}
-use Rattle.mover.proofs.leaves.lows.Tie as tie
+use Rattle.mover.proofs.arrays.lows.Statement.{statement}
+use Rattle.mover.proofs.arrays.lows.Tie as tie
 
 abbrev Inv-loop : tie.InvT-loop
 Inv-loop a o₀ k₀ o k = Filled 16 (λ j. getD a j 0 % 256) o k

@@ -2,8 +2,8 @@
 use native.Mathlib.Omega.{arith}
 use borrow.Author.Needs.{needs}
 use Rattle.mover.proofs.Blocking.{block-all}
-use Rattle.mover.proofs.leaves.write_block.Statement.{statement}
-use Rattle.mover.proofs.leaves.write_block.Tie as tie
+use Rattle.mover.proofs.arrays.write_block.Statement.{statement}
+use Rattle.mover.proofs.arrays.write_block.Tie as tie
 
 returns : tie.Need-returns
 returns c =

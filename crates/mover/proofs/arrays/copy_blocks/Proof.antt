@@ -8,8 +8,8 @@ use Rattle.mover.specs.Private.Adding.{along}
 use Rattle.mover.specs.Private.Runs.{keptBytes}
 use Rattle.mover.proofs.Adding.{along-none, along-next}
 use Rattle.mover.proofs.Runs.{Done, done-start, done-length, done-next, done-end}
-use Rattle.mover.proofs.leaves.copy_blocks.Statement.{statement}
-use Rattle.mover.proofs.leaves.copy_blocks.Tie as tie
+use Rattle.mover.proofs.arrays.copy_blocks.Statement.{statement}
+use Rattle.mover.proofs.arrays.copy_blocks.Tie as tie
 
 abbrev Inv-loop : tie.InvT-loop
 Inv-loop src dst₀ c at₀ to₀ k₀ dst at to k = Done (keptBytes src c) (c .to) (c .stride) (c .n) dst₀ dst to k × (at ≡ along (c .at) (c .jump) k)

@@ -1,8 +1,8 @@
 -- `mover::leaves::read_evens`: the low bytes of pairs. Assumes nothing.
 use borrow.Author.Needs.{needs}
 use Rattle.mover.proofs.Filling.{evens-made}
-use Rattle.mover.proofs.leaves.read_evens.Statement.{statement}
-use Rattle.mover.proofs.leaves.read_evens.Tie as tie
+use Rattle.mover.proofs.arrays.read_evens.Statement.{statement}
+use Rattle.mover.proofs.arrays.read_evens.Tie as tie
 
 returns : tie.Need-returns
 returns c =
