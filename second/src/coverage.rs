@@ -1,23 +1,11 @@
-//! What a long comparison has to meet: each call with everything that it can give and with arguments of a wrong length,
-//! each state of a slot in each call that takes a table, each case of an element size, of a count, of a destination
-//! offset, of a list, of elements that are moved, of a fill and of a record, each way of a move, each two numbers for one
-//! call, each reason for which a line is no call, and each case of `rmvshow` and `rmvlist`.
+//! Counts what a comparison meets and tells what it did not: each call with everything that it can give, with arguments
+//! of a wrong length, with each state of a slot if it takes a table, and with each of its cases (`cases/`); each reason
+//! for which a line is no call; and each case of `rmvshow` and `rmvlist`.
 
 use crate::calls::{Call, Calls, Gives};
-use crate::count_cases;
-use crate::fill_cases;
+use crate::cases::{self, list_shows, shows};
 use crate::lines::{unhex, NO_CALL, NO_DIGITS, NO_NEWLINE, TOO_LONG, WRONG_LENGTH};
-use crate::list_cases;
-use crate::offset_cases;
-use crate::record_cases;
-use crate::refusal_cases;
-use crate::show;
-use crate::show_list;
-use crate::size_cases;
-use crate::stretch_cases;
 use crate::transfers::{DONE, FREE, PREPARED, RUNNING};
-use crate::way_cases;
-use crate::wire::begin;
 
 /// The reasons behind `ff`; ff04 is counted with the call that the line names.
 const REASONS: [&str; 6] = [
@@ -51,11 +39,11 @@ impl Coverage {
     pub fn new(calls: &Calls) -> Coverage {
         let mut coverage = Coverage { groups: Vec::new(), unlisted: Vec::new() };
         for call in &calls.0 {
-            coverage.add(&name(call), cases(calls, call));
+            coverage.add(&name(call), all_cases(calls, call));
         }
         coverage.add("no call", REASONS.map(String::from).to_vec());
-        coverage.add("rmvshow", show::cases());
-        coverage.add("rmvlist", show_list::cases());
+        coverage.add("rmvshow", shows::cases());
+        coverage.add("rmvlist", list_shows::cases());
         coverage
     }
 
@@ -82,9 +70,9 @@ impl Coverage {
                 for place in call.state_places() {
                     self.meet(&name(call), state(byte_at(line, 1 + place)));
                 }
-                if !cases_told_apart(call).is_empty() {
+                if !cases::cases(call.number).is_empty() {
                     let bytes = unhex(line).expect("it is a call");
-                    for case in cases_met(&bytes, expected) {
+                    for case in cases::met(&bytes, expected) {
                         self.meet(&name(call), &case);
                     }
                 }
@@ -96,14 +84,14 @@ impl Coverage {
     /// Counts a run of `rmvshow` by what it is given and has to print: `status N dim D` comes first.
     pub fn show(&mut self, input: &[u8], expected: &str) {
         let number = expected.split(' ').nth(1).and_then(|number| number.parse().ok());
-        for case in show::met(input, number.unwrap_or(u8::MAX)) {
+        for case in shows::met(input, number.unwrap_or(u8::MAX)) {
             self.meet("rmvshow", &case);
         }
     }
 
     /// Counts a run of `rmvlist` by what it is given and has to print.
     pub fn list(&mut self, input: &[u8], expected: &str) {
-        for case in show_list::met(input, expected) {
+        for case in list_shows::met(input, expected) {
             self.meet("rmvlist", &case);
         }
     }
@@ -148,7 +136,7 @@ fn name(call: &Call) -> String {
 }
 
 /// All cases of a call.
-fn cases(calls: &Calls, call: &Call) -> Vec<String> {
+fn all_cases(calls: &Calls, call: &Call) -> Vec<String> {
     let mut cases = can_give(calls, call);
     if !call.takes_any_length() {
         cases.push(LENGTH.to_string());
@@ -156,67 +144,8 @@ fn cases(calls: &Calls, call: &Call) -> Vec<String> {
     if !call.state_places().is_empty() {
         cases.extend(STATES.map(String::from));
     }
-    cases.extend(cases_told_apart(call));
+    cases.extend(cases::cases(call.number));
     cases
-}
-
-/// What the numbers alone do not tell apart.
-fn cases_told_apart(call: &Call) -> Vec<String> {
-    let cases = [
-        size_cases::cases,
-        count_cases::cases,
-        offset_cases::cases,
-        list_cases::cases,
-        stretch_cases::cases,
-        fill_cases::cases,
-        record_cases::cases,
-        refusal_cases::cases,
-        way_cases::cases,
-    ];
-    cases.iter().flat_map(|cases| cases(call.number)).collect()
-}
-
-/// Those of them that a call with these bytes is.
-fn cases_met(bytes: &[u8], expected: &[u8]) -> Vec<String> {
-    let met = [
-        size_cases::met,
-        count_cases::met,
-        offset_cases::met,
-        list_cases::met,
-        stretch_cases::met,
-        fill_cases::met,
-        record_cases::met,
-        refusal_cases::met,
-        way_cases::met,
-    ];
-    met.iter().flat_map(|met| met(bytes, expected)).collect()
-}
-
-/// Whether a case holds, and its name.
-pub type Case<S = String> = (bool, S);
-
-/// A case whose name is typed in.
-pub fn case(holds: bool, name: &str) -> Case {
-    (holds, name.to_string())
-}
-
-/// What is counted, if it holds.
-pub fn holding<S: ToString>(all: &[Case<S>]) -> Vec<String> {
-    all.iter().filter(|(holds, _)| *holds).map(|(_, case)| case.to_string()).collect()
-}
-
-/// What is counted of a call with these bytes, by what it has to be answered. `all` has the cases of a call of this
-/// number, with these arguments and this status.
-pub fn met_by_status(all: fn(u8, &[u8], u8) -> Vec<Case>, bytes: &[u8], expected: &[u8]) -> Vec<String> {
-    match (bytes, expected) {
-        ([number, arguments @ ..], [_, answer @ ..]) => holding(&all(*number, arguments, begin(answer))),
-        _ => Vec::new(),
-    }
-}
-
-/// What can be counted, whether it holds or not.
-pub fn named<S: ToString>(all: &[Case<S>]) -> Vec<String> {
-    all.iter().map(|(_, case)| case.to_string()).collect()
 }
 
 /// The list of a call.

@@ -4,36 +4,26 @@
 #![allow(clippy::needless_range_loop)]
 
 mod calls;
+mod cases;
 mod compare;
-mod count_cases;
 mod coverage;
-mod fill_cases;
 mod generate;
 mod helpers;
 mod job;
 mod lines;
 mod list;
-mod list_cases;
 mod moves;
-mod offset_cases;
-mod pieces;
 mod plain;
 mod random;
 mod ready_made;
 mod record;
-mod record_cases;
-mod refusal_cases;
 mod report;
 mod show;
 mod show_list;
-mod size_cases;
-mod stretch_cases;
 mod tensor;
 #[cfg(test)]
 mod tests;
 mod transfers;
-mod way_cases;
-mod ways;
 mod wire;
 
 use std::io::{Read, Write};

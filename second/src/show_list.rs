@@ -1,33 +1,14 @@
 //! What the program `rmvlist` prints.
 
-use crate::list::{list_fault, record_bytes, record_count, ListReader, Numbered};
+use crate::list::{list_fault, record_count, ListReader, Numbered};
 use crate::moves::room;
-use crate::record::{version_in, VERSION_WITH_FILL};
-use crate::tensor::ELEMENT_SIZES;
-use std::fmt::{Display, Write};
+use std::fmt::Write;
 
 /// "a list of up to 1,000 records, 131,007 bytes"
 pub const INPUT_LIMIT: usize = 131_007;
 
 /// "An input that is longer than 131,007 bytes gets one line, whatever it holds"
-const LONGER: &str = "input longer than 131007 bytes, which are 1000 records\n";
-
-/// The numbers that it can tell of a list.
-const LIST: &[u8] = &[0, 25, 26, 27, 30];
-/// Of a record: those of a record read, but for 25, since it always has its 131 bytes, and for 2, which only version 2
-/// gives.
-const RECORD: &[u8] = &[0, 26, 27, 1, 28];
-/// Of a room question: 1 was given when the record was read.
-const ROOM: &[u8] = &[0, 2, 3, 4, 6, 7, 8, 9, 10, 11, 12];
-
-/// 27 for a record whose 131 bytes are those of version 2.
-const VERSION_2: &str = "record of version 2";
-
-/// The longest inputs, and those that are just longer.
-const LONGEST_LIST: &str = "1000 records";
-const LONGEST_INPUT: &str = "131007 bytes that are no list";
-const LONGER_LIST: &str = "1001 records";
-const BYTE_MORE: &str = "131008 bytes";
+pub const LONGER: &str = "input longer than 131007 bytes, which are 1000 records\n";
 
 /// The output for these bytes of standard input.
 pub fn show_list(input: &[u8]) -> String {
@@ -67,55 +48,4 @@ fn line(numbered: &Numbered) -> String {
         }
     }
     out + "\n"
-}
-
-/// All numbers that it can tell, and of a record and a room question what they do not tell.
-pub fn numbers() -> Vec<String> {
-    let mut cases = vec![VERSION_2.to_string()];
-    for (of, numbers) in [("list", LIST), ("record", RECORD), ("room", ROOM)] {
-        cases.extend(numbers.iter().map(|number| format!("{of} {number}")));
-    }
-    cases.extend(ELEMENT_SIZES.map(room_for));
-    cases
-}
-
-/// A room question that is answered with span and need.
-fn room_for(size: impl Display) -> String {
-    format!("room for {size}-byte elements")
-}
-
-/// All that a long comparison has to meet.
-pub fn cases() -> Vec<String> {
-    let longest = [LONGEST_LIST, LONGEST_INPUT, LONGER_LIST, BYTE_MORE].map(String::from);
-    [numbers(), longest.to_vec()].concat()
-}
-
-/// The cases that an input is, by what has to be printed for it.
-pub fn met(input: &[u8], expected: &str) -> Vec<String> {
-    if expected == LONGER {
-        let case = if input.len() == INPUT_LIMIT + 1 { BYTE_MORE } else { LONGER_LIST };
-        return vec![case.to_string()];
-    }
-    let mut met = Vec::new();
-    for line in expected.lines() {
-        let words: Vec<&str> = line.split(' ').collect();
-        match words[..] {
-            ["status", number, ..] => met.push(format!("list {number}")),
-            ["record", _, "status", number, ..] => met.push(format!("record {number}")),
-            _ => met.push(line.to_string()),
-        }
-        let behind = |name: &str| words.iter().position(|&word| word == name).map(|place| words[place + 1]);
-        if let (Some(size), Some(room)) = (behind("element"), behind("room")) {
-            met.push(format!("room {room}"));
-            met.extend((room == "0").then(|| room_for(size)));
-        }
-    }
-    if (0..record_count(input)).any(|k| version_in(record_bytes(input, k)) == Some(VERSION_WITH_FILL)) {
-        met.push(VERSION_2.to_string());
-    }
-    if input.len() == INPUT_LIMIT {
-        let case = if list_fault(input) == 0 { LONGEST_LIST } else { LONGEST_INPUT };
-        met.push(case.to_string());
-    }
-    met
 }

@@ -4,10 +4,10 @@
 use super::planes::{good, Scale};
 use super::records::clear_tail;
 use super::Work;
+use crate::cases::input::BESIDE;
 use crate::moves::Config;
 use crate::random::Random;
 use crate::record::{at, length_for, pack_as, LENGTH, LENGTH_WITH_FILL, VERSION, VERSION_WITH_FILL};
-use crate::size_cases::BESIDE;
 use crate::tensor::{Tensor, ELEMENT_SIZES};
 use crate::wire::{Memory, Rest};
 

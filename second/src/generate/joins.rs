@@ -2,8 +2,8 @@
 
 use super::planes::{draw_destination_strides, good, Scale};
 use super::{Work, MOVE};
+use crate::cases::offsets::without_offsets;
 use crate::moves::{move_plane, room};
-use crate::offset_cases::without_offsets;
 use crate::tensor::wide;
 use crate::wire::{Counted, Memory};
 

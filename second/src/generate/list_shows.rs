@@ -1,8 +1,9 @@
 //! Inputs of `rmvlist`: lists of records, spoiled or not.
 
 use super::lists::{draw_list, draw_two_lists, spoil_list};
+use crate::cases::list_shows::{met, numbers};
 use crate::random::Random;
-use crate::show_list::{met, numbers, show_list};
+use crate::show_list::show_list;
 
 /// The inputs to list, one process each.
 pub fn list_inputs(count: usize, seed: u64) -> Vec<Vec<u8>> {

@@ -1,8 +1,8 @@
 //! Puts a destination offset at a bound into a move, with the row around it.
 
 use super::planes::Drawn;
+use crate::cases::offsets::without_offsets;
 use crate::moves::Config;
-use crate::offset_cases::without_offsets;
 use crate::random::Random;
 use crate::tensor::{wide, EXTENT_LIMIT};
 

@@ -4,10 +4,11 @@ use super::planes::{good, Drawn, Scale};
 use super::records::{clear_tail, clear_unused, record_of, set};
 use super::spoil::{vary, Lent};
 use super::values::{any_fill, any_u8};
+use crate::cases::shows::{cases, met};
 use crate::random::Random;
 use crate::ready_made::copy;
 use crate::record::{at, length_in, pack, LENGTH, LENGTH_WITH_FILL};
-use crate::show::{cases, met, number, ROOM, SOURCE_LIMIT};
+use crate::show::{number, ROOM, SOURCE_LIMIT};
 use crate::tensor::{Tensor, ELEMENT_SIZES};
 
 /// The inputs to show, one process each.

@@ -3,7 +3,7 @@
 use super::offsets::{put_offset, Bound};
 use super::planes::Drawn;
 use super::values::{any_u32, any_u64, any_u8, around, WRONG_RANKS, WRONG_SIZES};
-use crate::offset_cases::without_offsets;
+use crate::cases::offsets::without_offsets;
 use crate::random::Random;
 use crate::tensor::{check_tensor, inner_product, wide, EXTENT_LIMIT, LIMIT};
 

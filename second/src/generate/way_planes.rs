@@ -2,11 +2,11 @@
 
 use super::planes::Drawn;
 use super::values::telling_fill;
+use crate::cases::way::Way;
 use crate::moves::{room, Config, Room};
 use crate::random::Random;
 use crate::ready_made::copy;
 use crate::tensor::{source_of, Tensor, ELEMENT_SIZES};
-use crate::ways::Way;
 
 /// A plane with a source of at most so many bytes may become a layer among others.
 const LAYER_LIMIT: u64 = 1_600;

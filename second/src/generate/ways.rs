@@ -5,13 +5,13 @@ use super::moving::move_drawn;
 use super::planes::Drawn;
 use super::way_planes::draw_way;
 use super::{Work, ADVANCE, MOVE};
+use crate::cases::piece::Piece;
+use crate::cases::way::{Way, WAYS};
+use crate::cases::ways::{cases_of_way, met_by_piece};
 use crate::job::Job;
 use crate::moves::room;
-use crate::pieces::Piece;
 use crate::random::Random;
 use crate::transfers::{fresh, Slot, RUNNING};
-use crate::way_cases::{cases_of_way, met_by_piece};
-use crate::ways::{Way, WAYS};
 use crate::wire::Memory;
 
 const STEP: u8 = 0x43;

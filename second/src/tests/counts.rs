@@ -2,7 +2,7 @@
 
 use super::plane;
 use crate::calls::Calls;
-use crate::count_cases::{cases, met};
+use crate::cases::counts::{cases, met};
 use crate::helpers::{element_count, Count};
 use crate::tensor::Tensor;
 use crate::wire::bytes_of;

@@ -2,11 +2,10 @@
 
 use super::{default, plane};
 use crate::calls::{Calls, Gives};
+use crate::cases::{lists, offsets};
 use crate::coverage::Coverage;
 use crate::generate;
 use crate::lines::answers;
-use crate::list_cases;
-use crate::offset_cases;
 use crate::report::ENOUGH;
 use crate::show::show;
 use crate::show_list::show_list;
@@ -158,7 +157,7 @@ fn cases_of_destination_offsets_are_told_apart() {
         let config = config.with_dst_offset([offset[0], offset[1], 0, 0]);
         let line = [vec![0x03], bytes_of(&(tensor, config, 4u64, room))].concat();
         let answer = (Calls::all().find(0x03).unwrap().answer)(&line[1..]).unwrap();
-        offset_cases::met(&line, &answer).join("; ")
+        offsets::met(&line, &answer).join("; ")
     };
     assert_eq!(met([0, 0], [0, 0], 4), "");
     assert_eq!(met([4, 1], [0, 2], 8), "row full at 1; inner offset; wider stride");
@@ -175,7 +174,7 @@ fn cases_of_destination_offsets_are_told_apart() {
 /// The cases of a call with these bytes.
 fn list_met(line: &[u8]) -> String {
     let answer = (Calls::all().find(line[0]).unwrap().answer)(&line[1..]).unwrap();
-    list_cases::met(line, &answer).join("; ")
+    lists::met(line, &answer).join("; ")
 }
 
 #[test]

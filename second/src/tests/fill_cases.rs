@@ -1,7 +1,7 @@
 //! Which case a fill is, worked out by hand.
 
 use super::{cases_of_call, default, four, plane};
-use crate::fill_cases::{cases, met};
+use crate::cases::fills::{cases, met};
 use crate::job::{Job, Part};
 use crate::moves::Config;
 use crate::tensor::Tensor;

@@ -22,6 +22,7 @@ mod versions;
 mod ways;
 
 use crate::calls::Calls;
+use crate::cases::Topic;
 use crate::moves::{move_plane, Answer, Config};
 use crate::ready_made::copy;
 use crate::tensor::Tensor;
@@ -56,11 +57,8 @@ pub fn moved(tensor: &Tensor, config: &Config, source: &[u8]) -> Vec<u8> {
     destination
 }
 
-/// All cases of a call by its number, and those that a call is by its bytes and its answer.
-pub type Cases = (fn(u8) -> Vec<String>, fn(&[u8], &[u8]) -> Vec<String>);
-
 /// The cases that a call with these arguments is.
-pub fn cases_of_call((cases, met): Cases, number: u8, arguments: Vec<u8>) -> String {
+pub fn cases_of_call((cases, met): Topic, number: u8, arguments: Vec<u8>) -> String {
     let answer = (Calls::all().find(number).unwrap().answer)(&arguments).unwrap();
     let met = met(&[vec![number], arguments].concat(), &answer);
     assert!(met.iter().all(|case| cases(number).contains(case)));

@@ -3,14 +3,16 @@
 
 use super::{count_up, default, four, plane, refused};
 use crate::calls::Calls;
+use crate::cases::{fills, offsets, sizes, stretches};
 use crate::coverage::Coverage;
-use crate::generate::{self, ADVANCE, MOVE};
+use crate::generate;
+use crate::generate::{ADVANCE, MOVE};
 use crate::job::{self, Advanced, Job, Part};
 use crate::lines::{answers, hex, unhex};
 use crate::moves::{Answer, Config};
+use crate::plain;
 use crate::tensor::Tensor;
 use crate::wire::{bytes_of, whole, Counted, Memory, Wire, MEMORY_LIMIT};
-use crate::{fill_cases, offset_cases, plain, size_cases, stretch_cases};
 
 /// What a call answers, behind its own number.
 fn answer<R: Wire>(number: u8, arguments: Vec<u8>) -> R {
@@ -189,7 +191,7 @@ fn wrong_lengths() {
 /// All cases that a call with these arguments is.
 fn cases_met(number: u8, arguments: &[u8], answer: &[u8]) -> Vec<String> {
     let bytes = [&[number], arguments].concat();
-    let met = [size_cases::met, offset_cases::met, stretch_cases::met, fill_cases::met];
+    let met = [sizes::met, offsets::met, stretches::met, fills::met];
     met.iter().flat_map(|met| met(&bytes, answer)).collect()
 }
 

@@ -2,10 +2,11 @@
 
 use super::cases_of_call;
 use super::fill_cases::padded;
+use crate::cases::records::{cases, met};
+use crate::cases::shows::met as show_met;
 use crate::moves::Config;
 use crate::record::{pack_as, LENGTH, LENGTH_WITH_FILL};
-use crate::record_cases::{cases, met};
-use crate::show::{met as show_met, number};
+use crate::show::number;
 use crate::wire::{bytes_of, Memory, Rest};
 
 fn of_call(number: u8, arguments: Vec<u8>) -> String {

@@ -1,9 +1,9 @@
 //! Which refusals are told apart, worked out by hand.
 
 use super::{cases_of_call, default, four, plane};
+use crate::cases::refusals::{cases, met};
 use crate::helpers::SubConfig;
 use crate::job::{Job, Part};
-use crate::refusal_cases::{cases, met};
 use crate::transfers::{fresh, Slot, Table, PREPARED};
 use crate::wire::{bytes_of, Counted, Memory, Rest};
 

@@ -1,10 +1,10 @@
 //! Which case an element size is, worked out by hand.
 
 use super::{cases_of_call, default, four, plane};
+use crate::cases::list_shows::met as list_met;
+use crate::cases::sizes::{cases, met};
 use crate::helpers::SubConfig;
 use crate::job::{Job, Part};
-use crate::show_list::met as list_met;
-use crate::size_cases::{cases, met};
 use crate::tensor::Tensor;
 use crate::transfers::{fresh, prepare, start, Table};
 use crate::wire::{bytes_of, Counted, Memory, Rest};

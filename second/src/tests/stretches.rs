@@ -2,9 +2,9 @@
 
 use super::{default, four, plane};
 use crate::calls::Calls;
+use crate::cases::stretches::{cases, met};
 use crate::job::{Job, Part};
 use crate::moves::{room, Config};
-use crate::stretch_cases::{cases, met};
 use crate::tensor::Tensor;
 use crate::transfers::{fresh, prepare, start};
 use crate::wire::{bytes_of, Counted, Memory};

@@ -1,11 +1,11 @@
 //! Which way a move is made, and which case of it, worked out by hand.
 
 use super::{cases_of_call, default, four, plane};
+use crate::cases::ways::{cases, met};
 use crate::job::{Job, Part};
 use crate::moves::{room, Config};
 use crate::tensor::Tensor;
 use crate::transfers::{fresh, Slot, RUNNING};
-use crate::way_cases::{cases, met};
 use crate::wire::{bytes_of, Counted, Memory};
 
 fn of_call(number: u8, arguments: Vec<u8>) -> String {

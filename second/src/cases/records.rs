@@ -1,23 +1,17 @@
 //! The cases of records of both versions, and of their fields and lengths by themselves. Numbers alone do not tell them
 //! apart, and a long comparison has to meet each.
 
-use crate::coverage::{case, holding, named, Case};
+use super::case::{case, holding, named, Case};
+use super::input::{used_bytes_are_0, BESIDE};
+use super::number::{FIELDS_FAULT, LENGTH_FOR, LENGTH_IN, READ, RECORD_AT, WRITE};
 use crate::list::{record_bytes, record_count};
 use crate::moves::Config;
 use crate::record::{
     fields_fault, has_entry, has_unused_byte, unpack, version_for, version_in, LENGTH, LENGTH_WITH_FILL, MARK, VERSION,
     VERSION_WITH_FILL,
 };
-use crate::size_cases::BESIDE;
 use crate::tensor::{check_element_size, check_rank, Tensor, ELEMENT_SIZES};
 use crate::wire::{begin, Memory, Rest};
-
-const READ: u8 = 0x30;
-const WRITE: u8 = 0x31;
-const RECORD_AT: u8 = 0x34;
-const LENGTH_IN: u8 = 0x39;
-const LENGTH_FOR: u8 = 0x3a;
-const FIELDS_FAULT: u8 = 0x3b;
 
 /// All cases of the call of this number.
 pub fn cases(number: u8) -> Vec<String> {
@@ -210,11 +204,6 @@ fn of_fill_0(fields: &Fields) -> Vec<Case> {
         all.push((holds, format!("version 2: 28 by fill 0, size {of}")));
     }
     all
-}
-
-/// Whether the bytes of the fill that go into an element are all 0.
-pub fn used_bytes_are_0(fill: u32, element_size: u8) -> bool {
-    fill.to_le_bytes().iter().take(element_size as usize).all(|&byte| byte == 0)
 }
 
 /// "135 if there are at least 5 and their version is 2, else 131", whatever the mark.

@@ -1,16 +1,12 @@
 //! The cases of lists of moves that a number alone does not tell apart. A long comparison has to meet each.
 
-use crate::coverage::holding;
+use super::case::holding;
+use super::number::{APPEND, FIRST_TWO, LIST_FAULT, RECORD_AT};
 use crate::list::{length_of, list_fault, record_at, record_count, HEAD};
 use crate::moves::Config;
 use crate::record::{self, has_entry};
 use crate::tensor::Tensor;
 use crate::wire::{whole, Memory, Rest};
-
-const LIST_FAULT: u8 = 0x32;
-const RECORD_AT: u8 = 0x34;
-const FIRST_TWO: u8 = 0x36;
-const APPEND: u8 = 0x38;
 
 /// Something to append, the buffer, and how many of its first bytes are said to be the list so far. A list that is only
 /// read is all of its bytes.

@@ -2,29 +2,17 @@
 //! call, so that the order shows. A long comparison has to meet each. Element sizes, counts, destination offsets, lists
 //! and records have such cases with their others.
 
-use crate::coverage::{case, met_by_status, named, Case};
+use super::case::{case, met_by_status, named, Case};
+use super::number::{
+    ADVANCE, JUDGE, JUDGE_JOB, MOVER_SUB_TENSOR, MOVE_PLANE, PLAIN_ADVANCE, PLAIN_MOVE, POLL, PREPARE, RELEASE, ROOM,
+    START, STEP, SUB_PART, SUB_TENSOR,
+};
 use crate::helpers::{sub_tensor, SubConfig};
 use crate::job::{break_rule, judge_job, meets, Job};
 use crate::moves::{judge, Config};
 use crate::tensor::Tensor;
 use crate::transfers::{sound, Table, FREE};
 use crate::wire::{begin, Rest};
-
-const ROOM: u8 = 0x02;
-const JUDGE: u8 = 0x03;
-const SUB_TENSOR: u8 = 0x06;
-const MOVE_PLANE: u8 = 0x20;
-const JUDGE_JOB: u8 = 0x21;
-const ADVANCE: u8 = 0x22;
-const SUB_PART: u8 = 0x24;
-const MOVER_SUB_TENSOR: u8 = 0x25;
-const PLAIN_MOVE: u8 = 0x26;
-const PLAIN_ADVANCE: u8 = 0x27;
-const PREPARE: u8 = 0x41;
-const START: u8 = 0x42;
-const STEP: u8 = 0x43;
-const RELEASE: u8 = 0x44;
-const POLL: u8 = 0x45;
 
 /// All cases of the call of this number.
 pub fn cases(number: u8) -> Vec<String> {

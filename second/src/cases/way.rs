@@ -2,10 +2,10 @@
 //! are told apart by how the elements of a row, the rows of a layer and the layers lie in source and destination, and how
 //! many there are. The shape is that of the whole move; how much of it has to be moved at once is said with each way.
 
-use crate::coverage::holding;
-use crate::fill_cases::all_differ;
+use super::case::holding;
+use super::input::all_differ;
+use super::piece::Piece;
 use crate::moves::total;
-use crate::pieces::Piece;
 use crate::tensor::ELEMENT_SIZES;
 
 /// So many bytes, elements or rows can be moved at once, and so many bytes of a long run; what is behind them is a tail.

@@ -1,11 +1,10 @@
 //! The cases of a count, which its number alone does not tell apart. A long comparison has to meet each.
 
-use crate::coverage::{holding, named, Case};
+use super::case::{holding, named, Case};
+use super::number::ELEMENT_COUNT;
 use crate::helpers::Count;
 use crate::tensor::{source_of, Tensor, EXTENT_LIMIT};
 use crate::wire::whole;
-
-const ELEMENT_COUNT: u8 = 0x05;
 
 /// Four shapes of 65,535, from the first on.
 const FOUR_LARGEST: u64 = 18_445_618_199_572_250_625;

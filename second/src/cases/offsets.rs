@@ -1,13 +1,10 @@
 //! The cases of a destination offset, which the number 12 alone does not tell apart. A long comparison has to meet each
 //! in a move that is judged and in one that is made, by either engine.
 
+use super::number::{JUDGE, MOVE_PLANE, PLAIN_MOVE};
 use crate::moves::{offset_too_large, room, runs_past_row, Answer, Config};
 use crate::tensor::{inner_product, wide, Tensor};
 use crate::wire::{whole, Counted, Memory};
-
-const JUDGE: u8 = 0x03;
-const MOVE_PLANE: u8 = 0x20;
-const PLAIN_MOVE: u8 = 0x26;
 
 const TOO_LARGE: &str = "12 too large at";
 const PAST: &str = "12 past the row at";

@@ -2,35 +2,19 @@
 //! are counted. Numbers of refusal alone do not tell them apart, and a long comparison has to meet each. Rows, padding
 //! and records of each size are with the other cases of theirs.
 
-use crate::coverage::{case, met_by_status, named, Case};
+use super::case::{case, met_by_status, named, Case};
+use super::input::BESIDE;
+use super::moved::moved;
+use super::number::{
+    ADVANCE, ELEMENT_SIZE, JUDGE, JUDGE_JOB, MOVER_SUB_TENSOR, MOVE_PLANE, PLAIN_ADVANCE, PLAIN_MOVE, POLL, PREPARE,
+    RELEASE, ROOM, SOURCE_OF, START, STEP, SUB_PART, SUB_TENSOR,
+};
 use crate::helpers::{sub_tensor, SubConfig};
 use crate::job::Job;
 use crate::moves::{room, Config};
-use crate::stretch_cases::moved;
 use crate::tensor::{check_shapes, source_of, Tensor, ELEMENT_SIZES};
 use crate::transfers::{sound, Table, FREE};
 use crate::wire::{begin, Counted, Memory, Rest};
-
-const SOURCE_OF: u8 = 0x01;
-const ROOM: u8 = 0x02;
-const JUDGE: u8 = 0x03;
-const ELEMENT_SIZE: u8 = 0x04;
-const SUB_TENSOR: u8 = 0x06;
-const MOVE_PLANE: u8 = 0x20;
-const JUDGE_JOB: u8 = 0x21;
-const ADVANCE: u8 = 0x22;
-const SUB_PART: u8 = 0x24;
-const MOVER_SUB_TENSOR: u8 = 0x25;
-const PLAIN_MOVE: u8 = 0x26;
-const PLAIN_ADVANCE: u8 = 0x27;
-const PREPARE: u8 = 0x41;
-const START: u8 = 0x42;
-const STEP: u8 = 0x43;
-const RELEASE: u8 = 0x44;
-const POLL: u8 = 0x45;
-
-/// The numbers just beside the element sizes, which 2 refuses.
-pub const BESIDE: [u8; 2] = [0, 5];
 
 /// All cases of the call of this number.
 pub fn cases(number: u8) -> Vec<String> {

@@ -1,34 +1,20 @@
-//! The cases of a fill, in moves, configurations, appends and tables; those of records are in `record_cases.rs`. Numbers
+//! The cases of a fill, in moves, configurations, appends and tables; those of records are in `records.rs`. Numbers
 //! alone do not tell them apart, and a long comparison has to meet each.
 
-use crate::coverage::{case, met_by_status, named, Case};
+use super::case::{case, met_by_status, named, Case};
+use super::input::{all_differ, used_bytes_are_0};
+use super::moved::{moved, Moved};
+use super::number::{
+    ADVANCE, ALL, APPEND, FIRST_SETTING, JUDGE, JUDGE_JOB, LAST_SETTING, MOVE_PLANE, PLAIN_ADVANCE, PLAIN_MOVE, POLL,
+    PREPARE, RELEASE, ROOM, START, STEP, WITH_FILL,
+};
 use crate::job::Job;
 use crate::list::list_fault;
 use crate::moves::{total, Config, Plan};
 use crate::record::has_unused_byte;
-use crate::record_cases::used_bytes_are_0;
-use crate::stretch_cases::{moved, Moved};
 use crate::tensor::{check_element_size, Tensor, ELEMENT_SIZES};
 use crate::transfers::{sound, Table, FREE};
 use crate::wire::{begin, Memory};
-
-const ROOM: u8 = 0x02;
-const JUDGE: u8 = 0x03;
-const WITH_FILL: u8 = 0x0b;
-const ALL: u8 = 0x17;
-const FIRST_SETTING: u8 = 0x18;
-const LAST_SETTING: u8 = 0x1f;
-const MOVE_PLANE: u8 = 0x20;
-const JUDGE_JOB: u8 = 0x21;
-const ADVANCE: u8 = 0x22;
-const PLAIN_MOVE: u8 = 0x26;
-const PLAIN_ADVANCE: u8 = 0x27;
-const APPEND: u8 = 0x38;
-const PREPARE: u8 = 0x41;
-const START: u8 = 0x42;
-const STEP: u8 = 0x43;
-const RELEASE: u8 = 0x44;
-const POLL: u8 = 0x45;
 
 /// All cases of the call of this number.
 pub fn cases(number: u8) -> Vec<String> {
@@ -66,8 +52,7 @@ fn of_unused((tensor, config): &(Tensor, Config), status: u8) -> Vec<Case> {
     smaller.map(|size| (unused && tensor.element_size == size, format!("unused byte of size {size}"))).collect()
 }
 
-/// Padding by a fill whose four bytes differ: other bytes of it, or the same ones in another order, are something else.
-/// Elements of fewer than 4 bytes leave a byte unused that is not 0.
+/// Padding by a fill whose four bytes differ. Elements of fewer than 4 bytes leave a byte unused that is not 0.
 fn of_padding(number: u8, arguments: &[u8], status: u8) -> Vec<Case> {
     let moved = if status == 0 { moved(number, arguments) } else { None };
     let fill = moved.as_ref().map_or(0, |moved| moved.config.fill);
@@ -87,11 +72,6 @@ fn of_padding(number: u8, arguments: &[u8], status: u8) -> Vec<Case> {
 
 fn is_padded(moved: &Moved) -> bool {
     moved.elements.iter().any(|element| !element.is_kept)
-}
-
-pub fn all_differ(fill: u32) -> bool {
-    let bytes = fill.to_le_bytes();
-    (0..4).all(|a| !bytes[..a].contains(&bytes[a]))
 }
 
 /// Whether something lies between the elements of the destination.

@@ -1,20 +1,15 @@
-//! The cases of moves of each way (`ways.rs`), made as a whole and in stretches that begin and end inside. The number 0
+//! The cases of moves of each way (`way.rs`), made as a whole and in stretches that begin and end inside. The number 0
 //! alone does not tell them apart, and a long comparison has to meet each.
 
-use crate::coverage::holding;
+use super::case::holding;
+use super::number::{is_move, is_stretch, ADVANCE, MOVE_PLANE, PLAIN_ADVANCE, PLAIN_MOVE, STEP};
+use super::piece::Piece;
+use super::way::{Way, WAYS};
 use crate::job::Job;
 use crate::moves::Config;
-use crate::pieces::Piece;
 use crate::tensor::Tensor;
 use crate::transfers::Table;
-use crate::ways::{Way, WAYS};
 use crate::wire::begin;
-
-const MOVE_PLANE: u8 = 0x20;
-const ADVANCE: u8 = 0x22;
-const PLAIN_MOVE: u8 = 0x26;
-const PLAIN_ADVANCE: u8 = 0x27;
-const STEP: u8 = 0x43;
 
 const BEGINS_IN_ROW: &str = "begins in mid-row";
 const ENDS_IN_ROW: &str = "ends in mid-row";
@@ -66,14 +61,6 @@ pub fn met_by_piece(number: u8, way: Way, piece: &Piece) -> Vec<String> {
 
 fn named(way: Way, cases: Vec<String>) -> Vec<String> {
     cases.iter().map(|case| format!("{}, {case}", way.name())).collect()
-}
-
-fn is_move(number: u8) -> bool {
-    [MOVE_PLANE, PLAIN_MOVE].contains(&number)
-}
-
-fn is_stretch(number: u8) -> bool {
-    [ADVANCE, PLAIN_ADVANCE, STEP].contains(&number)
 }
 
 /// What an accepted call moves: a whole plane, or from an element number on as many as its budget has.
