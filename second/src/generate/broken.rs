@@ -3,7 +3,7 @@
 use super::jobs::lay_out;
 use super::planes::{good, Scale};
 use super::values::{any_u32, any_u64, any_u8, telling_fill};
-use super::Work;
+use super::work::Work;
 use crate::job::{judge_job, Job, Part};
 use crate::random::Random;
 use crate::tensor::LIMIT;

@@ -3,7 +3,7 @@
 
 use super::planes::{good, Scale};
 use super::records::clear_tail;
-use super::Work;
+use super::work::Work;
 use crate::cases::input::BESIDE;
 use crate::moves::Config;
 use crate::random::Random;

@@ -1,6 +1,6 @@
 //! Lines that are no calls, between good ones, and the longest lines there may be.
 
-use super::{Work, ADVANCE, MOVE};
+use super::work::{Work, ADVANCE, MOVE};
 use crate::calls::Calls;
 use crate::lines::{hex, DIGITS_LIMIT};
 use crate::moves::Config;

@@ -7,7 +7,7 @@ use super::numbers::start_beside;
 use super::planes::{good, tiny, Drawn, Scale};
 use super::spoil::{vary, Lent};
 use super::values::{any_u32, any_u64};
-use super::Work;
+use super::work::Work;
 use crate::job::{judge_job, Job, Part};
 use crate::tensor::LIMIT;
 use crate::transfers::{fresh, poll, prepare, release, sound, start, step, Slot, Table, DONE, FREE, PREPARED, RUNNING};

@@ -5,7 +5,7 @@ use super::numbers::{draw_numbers, start_beside};
 use super::planes::{good, Drawn, Scale};
 use super::spoil::{vary, Lent};
 use super::values::any_u64;
-use super::{Work, ADVANCE};
+use super::work::{Work, ADVANCE};
 use crate::job::{judge_job as judge, Job, Part};
 use crate::random::Random;
 use crate::transfers::fresh;

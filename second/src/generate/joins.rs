@@ -1,7 +1,7 @@
 //! Planes joined along a dimension.
 
 use super::planes::{draw_destination_strides, good, Scale};
-use super::{Work, MOVE};
+use super::work::{Work, MOVE};
 use crate::cases::offsets::without_offsets;
 use crate::moves::{move_plane, room};
 use crate::tensor::wide;

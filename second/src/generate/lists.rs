@@ -3,7 +3,7 @@
 use super::planes::{good, Scale};
 use super::records::{clear_tail, draw_fields, record_of, set_tail_entry};
 use super::values::{any_fill, any_u64, any_u8, telling_fill, WRONG_RANKS};
-use super::Work;
+use super::work::Work;
 use crate::cases::lists::{applies, pairs, Asked, APPEND_ORDER};
 use crate::list::{append as append_record, at, head, record_count, start as start_list, HEAD};
 use crate::moves::Config;

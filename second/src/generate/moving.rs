@@ -4,7 +4,7 @@ use super::limits::offset_at_bound;
 use super::numbers::draw_sub_config;
 use super::planes::{good, Drawn, Scale};
 use super::spoil::{vary, Lent};
-use super::{Work, MOVE};
+use super::work::{Work, MOVE};
 use crate::helpers::{sub_part, sub_tensor};
 use crate::moves::Config;
 use crate::random::Random;

@@ -4,7 +4,7 @@ use super::limits::{at_limit, extreme, vast};
 use super::planes::{any_config, good, Drawn, Scale};
 use super::spoil::{vary, Lent};
 use super::values::{any_fill, any_rank, any_tensor, any_u32, any_u32s, any_u64, any_u8, any_u8s, around, WRONG_RANKS};
-use super::Work;
+use super::work::Work;
 use crate::helpers::SubConfig;
 use crate::job::Part;
 use crate::random::Random;

@@ -3,7 +3,7 @@
 use super::planes::{any_config, good, Drawn, Scale};
 use super::spoil::{vary, Lent};
 use super::values::{any_tensor, any_u32, any_u8};
-use super::Work;
+use super::work::Work;
 use crate::moves::Config;
 use crate::random::Random;
 use crate::record::{at, length_for, pack_as, version_for, LENGTH, LENGTH_WITH_FILL, VERSION, VERSION_WITH_FILL};

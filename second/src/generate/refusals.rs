@@ -5,7 +5,7 @@ use super::jobs::{advance_job, lay_out, prepare_job};
 use super::planes::Drawn;
 use super::sizes::ask_all;
 use super::spoil::{spoil, Lent};
-use super::Work;
+use super::work::Work;
 use crate::helpers::SubConfig;
 use crate::job::{Job, Part};
 use crate::ready_made::copy;

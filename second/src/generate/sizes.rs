@@ -5,7 +5,7 @@ use super::jobs::lay_out;
 use super::moving::move_drawn;
 use super::planes::Drawn;
 use super::values::telling_fill;
-use super::{Work, ADVANCE};
+use super::work::{Work, ADVANCE};
 use crate::cases::input::BESIDE;
 use crate::helpers::SubConfig;
 use crate::job::Job;

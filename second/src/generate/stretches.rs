@@ -2,7 +2,7 @@
 
 use super::jobs::lay_out;
 use super::planes::{good, Drawn, Scale};
-use super::{Work, ADVANCE};
+use super::work::{Work, ADVANCE};
 use crate::job::{judge_job, Job};
 use crate::moves::{kept_counts, room};
 use crate::random::Random;

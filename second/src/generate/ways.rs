@@ -4,7 +4,7 @@ use super::jobs::lay_out;
 use super::moving::move_drawn;
 use super::planes::Drawn;
 use super::way_planes::draw_way;
-use super::{Work, ADVANCE, MOVE};
+use super::work::{Work, ADVANCE, MOVE};
 use crate::cases::piece::Piece;
 use crate::cases::way::{Way, WAYS};
 use crate::cases::ways::{cases_of_way, met_by_piece};

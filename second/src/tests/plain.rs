@@ -6,7 +6,7 @@ use crate::calls::Calls;
 use crate::cases::{fills, offsets, sizes, stretches};
 use crate::coverage::Coverage;
 use crate::generate;
-use crate::generate::{ADVANCE, MOVE};
+use crate::generate::work::{ADVANCE, MOVE};
 use crate::job::{self, Advanced, Job, Part};
 use crate::lines::{answers, hex, unhex};
 use crate::moves::{Answer, Config};
