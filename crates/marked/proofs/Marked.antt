@@ -11,7 +11,7 @@ use Rattle.mover.specs.Within.{jobFault, advancedBy, advanceOf, advanceMemory}
 use Rattle.mover.specs.SubPart.{subPart}
 use Rattle.plane.specs.Numbers.{little, number}
 use Rattle.record.specs.Layout.{consecutive, start}
-use Rattle.record.specs.Records.{tensorIn, configIn, recordBytes, stray, fieldsFault, readFault, readOf}
+use Rattle.record.specs.Records.{tensorIn, configIn, recordBytes, stray, fieldsFault, readFault, writeFault, readOf, writtenRoom}
 use Rattle.list.specs.Lists.{listFault, recordCount, numberFault, recordAt, placeAfter}
 use Rattle.list.specs.Writers.{startFault, startedBuffer, memberFault, appendFault, appendOf, appendedBuffer}
 use Rattle.transfers.specs.Slots.{withSlot, lowestFree, breaks, clashes, isZeroTensor, isZeroConfig, isZeroJob, movedRight, slotSound, soundAt, tableSound}
@@ -20,5 +20,5 @@ use Rattle.transfers.specs.Demand3.{freshWorld, after}
 use Rattle.marked.specs.Examples.{AllRight, examples}
 
 pub all-right : AllRight examples
-unfolding judgeOf roomOf moveFault roomFault sourceFault configFault dstFault when _orElse_ lowest first outward answerOf span need sum product howMany some firstsOr badStrideAt badDstOffsetAt resolved inner extent count dstExtents countOf countFault countAnswer elements subTensorOf subFault rankFault subAnswer subOf subByte staying moveMemory moved stored coordOf perStep total element place sourcePlace padded areKept isKept every subPart jobFault advancedBy advanceOf advanceMemory freshFault freshOf openFault prepareFault callFault prepareOf changed startOf releaseOf later stepOf stepMemory pollSlot pollFault pollOf withSlot lowestFree breaks clashes isZeroTensor isZeroConfig isZeroJob movedRight slotSound soundAt tableSound freshWorld after little number consecutive start tensorIn configIn recordBytes stray fieldsFault readFault readOf listFault recordCount numberFault recordAt placeAfter startFault startedBuffer memberFault appendFault appendOf appendedBuffer
+unfolding judgeOf roomOf moveFault roomFault sourceFault configFault dstFault when _orElse_ lowest first outward answerOf span need sum product howMany some firstsOr badStrideAt badDstOffsetAt resolved inner extent count dstExtents countOf countFault countAnswer elements subTensorOf subFault rankFault subAnswer subOf subByte staying moveMemory moved stored coordOf perStep total element place sourcePlace padded areKept isKept every subPart jobFault advancedBy advanceOf advanceMemory freshFault freshOf openFault prepareFault callFault prepareOf changed startOf releaseOf later stepOf stepMemory pollSlot pollFault pollOf withSlot lowestFree breaks clashes isZeroTensor isZeroConfig isZeroJob movedRight slotSound soundAt tableSound freshWorld after little number consecutive start tensorIn configIn recordBytes stray fieldsFault readFault writeFault readOf writtenRoom listFault recordCount numberFault recordAt placeAfter startFault startedBuffer memberFault appendFault appendOf appendedBuffer
 all-right = refl

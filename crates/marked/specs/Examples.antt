@@ -4,7 +4,7 @@
 use Prim.Native.Nat.{ℕ, zero, suc}
 use mathlib.Core.Path.{_≡_}
 use mathlib.Core.List.{List, [], _∷_, _++_}
-use lib.ListN.{length, set, replicate}
+use lib.ListN.{length, take, set, replicate}
 use Rattle.plane.specs.declared.Tensor.{Tensor}
 use Rattle.plane.specs.declared.Config.{Config}
 use Rattle.plane.specs.declared.Answer.{Answer}
@@ -13,7 +13,8 @@ use Rattle.plane.specs.declared.Count.{Count}
 use Rattle.plane.specs.declared.SubConfig.{SubConfig}
 use Rattle.plane.specs.declared.SubTensor.{SubTensor}
 use Rattle.plane.specs.Arrays.{zeros}
-use Rattle.faults.specs.Faults.{fault}
+use Rattle.faults.specs.declared.Fault.{Fault}
+use Rattle.faults.specs.Faults.{none, fault}
 use Rattle.plane.specs.Moves.{refused, judgeOf, roomOf}
 use Rattle.ready_made.specs.ReadyMade.{defaults}
 use Rattle.plane.specs.Settings.{zeroConfig, withOffset, withSize, withStep, withDstOffset, withDstStride, withPerm, withPre, withPost, withFill}
@@ -24,7 +25,7 @@ use Rattle.mover.specs.Moved.{moveMemory}
 use Rattle.mover.specs.Within.{advanceOf, advanceMemory}
 use Rattle.mover.specs.SubPart.{subPart}
 use Rattle.record.specs.declared.Reading.{Reading}
-use Rattle.record.specs.Records.{noReading, reading, readOf}
+use Rattle.record.specs.Records.{writeFault, noReading, reading, readOf, writtenRoom}
 use Rattle.list.specs.declared.Numbered.{Numbered}
 use Rattle.list.specs.declared.Appended.{Appended}
 use Rattle.list.specs.Lists.{listFault, recordCount, noRecord, recordAt, placeAfter}
@@ -58,6 +59,8 @@ pub data Example : Type 0 where
   count : Tensor → ℕ → Count → Example
   -- a record's bytes; what is read
   read : List ℕ → Reading → Example
+  -- tensor, configuration, a room; the answer, the room after the record is written into it
+  write : Tensor → Config → List ℕ → Fault → List ℕ → Example
   -- a list's bytes; status and how many records, and then what calls of a reader answer, one after another
   list : List ℕ → ℕ → ℕ → List Numbered → Example
   -- a buffer; status, the buffer after a list is started in it
@@ -86,6 +89,7 @@ pub data Outcome : Type 0 where
   of-room : RoomAnswer → Outcome
   of-count : Count → Outcome
   of-read : Reading → Outcome
+  of-write : Fault → List ℕ → Outcome
   of-list : ℕ → ℕ → List Numbered → Outcome
   of-start : ℕ → List ℕ → Outcome
   of-append : Appended → List ℕ → Outcome
@@ -122,6 +126,7 @@ given (handed-in t m cs out) = of-calls (replies cs (record { table = t; memory 
 given (room t c a) = of-room (roomOf t c)
 given (count t from a) = of-count (countOf t from)
 given (read bs a) = of-read (readOf bs)
+given (write t c before a out) = of-write (writeFault t c (length before)) (writtenRoom t c before)
 given (list bs status n rs) = of-list (listFault bs .status) (recordCount bs) (handed bs 0 (length rs))
 given (begins buffer status out) = of-start (startFault buffer .status) (startedBuffer buffer)
 given (append buffer n t c a out) = of-append (appendOf buffer n t c) (appendedBuffer buffer n t c)
@@ -135,6 +140,7 @@ said (handed-in t m cs out) = of-calls (expected cs out)
 said (room t c a) = of-room a
 said (count t from a) = of-count a
 said (read bs a) = of-read a
+said (write t c before a out) = of-write a out
 said (list bs status n rs) = of-list status n rs
 said (begins buffer status out) = of-start status out
 said (append buffer n t c a out) = of-append a out
@@ -242,13 +248,17 @@ upTo (suc n) = upTo n ++ (suc n ∷ [])
 abbrev pub over : ℕ → List ℕ
 over n = replicate n 99
 
--- the plane and the move of example A as a record has them, with zeros past the rank, and the record's bytes
+-- the plane of example A, in elements of so many bytes and of one, and its move, as a record has them: with zeros past the rank
+abbrev pub turnIn : ℕ → Tensor
+turnIn size = compact 2 size (2 ∷ 3 ∷ 0 ∷ 0 ∷ [])
+
 abbrev pub turnTensor : Tensor
-turnTensor = compact 2 1 (2 ∷ 3 ∷ 0 ∷ 0 ∷ [])
+turnTensor = turnIn 1
 
 abbrev pub turnConfig : Config
 turnConfig = withPerm (withStep zeroConfig (1 ∷ 1 ∷ 0 ∷ 0 ∷ [])) (1 ∷ 0 ∷ 0 ∷ 0 ∷ [])
 
+-- the record's bytes
 abbrev pub turnRecord : List ℕ
 turnRecord =
     (82 ∷ 77 ∷ 86 ∷ 1 ∷ 0 ∷ 2 ∷ 1 ∷ 2 ∷ 0 ∷ 0 ∷ 0 ∷ 3 ∷ []) ++ replicate 59 0 ++
@@ -261,6 +271,10 @@ versionTwo = set turnRecord 3 2
 -- A's record with a fill of 128: version 2, and the four bytes of the fill behind
 abbrev pub filledRecord : List ℕ
 filledRecord = versionTwo ++ (128 ∷ 0 ∷ 0 ∷ 0 ∷ [])
+
+-- and in elements of three bytes with a fill of 0x332211, which is 3,351,057: 0x11 0x22 0x33, which are 17 34 51, and 0
+abbrev pub pixelRecord : List ℕ
+pixelRecord = set versionTwo 6 3 ++ (17 ∷ 34 ∷ 51 ∷ 0 ∷ [])
 
 -- A's record as it is handed out under number k
 abbrev pub turnNumbered : ℕ → Numbered
@@ -527,14 +541,45 @@ examples =
     -- the next above 4, and 0: J's shape with either is 2, which comes before 3
     besides shows room (compact 2 5 (two 0 70000)) defaults (record { answer = refused (fault 2 0); span = 0 }) ∷
     besides shows room (compact 2 0 (two 0 70000)) defaults (record { answer = refused (fault 2 0); span = 0 }) ∷
+    -- ---- records
+    -- A's 131 bytes, both ways. Against `version_big_endian`
+    besides shows write turnTensor turnConfig (over 131) none turnRecord ∷
+    besides shows read turnRecord (reading turnTensor turnConfig) ∷
+    -- a byte too few: 25; another mark: 26; version 257, whose low byte is 1: 27
+    besides shows read (take 130 turnRecord) (noReading (fault 25 0)) ∷
+    besides shows read (set turnRecord 2 87) (noReading (fault 26 0)) ∷
+    besides shows read (set turnRecord 4 1) (noReading (fault 27 0)) ∷
+    -- permutation entry 3 and post entry 2 are not 0: 28 names the lower dimension, and nothing changes. Against
+    -- `tail_names_the_highest`
+    besides shows write turnTensor (withPost (withPerm turnConfig (1 ∷ 0 ∷ 0 ∷ 7 ∷ [])) (0 ∷ 0 ∷ 5 ∷ 0 ∷ [])) (over 131)
+    (fault 28 2) (over 131) ∷
     -- ---- records of version 2: 135 bytes, of which the last four are the fill
-    -- element size 5 and an entry past the rank: 2 comes before 28. Against `version_2_asks_the_size_last`
+    -- A with a fill of 128, both ways
+    besides shows write turnTensor (withFill turnConfig 128) (over 135) none filledRecord ∷
+    besides shows read filledRecord (reading turnTensor (withFill turnConfig 128)) ∷
+    -- a room of the other version's length: 25, and nothing changes; bytes between the two lengths: 25
+    besides shows write turnTensor turnConfig (over 135) (fault 25 0) (over 135) ∷
+    besides shows write turnTensor (withFill turnConfig 128) (over 131) (fault 25 0) (over 131) ∷
+    besides shows read (take 134 filledRecord) (noReading (fault 25 0)) ∷
+    -- version 2 in 131 bytes, and version 1 in 135: 27. Against `version_1_in_135_bytes`
+    besides shows read versionTwo (noReading (fault 27 0)) ∷
+    besides shows read (set filledRecord 3 1) (noReading (fault 27 0)) ∷
+    -- a fill of 0, and one with a byte past the one of an element: 28 at dimension 0. Against `version_2_with_fill_0`
+    besides shows read (set filledRecord 131 0) (noReading (fault 28 0)) ∷
+    besides shows read (set filledRecord 132 1) (noReading (fault 28 0)) ∷
+    -- elements of three bytes, both ways: all three bytes of the fill are used, and a fourth is 28. Against
+    -- `fourth_byte_of_a_fill_for_three`
+    besides shows write (turnIn 3) (withFill turnConfig 3351057) (over 135) none pixelRecord ∷
+    besides shows read pixelRecord (reading (turnIn 3) (withFill turnConfig 3351057)) ∷
+    besides shows read (set pixelRecord 134 1) (noReading (fault 28 0)) ∷
+    -- element size 5: version 1 does not look at it, of version 2 it is 2
+    besides shows read (set turnRecord 6 5) (reading (turnIn 5) turnConfig) ∷
+    besides shows read (set filledRecord 6 5) (noReading (fault 2 0)) ∷
+    -- and with an entry past the rank besides: 2 comes before 28. Against `version_2_asks_the_size_last`
     besides shows read (set (set filledRecord 6 5) 130 7) (noReading (fault 2 0)) ∷
     -- the last post entry and a fill of 0: 28 names dimension 3, and the fill's, at dimension 0, comes behind it. Against
     -- `version_2_asks_the_fill_before_entries`
     besides shows read (set (set filledRecord 131 0) 130 7) (noReading (fault 28 3)) ∷
-    -- version 1 in 135 bytes: 27. Against `version_1_in_135_bytes`
-    besides shows read (set filledRecord 3 1) (noReading (fault 27 0)) ∷
     -- ---- lists
     -- a list of no records; past the last it is 39, and 39 again
     besides shows list (headOf 0) 0 0 (noRecord ∷ noRecord ∷ []) ∷

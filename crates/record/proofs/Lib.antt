@@ -1,9 +1,7 @@
--- Theorems to read first: Decided (no two outcomes), Exact (each refusal in its case and order), RoundTrip (there and back),
--- Examples.
+-- Theorems to read first: Decided (no two outcomes), Exact (each refusal in its case and order), RoundTrip (there and back).
 pub mod Decided
 pub mod Exact
 pub mod RoundTrip
-pub mod Examples
 -- Laws over plain values, which the functions' proofs cite.
 pub mod Parts
 pub mod Digits
