@@ -2,10 +2,9 @@
 -- equal bytes go together, and accepted bytes are the writing of exactly one tensor record and configuration. Assumes nothing.
 use Prim.Native.Nat.{ℕ, zero, suc, _+_, _*_, _^_, _≤_, _<_}
 use native.Mathlib.Nat.{not-suc-le-zero, pow-le-pow-right}
-use native.Mathlib.Decide.{ℕ-discrete}
 use native.Mathlib.Omega.{arith}
 use mathlib.Core.Path.{_≡_, refl, sym, ap, ap₂, subst, _∙_}
-use mathlib.Core.Logic.{inl, inr, ⊎-elim}
+use mathlib.Core.Logic.{⊎-elim}
 use mathlib.Core.Bool.{Bool, true, false, cond, not}
 use mathlib.Core.List.{List, [], _∷_, _++_}
 use borrow.Author.Tests.{eqb-true, eq-eqb, le-ltb, not-false}
@@ -26,7 +25,7 @@ use Rattle.record.specs.declared.Reading.{Reading}
 use Rattle.plane.specs.Numbers.{little, number}
 use Rattle.record.specs.Layout.{part, consecutive, recordLength, fillWidth, lengthOf, versionByLength, versionFor, versionIn, rankIn, sizeIn, fillIn, headBytes, groupCount, group, width, start, fourBytes}
 use Rattle.record.specs.Records.{groupIn, tensorIn, configIn, recordBytes, lengthIn, badLength, badMark, badVersion, fieldsFault, readFault, writeFault, reading, readOf, writtenRoom}
-use Rattle.record.specs.RoundTrip.{Fits, Bytes, OneWriting, ReadBack, WriteBack, ReadLength, SameFieldsSameBytes, AcceptedOnce, RefusedOrOnce}
+use Rattle.record.specs.RoundTrip.{Fits, Bytes, OneWriting, ReadBack, WriteBack, ReadLength, SameFieldsSameBytes, AcceptedOnce}
 use Rattle.record.proofs.Parts.{part-cons, length-part, part-append, part-left, part-part, sum-step, sum-const, consecutive-same, part-consecutive, consecutive-parts}
 use Rattle.record.proofs.Digits.{bytes-part, number-little, little-number, number-fits, length-four, head-is}
 use Rattle.record.proofs.Laying.{length-before, length-record}
@@ -333,10 +332,3 @@ accepted-once bs b = (
           is = e;
           only = λ t c g q. same-fields-same-bytes t c (tensorIn bs) (configIn bs) g f .0 (q ∙ sym e);
         }
-
--- so any bytes are refused (`Exact` has the number), or are one writing
-pub refused-or-once : RefusedOrOnce
-refused-or-once bs b = elim (ℕ-discrete (readOf bs .status) 0) [
-  | yes z ↦ inr (accepted-once bs b .0 z)
-  | no z ↦ inl z
-]

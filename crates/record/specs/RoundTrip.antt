@@ -1,7 +1,7 @@
 -- What "there and back" says: fields that fit a record, bytes, and bytes that are the writing of one pair of fields.
 use Prim.Native.Nat.{ℕ, _^_, _≤_, _<_}
 use mathlib.Core.Path.{_≡_}
-use mathlib.Core.Logic.{_⊎_, _↔_}
+use mathlib.Core.Logic.{_↔_}
 use mathlib.Core.List.{List}
 use lib.ListN.{length, take}
 use Rattle.plane.specs.declared.Tensor.{Tensor}
@@ -56,10 +56,6 @@ SameFieldsSameBytes =
     (t : Tensor) (c : Config) (t′ : Tensor) (c′ : Config) → Fits t c → Fits t′ c′ →
     (recordBytes t c ≡ recordBytes t′ c′) ↔ ((t ≡ t′) × (c ≡ c′))
 
--- a read accepts exactly the bytes that are one writing
+-- a read accepts exactly the bytes that are one writing; all others it refuses (`ReadExact` has the number)
 abbrev pub AcceptedOnce : Type 0
 AcceptedOnce = (bs : List ℕ) → Bytes bs → (readOf bs .status ≡ 0) ↔ OneWriting bs
-
--- so any bytes are refused (`ReadExact` has the number), or are one writing
-abbrev pub RefusedOrOnce : Type 0
-RefusedOrOnce = (bs : List ℕ) → Bytes bs → (readOf bs .status ≡ 0 → ⊥) ⊎ OneWriting bs
