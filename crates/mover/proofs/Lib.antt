@@ -35,6 +35,7 @@ pub mod Sums
 pub mod Numbers
 pub mod Fitting
 pub mod Stored
+pub mod Differing
 pub mod Spacing
 pub mod Keeping
 pub mod Planned

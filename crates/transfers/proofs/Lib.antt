@@ -1,6 +1,6 @@
 -- Theorems to read first: Demand3 (serial and midway), Keeps (sound tables stay sound), Runs (neither 17 nor 18 is given), Budgets (what
 -- finishes a transfer), Decided (no two outcomes), Exact (refusals), Unseen (entries past the rank are not looked at, nor unused
--- bytes of a fill), AllZero (a free slot is all zero), Polls (what a poll tells), Work (a step moves at most its budget).
+-- bytes of a fill), AllZero (a free slot is all zero), Polls (what a poll tells), Work (how much a step changes).
 pub mod Demand3
 pub mod Keeps
 pub mod Runs

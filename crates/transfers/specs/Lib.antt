@@ -1,6 +1,6 @@
 -- What a reader must believe: Slots and Calls are what the contracts cite. The others are what the theorems claim: Demand3 (serial and
--- midway), Sound (tables stay sound), Claims (each refusal in its case and order, refused calls, polls, budgets),
--- Unseen (entries past the rank, and unused bytes of a fill), Work (a step moves at most its budget).
+-- midway), Sound (tables stay sound), Claims (each refusal in its case and order, refused calls, polls, budgets), Unseen
+-- (entries past the rank, and unused bytes of a fill), Work (how much a step changes).
 pub mod Slots
 pub mod Calls
 pub mod Demand3
