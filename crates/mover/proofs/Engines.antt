@@ -11,7 +11,7 @@ use Rattle.faults.proofs.Faults.{if-none}
 use Rattle.mover.specs.declared.Job.{Job}
 use Rattle.mover.specs.Within.{jobFault, totalOf, further, advancedBy, advanceOf, advanceMemory}
 use Rattle.mover.proofs.Exact.{advance-unchanged}
-use Rattle.mover.specs.Engines.{SameOnAll, SameFirsts, StretchesJoin, GoesOn}
+use Rattle.mover.specs.Engines.{SameOnAll, StretchesJoin, GoesOn}
 use Rattle.mover.proofs.Laws.{advanced-length, advanced-none, advanced-more}
 use Rattle.mover.proofs.moves.move_plane.Reads as move-plane
 use Rattle.mover.proofs.plain.move_plane.Reads as plain-move-plane
@@ -26,10 +26,6 @@ move-plane-same = record { there = λ κ a x s p. p; back = λ κ a x s p. p; an
 -- from every number on, and for every budget
 pub advance-same : SameOnAll advance.Post plain-advance.Post (λ κ s. s .0 .now)
 advance-same = record { there = λ κ a x s p. p; back = λ κ a x s p. p; answer = λ κ a x y s t p q. p .0 ∙ sym (q .0); memory = λ κ a x y s t p q. p .1 ∙ sym (q .1) }
-
--- the first elements, as many as the budget says
-pub advance-firsts : SameFirsts advance.Post plain-advance.Post (λ κ a. a .1 .1 .0) (λ κ s. s .0 .now)
-advance-firsts = record { memory = λ κ a x y s t z p q. p .1 ∙ sym (q .1) }
 
 -- ---- stretches join
 

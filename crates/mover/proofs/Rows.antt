@@ -77,105 +77,86 @@ sum-first f i (suc n) h = elim (decLe i n) [
 
 -- ---- what acceptance tells of destination dimension i
 
-module _ {t : Tensor} {p r i : ℕ} {w : Row} (g : RowOf t p r i w) where
-  pub its-size : sizeOf w ≡ t .«element_size»
-  its-size = ap (λ (a : Answer). a .«element_size») (g .answer)
+module _ {p r i : ℕ} {w : Row} (g : RowOf p r i w) (h : i < w .tensor .rank) where
+  dim-four : dimOf (w .config) i < 4
+  dim-four = omega (arith, g .good-config .perm i h, g .good-source .rank .1)
 
-  size-small : (1 ≤ sizeOf w) × (sizeOf w ≤ 4)
-  size-small = rw its-size (element-small (t .«element_size») (g .good-source .element))
+  pub its-extent : at (w .answer .extent) i ≡ extentAt (w .tensor) (w .config) i
+  its-extent = ap (λ (a : Answer). at (a .extent) i) (g .answer)
 
-  module _ (h : i < t .rank) where
-    four : i < 4
-    four = omega (arith, g .good-source .rank .1)
+  its-stride : at (w .answer .stride) i ≡ at (dstStrides (w .tensor) (w .config)) i
+  its-stride = ap (λ (a : Answer). at (a .stride) i) (g .answer)
 
-    dim-four : dimOf (w .config) i < 4
-    dim-four = omega (arith, g .good-config .perm i h, g .good-source .rank .1)
+  its-source-stride : at (w .source .stride) (dimOf (w .config) i) ≡ at (srcStrides (w .tensor)) (dimOf (w .config) i)
+  its-source-stride = ap (λ (l : List ℕ). at l (dimOf (w .config) i)) (g .strides)
 
-    pub its-extent : at (w .room .answer .extent) i ≡ extentAt t (w .config) i
-    its-extent = ap (λ (a : Answer). at (a .extent) i) (g .answer)
+  pub extent-small : (0 < extentAt (w .tensor) (w .config) i) × (extentAt (w .tensor) (w .config) i ≤ 65535)
+  extent-small = dst-extent (g .good-config) i (g .good-source .rank .1) h
 
-    its-stride : at (w .room .answer .stride) i ≡ at (dstStrides t (w .config)) i
-    its-stride = ap (λ (a : Answer). at (a .stride) i) (g .answer)
+  stride-small : at (w .answer .stride) i ≤ 2147483647
+  stride-small =
+      rw (its-stride, firsts-at 0 (w .tensor .rank) (resolved (w .tensor .rank) (at (dstExtents (w .tensor) (w .config))) (at (w .config .«dst_stride»))) i (g .good-source .rank .1) h)
+      (g .good-dst .strides .most i h)
 
-    its-source-stride : at (w .source .stride) (dimOf (w .config) i) ≡ at (srcStrides t) (dimOf (w .config) i)
-    its-source-stride = ap (λ (l : List ℕ). at l (dimOf (w .config) i)) (g .strides)
+  source-stride-small : at (w .source .stride) (dimOf (w .config) i) ≤ 2147483647
+  source-stride-small =
+      let k = g .good-config .perm i h in
+      rw (its-source-stride, firsts-at 0 (w .tensor .rank) (resolved (w .tensor .rank) (shapeAt (w .tensor)) (strideAt (w .tensor))) (dimOf (w .config) i) (g .good-source .rank .1) k)
+      (g .good-source .strides .most (dimOf (w .config) i) k)
 
-    pub extent-small : (0 < extentAt t (w .config) i) × (extentAt t (w .config) i ≤ 65535)
-    extent-small = dst-extent (g .good-config) i (g .good-source .rank .1) h
+  -- ---- the row at coordinate x of the dimension
 
-    -- padding and what is kept make up the extent
-    parts : at (w .room .answer .extent) i ≡ at (w .config .pre) (dimOf (w .config) i) + count t (w .config) (dimOf (w .config) i) + at (w .config .post) (dimOf (w .config) i)
-    parts = its-extent ∙ extent-is (w .config) (g .good-source) i h
+  module _ (x : ℕ) (l : x < extentAt (w .tensor) (w .config) i) where
+    abbrev number : ℕ
+    number = w .number * extentAt (w .tensor) (w .config) i + x
 
-    stride-small : at (w .room .answer .stride) i ≤ 2147483647
-    stride-small =
-        rw (its-stride, firsts-at 0 (t .rank) (resolved (t .rank) (at (dstExtents t (w .config))) (at (w .config .«dst_stride»))) i (g .good-source .rank .1) h)
-        (g .good-dst .strides .most i h)
+    its-number : inwardOf w i x .number ≡ number
+    unfolding inwardOf
+    its-number = ap (λ (e : ℕ). w .number * e + x) its-extent
 
-    source-stride-small : at (w .source .stride) (dimOf (w .config) i) ≤ 2147483647
-    source-stride-small =
-        let k = g .good-config .perm i h in
-        rw (its-source-stride, firsts-at 0 (t .rank) (resolved (t .rank) (shapeAt t) (strideAt t)) (dimOf (w .config) i) (g .good-source .rank .1) k)
-        (g .good-source .strides .most (dimOf (w .config) i) k)
+    its-kept : inwardOf w i x .kept ≡ (w .kept && isKept (w .tensor) (w .config) i x)
+    unfolding inwardOf isKept
+    its-kept = tested (w .kept) (at (w .config .pre) (dimOf (w .config) i)) (count (w .tensor) (w .config) (dimOf (w .config) i)) x
 
-    count-is : at (w .room .answer .extent) i - at (w .config .pre) (dimOf (w .config) i) - at (w .config .post) (dimOf (w .config) i) ≡ count t (w .config) (dimOf (w .config) i)
-    count-is = omega (arith, parts)
+    its-from : inwardOf w i x .kept ≡ true → inwardOf w i x .at ≡ w .at + sourceTerm (w .tensor) (w .config) i x * sizeOf w
+    unfolding inwardOf
+    its-from k =
+        let c = w .config in
+        let at-x = at (c .offset) (dimOf c i) + (x - at (c .pre) (dimOf c i)) * at (c .step) (dimOf c i) in
+        ap (λ (b : Bool). cond b (w .at + at-x * at (w .source .stride) (dimOf c i) * sizeOf w) (w .at)) k ∙
+        ap (λ (s : ℕ). w .at + at-x * s * sizeOf w) its-source-stride
 
-    -- ---- the row at coordinate x of the dimension
+    its-to : inwardOf w i x .place ≡ w .place + placeTerm (w .tensor) (w .config) i x * sizeOf w
+    unfolding inwardOf
+    its-to = ap (λ (s : ℕ). w .place + (at (w .config .«dst_offset») i + x) * s * sizeOf w) its-stride
 
-    module _ (x : ℕ) (l : x < extentAt t (w .config) i) where
-      abbrev number : ℕ
-      number = w .number * extentAt t (w .config) i + x
-
-      its-number : inwardOf w i x .number ≡ number
-      unfolding inwardOf
-      its-number = ap (λ (e : ℕ). w .number * e + x) its-extent
-
-      its-kept : inwardOf w i x .kept ≡ (w .kept && isKept t (w .config) i x)
-      unfolding inwardOf isKept
-      its-kept =
-          let pre = at (w .config .pre) (dimOf (w .config) i) in
-          ap (λ (n : ℕ). w .kept && leb pre x && ltb x (pre + n)) count-is ∙
-          tested (w .kept) pre (count t (w .config) (dimOf (w .config) i)) x
-
-      its-from : inwardOf w i x .kept ≡ true → inwardOf w i x .at ≡ w .at + sourceTerm t (w .config) i x * t .«element_size»
-      unfolding inwardOf
-      its-from k =
-          let c = w .config in
-          let at-x = at (c .offset) (dimOf c i) + (x - at (c .pre) (dimOf c i)) * at (c .step) (dimOf c i) in
-          ap (λ (b : Bool). cond b (w .at + at-x * at (w .source .stride) (dimOf c i) * sizeOf w) (w .at)) k ∙
-          ap₂ (λ (s z : ℕ). w .at + at-x * s * z) its-source-stride its-size
-
-      its-to : inwardOf w i x .place ≡ w .place + placeTerm t (w .config) i x * t .«element_size»
-      unfolding inwardOf
-      its-to = ap₂ (λ (s z : ℕ). w .place + (at (w .config .«dst_offset») i + x) * s * z) its-stride its-size
-
-      pub inward-row : RowOf t p r (suc i) (inwardOf w i x)
-      unfolding inwardOf product
-      inward-row =
-          let c = w .config in
-          let z = t .«element_size» in
-          record {
-            good-source = g .good-source;
-            good-config = g .good-config;
-            good-dst = g .good-dst;
-            answer = g .answer;
-            strides = g .strides;
-            within = rw its-number (digits-lt (g .within) l);
-            all-kept =
-                its-kept ∙ ap (λ (b : Bool). b && isKept t c i x) (g .all-kept) ∙ every-row t c i (w .number) x l (isKept t c) ∙
-                ap (λ (n : ℕ). every (suc i) (λ j. isKept t c j (coordTo t c (suc i) n j))) (sym its-number);
-            at-source = λ k.
-                its-from k ∙ ap (λ (f : ℕ). f + sourceTerm t c i x * z) (g .at-source (both-first (w .kept) (isKept t c i x) (sym its-kept ∙ k))) ∙
-                one-sum p (sum i (λ j. sourceTerm t c j (coordTo t c i (w .number) j))) (sourceTerm t c i x) z ∙
-                ap (λ (y : ℕ). p + y * z) (sum-row t c i (w .number) x l (sourceTerm t c)) ∙
-                ap (λ (n : ℕ). p + sum (suc i) (λ j. sourceTerm t c j (coordTo t c (suc i) n j)) * z) (sym its-number);
-            at-place =
-                its-to ∙ ap (λ (f : ℕ). f + placeTerm t c i x * z) (g .at-place) ∙
-                one-sum r (sum i (λ j. placeTerm t c j (coordTo t c i (w .number) j))) (placeTerm t c i x) z ∙
-                ap (λ (y : ℕ). r + y * z) (sum-row t c i (w .number) x l (placeTerm t c)) ∙
-                ap (λ (n : ℕ). r + sum (suc i) (λ j. placeTerm t c j (coordTo t c (suc i) n j)) * z) (sym its-number);
-          }
+    pub inward-row : RowOf p r (suc i) (inwardOf w i x)
+    unfolding inwardOf product
+    inward-row =
+        let t = w .tensor in
+        let c = w .config in
+        let z = sizeOf w in
+        record {
+          good-source = g .good-source;
+          good-config = g .good-config;
+          good-dst = g .good-dst;
+          answer = g .answer;
+          strides = g .strides;
+          within = rw its-number (digits-lt (g .within) l);
+          all-kept =
+              its-kept ∙ ap (λ (b : Bool). b && isKept t c i x) (g .all-kept) ∙ every-row t c i (w .number) x l (isKept t c) ∙
+              ap (λ (n : ℕ). every (suc i) (λ j. isKept t c j (coordTo t c (suc i) n j))) (sym its-number);
+          at-source = λ k.
+              its-from k ∙ ap (λ (f : ℕ). f + sourceTerm t c i x * z) (g .at-source (both-first (w .kept) (isKept t c i x) (sym its-kept ∙ k))) ∙
+              one-sum p (sum i (λ j. sourceTerm t c j (coordTo t c i (w .number) j))) (sourceTerm t c i x) z ∙
+              ap (λ (y : ℕ). p + y * z) (sum-row t c i (w .number) x l (sourceTerm t c)) ∙
+              ap (λ (n : ℕ). p + sum (suc i) (λ j. sourceTerm t c j (coordTo t c (suc i) n j)) * z) (sym its-number);
+          at-place =
+              its-to ∙ ap (λ (f : ℕ). f + placeTerm t c i x * z) (g .at-place) ∙
+              one-sum r (sum i (λ j. placeTerm t c j (coordTo t c i (w .number) j))) (placeTerm t c i x) z ∙
+              ap (λ (y : ℕ). r + y * z) (sum-row t c i (w .number) x l (placeTerm t c)) ∙
+              ap (λ (n : ℕ). r + sum (suc i) (λ j. placeTerm t c j (coordTo t c (suc i) n j)) * z) (sym its-number);
+        }
 
 -- ---- where a row lies
 
@@ -198,66 +179,74 @@ upto-most i f m j h = elim (decLt j i) [
   | no l ↦ rw (le-ltb j i (omega arith)) (omega arith)
 ]
 
-module _ {t : Tensor} {p r i : ℕ} {w : Row} (g : RowOf t p r i w) (h : i ≤ t .rank) where
-  pub to-fits : w .place + t .«element_size» ≤ r + need t (w .config)
+module _ {p r i : ℕ} {w : Row} (g : RowOf p r i w) (h : i ≤ w .tensor .rank) where
+  pub to-fits : w .place + sizeOf w ≤ r + need (w .tensor) (w .config)
   unfolding place
   to-fits =
+      let t = w .tensor in
       let c = w .config in
       let x = coordTo t c i (w .number) in
       rw (g .at-place)
-      (ends-within r (t .«element_size») (sum-first (λ j. placeTerm t c j (x j)) i (t .rank) h)
+      (ends-within r (sizeOf w) (sum-first (λ j. placeTerm t c j (x j)) i (t .rank) h)
       (place-fits (g .good-config) x (λ j k. mod-lt (w .number / product (i - suc j) (λ k. extentAt t c (suc j + k))) (dst-extent (g .good-config) j (g .good-source .rank .1) k .0))))
 
-  pub from-fits : w .kept ≡ true → w .at + t .«element_size» ≤ p + span t
+  pub from-fits : w .kept ≡ true → w .at + sizeOf w ≤ p + span (w .tensor)
   from-fits e =
+      let t = w .tensor in
       let c = w .config in
       let k : ℕ → ℕ = λ j. kOf c j (coordTo t c i (w .number) j) in
       let term : ℕ → ℕ → ℕ = λ j n. sourceAt t (dimOf c j) (at (c .offset) (dimOf c j) + n * at (c .step) (dimOf c j)) in
       let same : sum i (λ j. term j (k j)) ≡ sum i (λ j. term j (upto i k j)) = sum-same i _ _ (λ j l. rw (lt-ltb j i l)) in
       let each = every-each (λ j. isKept t c j (coordTo t c i (w .number) j)) i (sym (g .all-kept) ∙ e) in
       rw (g .at-source e, same)
-      (ends-within p (t .«element_size») (sum-first (λ j. term j (upto i k j)) i (t .rank) h)
+      (ends-within p (sizeOf w) (sum-first (λ j. term j (upto i k j)) i (t .rank) h)
       (home-fits (g .good-config) (upto i k)
       (λ j _. upto-most i k (λ j. count t c (dimOf c j) - 1) j (λ l. omega (arith, kept-below t c j (coordTo t c i (w .number) j) (each j l) .1)))))
 
 -- ---- a step inward
 
 module _ {w : Row} {i x : ℕ} (g : Passable w i x) where
-  next : RowOf (g .t) (g .p) (g .r) (suc i) (inwardOf w i x)
+  next : RowOf (g .p) (g .r) (suc i) (inwardOf w i x)
   next = inward-row (g .row) (g .dim) x (g .below)
+
+  pub pass-four : i < 4
+  pass-four = omega (arith, g .dim, g .row .good-source .rank .1)
 
   pub pass-dim : dimOf (w .config) i < 4
   pass-dim = dim-four (g .row) (g .dim)
 
   pub pass-size : sizeOf w ≤ 4
-  pass-size = size-small (g .row) .1
+  pass-size = element-small (sizeOf w) (g .row .good-source .element) .1
 
-  pub pass-parts : at (w .config .pre) (dimOf (w .config) i) + at (w .config .post) (dimOf (w .config) i) ≤ at (w .room .answer .extent) i
-  pass-parts = omega (arith, parts (g .row) (g .dim))
+  pub pass-source-dim : dimOf (w .config) i < w .tensor .rank
+  pass-source-dim = g .row .good-config .perm i (g .dim)
 
-  pub pass-extent : at (w .room .answer .extent) i ≤ 65535
+  pub pass-parts : at (w .config .pre) (dimOf (w .config) i) + count (w .tensor) (w .config) (dimOf (w .config) i) ≤ 65535
+  pass-parts = omega (arith, extent-is (w .config) (g .row .good-source) i (g .dim), extent-small (g .row) (g .dim) .1)
+
+  pub pass-extent : at (w .answer .extent) i ≤ 65535
   pass-extent = rw (its-extent (g .row) (g .dim)) (extent-small (g .row) (g .dim) .1)
 
-  pub pass-number : w .number * at (w .room .answer .extent) i + x < 2 ^ 64
+  pub pass-number : w .number * at (w .answer .extent) i + x < 2 ^ 64
   unfolding inwardOf
   pass-number =
       omega (
         arith,
         next .within,
-        product-most (suc i) (extentAt (g .t) (w .config)) (omega (arith, four (g .row) (g .dim)))
+        product-most (suc i) (extentAt (w .tensor) (w .config)) pass-four
             (λ j h. dst-extent (g .row .good-config) j (g .row .good-source .rank .1) (omega (arith, g .dim)) .1),
       )
 
   pub pass-offset : at (w .config .«dst_offset») i + x ≤ 131070
   pass-offset = omega (arith, g .row .good-dst .offset i (g .dim), g .below, extent-small (g .row) (g .dim) .1)
 
-  pub pass-stride : at (w .room .answer .stride) i ≤ 2147483647
+  pub pass-stride : at (w .answer .stride) i ≤ 2147483647
   pass-stride = stride-small (g .row) (g .dim)
 
-  pub pass-place : (at (w .config .«dst_offset») i + x) * at (w .room .answer .stride) i ≤ 131070 * 2147483647
+  pub pass-place : (at (w .config .«dst_offset») i + x) * at (w .answer .stride) i ≤ 131070 * 2147483647
   pass-place = mul-le-mul pass-offset pass-stride
 
-  pub pass-to : w .place + (at (w .config .«dst_offset») i + x) * at (w .room .answer .stride) i * sizeOf w < 2 ^ 64
+  pub pass-to : w .place + (at (w .config .«dst_offset») i + x) * at (w .answer .stride) i * sizeOf w < 2 ^ 64
   unfolding inwardOf
   pass-to = omega (arith, to-fits next (g .dim), g .end)
 
@@ -265,31 +254,31 @@ module _ {w : Row} {i x : ℕ} (g : Passable w i x) where
   pass-source-stride = source-stride-small (g .row) (g .dim)
 
   module _ (k : inwardOf w i x .kept ≡ true) where
-    its : (at (w .config .pre) (dimOf (w .config) i) ≤ x) × (kOf (w .config) i x < count (g .t) (w .config) (dimOf (w .config) i))
+    its : (at (w .config .pre) (dimOf (w .config) i) ≤ x) × (kOf (w .config) i x < count (w .tensor) (w .config) (dimOf (w .config) i))
     its =
-        kept-below (g .t) (w .config) i x
-        (both-second (w .kept) (isKept (g .t) (w .config) i x) (sym (its-kept (g .row) (g .dim) x (g .below)) ∙ k))
+        kept-below (w .tensor) (w .config) i x
+        (both-second (w .kept) (isKept (w .tensor) (w .config) i x) (sym (its-kept (g .row) (g .dim) x (g .below)) ∙ k))
 
     pub pass-pre : at (w .config .pre) (dimOf (w .config) i) ≤ x
     pass-pre = its .0
 
     pub pass-at : at (w .config .offset) (dimOf (w .config) i) + (x - at (w .config .pre) (dimOf (w .config) i)) * at (w .config .step) (dimOf (w .config) i) ≤ 65535
     pass-at =
-        let d = g .row .good-config .perm i (g .dim) in
         omega (
           arith,
-          kept-within (g .row .good-config) (dimOf (w .config) i) (kOf (w .config) i x) d (omega (arith, its .1)),
-          g .row .good-source .shape (dimOf (w .config) i) d .1,
+          kept-within (g .row .good-config) (dimOf (w .config) i) (kOf (w .config) i x) pass-source-dim (omega (arith, its .1)),
+          g .row .good-source .shape (dimOf (w .config) i) pass-source-dim .1,
         )
 
     pub pass-source : (at (w .config .offset) (dimOf (w .config) i) + (x - at (w .config .pre) (dimOf (w .config) i)) * at (w .config .step) (dimOf (w .config) i)) * at (w .source .stride) (dimOf (w .config) i) ≤ 65535 * 2147483647
     pass-source = mul-le-mul pass-at pass-source-stride
 
     pub pass-from : w .at + (at (w .config .offset) (dimOf (w .config) i) + (x - at (w .config .pre) (dimOf (w .config) i)) * at (w .config .step) (dimOf (w .config) i)) * at (w .source .stride) (dimOf (w .config) i) * sizeOf w < 2 ^ 64
+    unfolding inwardOf
     pass-from =
         let e = its-from (g .row) (g .dim) x (g .below) k in
         let c = w .config in
         let at-x = at (c .offset) (dimOf c i) + (x - at (c .pre) (dimOf c i)) * at (c .step) (dimOf c i) in
         let f : w .at + at-x * at (w .source .stride) (dimOf c i) * sizeOf w ≡ inwardOf w i x .at =
-        ap₂ (λ (s z : ℕ). w .at + at-x * s * z) (its-source-stride (g .row) (g .dim)) (its-size (g .row)) ∙ sym e in
+        ap (λ (s : ℕ). w .at + at-x * s * sizeOf w) (its-source-stride (g .row) (g .dim)) ∙ sym e in
         omega (arith, f, from-fits next (g .dim) k, g .source-end)

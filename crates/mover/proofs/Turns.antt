@@ -88,7 +88,7 @@ Keeps o p s from budget e b0 b1 b2 b3 had v d c0 c1 c2 c3 left u =
 -- what is so when the loops are left
 pub record Over (o : Origin) (p : Plan) (s d₀ : List ℕ) (from budget : ℕ) (d : List ℕ) (left : ℕ) : Type 0 where
   pub fund : left ≤ budget
-  pub kept : length d ≡ length d₀
+  pub long : length d ≡ length d₀
   pub count : budget - left ≡ min budget (planTotal p - from)
   pub bytes : d ≡ movedBy p (sourceBytes o s d₀) from (budget - left) d₀
 
@@ -354,7 +354,7 @@ module _ {o : Origin} {p : Plan} {s d₀ : List ℕ} {from budget : ℕ} {d : Li
   at-spent e =
       record {
         fund = a .fund;
-        kept = at-length;
+        long = at-length;
         bytes = a .bytes;
         count = omega (arith, min-eq-left {n = budget} {m = planTotal p - from} (omega (arith, a .most)));
       }
@@ -367,4 +367,4 @@ module _ {o : Origin} {p : Plan} {s d₀ : List ℕ} {from budget : ℕ} {d : Li
       let x2 = mul-le-mul-right (p .d2 .extent) (le-trans x1 (le-add-right (c0 * p .d1 .extent) c1)) in
       let x3 = mul-le-mul-right (p .d3 .extent) (le-trans x2 (le-add-right ((c0 * p .d1 .extent + c1) * p .d2 .extent) c2)) in
       let e : planTotal p - from ≡ budget - left = omega (arith, a .number, a .most) in
-      record { fund = a .fund; kept = at-length; bytes = a .bytes; count = sym (min-eq-right (omega arith) ∙ e) }
+      record { fund = a .fund; long = at-length; bytes = a .bytes; count = sym (min-eq-right (omega arith) ∙ e) }

@@ -13,10 +13,11 @@ use Rattle.plane.specs.Moves.{need}
 use Rattle.plane.specs.Good.{GoodMove}
 use Rattle.plane.proofs.Bounds.{element-small}
 use Rattle.faults.proofs.Faults.{if-fault, if-none}
+use Rattle.parts.specs.Parts.{bytesOf}
 use Rattle.mover.specs.declared.Job.{Job}
 use Rattle.mover.specs.Element.{place, element}
 use Rattle.mover.specs.Moved.{total, coordOf, stored, moved}
-use Rattle.mover.specs.Within.{jobFault, verdictOf, totalOf, bytesOf, advancedBy, further, advanceOf, advanceMemory}
+use Rattle.mover.specs.Within.{jobFault, verdictOf, totalOf, advancedBy, further, advanceOf, advanceMemory}
 use Rattle.mover.specs.Work.{Bounded, MoveWork, JobWork, differing, Paid, AdvanceWork}
 use Rattle.mover.proofs.Laws.{judged-good, total-positive, destination-fits, job-good, moved-length, advanced-length}
 use Rattle.mover.proofs.Stored.{length-element}

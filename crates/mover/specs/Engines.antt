@@ -18,12 +18,6 @@ pub record SameOnAll
   pub answer : (κ : K) (a : A κ) (x y : R κ) (s t : E κ) → post κ a x s → plain κ a y t → x ≡ y
   pub memory : (κ : K) (a : A κ) (x y : R κ) (s t : E κ) → post κ a x s → plain κ a y t → mem κ s ≡ mem κ t
 
--- given the same first elements, for every number of them, both leave the same memory. `from` is the element that a stretch starts with
-pub record SameFirsts
-    {K : Type 0} {A R E : K → Type 0}
-    (post plain : (κ : K) → A κ → R κ → E κ → Type 0) (from : (κ : K) → A κ → ℕ) (mem : (κ : K) → E κ → List ℕ) : Type 0 where
-  pub memory : (κ : K) (a : A κ) (x y : R κ) (s t : E κ) → from κ a ≡ 0 → post κ a x s → plain κ a y t → mem κ s ≡ mem κ t
-
 -- a stretch of k elements, then one of l more, leave what one of k + l leaves
 abbrev pub StretchesJoin : Type 0
 StretchesJoin =

@@ -9,7 +9,8 @@ use crate::tensors::source_of;
 ghost use mathlib.Core.Path.{_≡_};
 ghost use Rattle.plane.specs.Moves.{roomOf, judgeOf};
 
-// The room question: what a move would answer if its source and its destination were long enough. Never 5 or 13.
+// The room question: what a move would answer if its source and its destination were long enough. Never 5 or 13. The need is what the
+// record asks for, and may be more than any machine has: judge by the most that you would lend.
 pub fn room(t: Tensor, c: Config) -> RoomAnswer
     ensures { λ r. ⌜ r ≡ roomOf t c ⌝ }
 {

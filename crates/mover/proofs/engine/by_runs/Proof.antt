@@ -245,5 +245,5 @@ by-runs-spec =
     (λ c. omega (arith, c .before .before .before .before .before .if1 .taken))
     all-again
     (λ c. over c .fund)
-    (λ c. over c .kept)
+    (λ c. over c .long)
     (λ c. (over c .count, over c .bytes)))

@@ -338,5 +338,5 @@ by-bands-spec =
     (λ c. omega (arith, c .before .before .before .before .before .if1 .taken))
     all-again
     (λ c. over (c .before) .fund)
-    (λ c. over (c .before) .kept)
+    (λ c. over (c .before) .long)
     (λ c. (over (c .before) .count, over (c .before) .bytes)))

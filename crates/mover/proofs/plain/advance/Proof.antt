@@ -1,12 +1,12 @@
 -- `mover::plain::advance` stores what the budget allows of a job's elements from a number on. Assumes nothing.
-use Prim.Native.Nat.{_-_, min}
+use Prim.Native.Nat.{_+_, _-_, min}
 use native.Mathlib.Omega.{arith}
-use mathlib.Core.Path.{_≡_, ap, _∙_}
+use mathlib.Core.Path.{_≡_, _∙_}
 use mathlib.Core.Logic.{⊎-elim}
+use mathlib.Core.List.{[]}
 use borrow.Author.Needs.{needs}
-use Rattle.mover.specs.declared.plain.Row.{Row}
-use Rattle.mover.specs.Private.Rows.{rowOf}
-use Rattle.mover.proofs.WholeRows.{rowAt, advance-told, advance-none, advance-fits, advance-stands, advance-before, advance-stored}
+use Rattle.mover.specs.declared.elements.Origin.the-variants.{Inside}
+use Rattle.mover.proofs.WholeRows.{starts-before, advance-told, advance-none, advance-fits, advance-stands, advance-stored}
 use Rattle.mover.proofs.plain.advance.Statement.{statement}
 use Rattle.mover.proofs.plain.advance.Tie as tie
 
@@ -20,22 +20,6 @@ count c =
     let e = rest (c .before) in
     ⊎-elim (λ w. w .1 ∙ omega (arith, w .0 .taken)) (λ w. w .1 ∙ omega (arith, w .0 .left)) (c .if2 .came)
 
--- the row that the code makes
-row : (c : tie.After-whole) → let j = c .before .before .before .before .before .before .before .args .job in
-    record {
-      config = c .whole .result .config;
-      room = c .whole .result .room;
-      source = c .whole .result .source;
-      number = c .whole .result .number;
-      kept = c .whole .result .kept;
-      at = j .source .start;
-      place = j .destination .start;
-    } ≡ rowAt (j .tensor) (j .config) (j .source .start) (j .destination .start)
-unfolding rowOf
-row c =
-    let j = c .before .before .before .before .before .before .before .args .job in
-    ap (λ (w : Row). record { config = w .config; room = w .room; source = w .source; number = w .number; kept = w .kept; at = j .source .start; place = j .destination .start }) (c .whole .ensures)
-
 add-store-row : tie.Need-add-store-row
 add-store-row c =
     let i = c .before .before .before .before in
@@ -45,23 +29,26 @@ add-store-row c =
 
 store-row-requires : tie.Need-store-row-requires
 store-row-requires c κs =
-    let i = c .before .before .before .before in
+    let o = c .before .before .before in
+    let i = o .before in
     let k = i .before in
     let a = k .before .before .before .before .before .args in
-    let e = k .before .before .before .judge-job .ensures in (
-      advance-stands (a .job) (a .from) (a .budget) (a .mem .now) e (count k) (i .if3 .taken) (row (c .before .before .before)),
-      advance-before (a .job) (a .from) (a .budget) (a .mem .now) e (count k) (i .if3 .taken) (row (c .before .before .before)),
+    let e = k .before .before .before .judge-job .ensures in
+    rw (o .outermost .ensures) (
+      advance-stands (a .job) (a .from) (a .budget) (a .mem .now) e (count k) (i .if3 .taken) [],
+      starts-before (a .job .tensor) (a .job .config) Inside (a .job .source .start) (a .job .destination .start) (a .from + k .if2 .count) (omega (arith, i .if3 .taken)),
     )
 
 returns : tie.Need-returns
 returns c =
     let r = c .before .before in
-    let i = r .before .before .before .before .before in
+    let o = r .before .before .before .before in
+    let i = o .before in
     let k = i .before in
     let a = k .before .before .before .before .before .args in
     let e = k .before .before .before .judge-job .ensures in (
       advance-told (a .job) (a .from) (a .budget) (a .mem .now) e (count k),
-      advance-stored (a .job) (a .from) (a .budget) (a .mem .now) e (count k) (i .if3 .taken) (row (r .before .before .before .before)) (r .store-row .ensures .1),
+      advance-stored (a .job) (a .from) (a .budget) (a .mem .now) e (count k) (i .if3 .taken) [] (o .outermost .ensures) (r .store-row .ensures .1),
     )
 
 returns-2 : tie.Need-returns-2

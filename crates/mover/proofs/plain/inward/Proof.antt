@@ -4,82 +4,82 @@ use mathlib.Core.Path.{_≡_}
 use mathlib.Core.Bool.{true}
 use borrow.Author.Needs.{needs}
 use Rattle.mover.specs.Private.Rows.{inwardOf}
-use Rattle.mover.proofs.Rows.{pass-dim, pass-size, pass-parts, pass-extent, pass-number, pass-offset, pass-stride, pass-place, pass-to, pass-source-stride, pass-pre, pass-at, pass-source, pass-from}
+use Rattle.mover.proofs.Rows.{pass-four, pass-dim, pass-source-dim, pass-size, pass-parts, pass-extent, pass-number, pass-offset, pass-stride, pass-place, pass-to, pass-source-stride, pass-pre, pass-at, pass-source, pass-from}
 use Rattle.mover.proofs.plain.inward.Statement.{statement}
 use Rattle.mover.proofs.plain.inward.Tie as tie
 
 -- the start, from each place
-abbrev start1 : tie.After-s → tie.Start
-start1 c = c .before .before .before .before
+abbrev start1 : tie.After-struct-known → tie.Start
+start1 c = c .before .before .before .before .before
 
-abbrev start2 : tie.After-count2 → tie.Start
-start2 c = start1 (c .before .before .before)
+abbrev start2 : tie.After-struct-known2 → tie.Start
+start2 c = start1 (c .before .before .before .before)
 
-abbrev start3 : tie.After-row2 → tie.Start
-start3 c = start2 (c .before .before .before)
+abbrev start3 : tie.After-struct-known4 → tie.Start
+start3 c = start2 (c .before .before .before .before)
 
-abbrev start4 : tie.After-struct-known3 → tie.Start
+abbrev start4 : tie.After-coordinate2 → tie.Start
 start4 c = start3 (c .before .before .before)
 
-abbrev start5 : tie.After-coordinate2 → tie.Start
-start5 c = start4 (c .before .before .before)
+-- the call of `kept_count`
+abbrev counted : tie.After-struct-known4 → tie.After-kept-count
+counted c = c .before .before .before .before .before .before
 
-kept : (c : tie.Then1) → let a = start4 (c .before) .args in inwardOf (a .row) (a .i) (a .c) .kept ≡ true
+kept : (c : tie.Then1) → let a = start3 (c .before) .args in inwardOf (a .row) (a .i) (a .c) .kept ≡ true
 unfolding inwardOf
-kept c = c .if1 .taken
+kept c = rw (counted (c .before) .kept-count .ensures) at (c .if1 .taken)
 
 returns : tie.Need-returns
 unfolding inwardOf
-returns c = rw (c .before .before .before .before .if1 .taken)
+returns c =
+    let t = c .before .before .before .before in
+    rw (counted (t .before) .kept-count .ensures, kept t)
 
 returns-2 : tie.Need-returns-2
 unfolding inwardOf
-returns-2 c = rw (c .if1 .left)
+returns-2 c =
+    let e = counted (c .before) .kept-count .ensures in
+    rw (e, rw e at (c .if1 .left))
 
 pub inward-spec : {M : Type 1} → statement M
 inward-spec =
     tie.close
     (tie.spec
     (λ c. search needs)
-    (λ c. search needs)
+    (λ c. record { fits = omega (arith, pass-dim (c .before .before .before .before .pre)) })
     (λ c. record { fits = omega (arith, pass-size (start1 c .pre)) })
     (λ c. pass-dim (start1 c .pre))
-    (λ c. record { fits = omega (arith, pass-parts (start1 (c .before) .pre), pass-extent (start1 (c .before) .pre)) })
+    (λ c. record { fits = omega (arith, pass-parts (start1 (c .before) .pre)) })
+    (λ c κs. let g = start1 (c .before) .pre in (g .row .good-source, (g .row .good-config, pass-source-dim g)))
     (λ c. search needs)
     (λ c. search needs)
-    (λ c. omega (arith, pass-parts (start1 (c .before .before) .pre)))
-    (λ c. pass-dim (start1 (c .before .before) .pre))
-    (λ c. record { fits = omega (arith, pass-parts (start2 c .pre), pass-extent (start2 c .pre)) })
-    (λ c. omega (arith, pass-parts (start2 c .pre)))
+    (λ c. record { fits = omega (arith, pass-extent (start1 (c .before .before .before) .pre)) })
+    (λ c. record { fits = omega (arith, pass-number (start2 c .pre)) })
+    (λ c. record { fits = pass-number (start2 c .pre) })
     (λ c. search needs)
     (λ c. search needs)
-    (λ c. record { fits = omega (arith, pass-extent (start2 (c .before) .pre)) })
-    (λ c. record { fits = omega (arith, pass-number (start2 (c .before .before) .pre)) })
-    (λ c. record { fits = pass-number (start2 (c .before .before) .pre) })
+    (λ c. record { fits = omega (arith, pass-offset (start2 (c .before) .pre)) })
+    (λ c. record { fits = omega (arith, pass-offset (start2 (c .before) .pre)) })
     (λ c. search needs)
-    (λ c. search needs)
-    (λ c. record { fits = omega (arith, pass-offset (start3 c .pre)) })
-    (λ c. record { fits = omega (arith, pass-offset (start3 c .pre)) })
-    (λ c. search needs)
-    (λ c. search needs)
-    (λ c. record { fits = omega (arith, pass-stride (start3 (c .before) .pre)) })
-    (λ c. record { fits = omega (arith, pass-place (start3 (c .before) .pre)) })
-    (λ c. record { fits = omega (arith, pass-to (start3 (c .before) .pre)) })
-    (λ c. record { fits = pass-to (start3 (c .before .before) .pre) })
-    (λ c. record { fits = omega (arith, pass-parts (start4 c .pre), pass-extent (start4 c .pre)) })
-    (λ c. pass-pre (start4 (c .before) .pre) (kept c))
-    (λ c. record { fits = omega (arith, pass-dim (start4 (c .before) .pre)) })
-    (λ c. pass-dim (start4 (c .before) .pre))
-    (λ c. record { fits = omega (arith, pass-dim (start4 (c .before .before) .pre)) })
-    (λ c. pass-dim (start4 (c .before .before) .pre))
-    (λ c. record { fits = omega (arith, pass-at (start5 c .pre) (kept (c .before .before))) })
-    (λ c. record { fits = omega (arith, pass-at (start5 c .pre) (kept (c .before .before))) })
-    (λ c. record { fits = omega (arith, pass-at (start5 c .pre) (kept (c .before .before))) })
-    (λ c. record { fits = omega (arith, pass-dim (start5 c .pre)) })
-    (λ c. pass-dim (start5 c .pre))
-    (λ c. record { fits = omega (arith, pass-source-stride (start5 (c .before) .pre)) })
-    (λ c. record { fits = omega (arith, pass-source (start5 (c .before) .pre) (kept (c .before .before .before))) })
-    (λ c. record { fits = omega (arith, pass-from (start5 (c .before) .pre) (kept (c .before .before .before))) })
-    (λ c. record { fits = pass-from (start5 (c .before .before) .pre) (kept (c .before .before .before .before)) })
+    (λ c. pass-four (start2 (c .before) .pre))
+    (λ c. record { fits = omega (arith, pass-stride (start2 (c .before .before) .pre)) })
+    (λ c. record { fits = omega (arith, pass-place (start2 (c .before .before) .pre)) })
+    (λ c. record { fits = omega (arith, pass-to (start2 (c .before .before) .pre)) })
+    (λ c. record { fits = pass-to (start2 (c .before .before .before) .pre) })
+    (λ c. record { fits = omega (arith, pass-parts (start3 c .pre), counted c .kept-count .ensures) })
+    (λ c. pass-pre (start3 (c .before) .pre) (kept c))
+    (λ c. record { fits = omega (arith, pass-dim (start3 (c .before) .pre)) })
+    (λ c. pass-dim (start3 (c .before) .pre))
+    (λ c. record { fits = omega (arith, pass-dim (start3 (c .before .before) .pre)) })
+    (λ c. pass-dim (start3 (c .before .before) .pre))
+    (λ c. record { fits = omega (arith, pass-at (start4 c .pre) (kept (c .before .before))) })
+    (λ c. record { fits = omega (arith, pass-at (start4 c .pre) (kept (c .before .before))) })
+    (λ c. record { fits = omega (arith, pass-at (start4 c .pre) (kept (c .before .before))) })
+    (λ c. record { fits = omega (arith, pass-dim (start4 c .pre)) })
+    (λ c. pass-dim (start4 c .pre))
+    (λ c. record { fits = omega (arith, pass-source-stride (start4 (c .before) .pre)) })
+    (λ c. record { fits = omega (arith, pass-source (start4 (c .before) .pre) (kept (c .before .before .before))) })
+    (λ c. record { fits = omega (arith, pass-from (start4 (c .before) .pre) (kept (c .before .before .before))) })
+    (λ c. record { fits = pass-from (start4 (c .before .before) .pre) (kept (c .before .before .before .before)) })
     returns
     returns-2)

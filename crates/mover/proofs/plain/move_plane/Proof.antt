@@ -1,13 +1,13 @@
 -- `mover::plain::move_plane` stores all the elements of an accepted move, and none of a refused one. Assumes nothing.
 use native.Mathlib.Omega.{arith}
-use mathlib.Core.Path.{_≡_, sym, ap}
+use mathlib.Core.Path.{sym}
 use lib.ListN.{length}
 use borrow.Author.Needs.{needs}
-use Rattle.plane.specs.declared.Answer.{Answer}
 use Rattle.plane.specs.Good.{GoodMove}
+use Rattle.mover.specs.declared.elements.Origin.the-variants.{Lent}
 use Rattle.mover.proofs.Laws.{moved-refused}
-use Rattle.mover.proofs.Judged.{judged-stopped, judged-move, judged-accepted}
-use Rattle.mover.proofs.WholeRows.{move-stands, move-before, move-stored, total-most}
+use Rattle.mover.proofs.Judged.{judged-stopped, judged-move}
+use Rattle.mover.proofs.WholeRows.{starts-before, move-stands, move-stored, total-most}
 use Rattle.mover.proofs.plain.move_plane.Statement.{statement}
 use Rattle.mover.proofs.plain.move_plane.Tie as tie
 
@@ -17,28 +17,23 @@ good c =
     let a = c .before .before .before .before .before .args in
     judged-move (a .t) (a .config) _ _ (c .before .before .judge .ensures) (c .if1 .taken)
 
-rank : (c : tie.Then1) → c .before .before .judge .result .rank ≡ c .before .before .before .before .before .args .t .rank
-rank c =
-    let a = c .before .before .before .before .before .args in
-    ap (λ (x : Answer). x .rank) (judged-accepted (a .t) (a .config) _ _ (c .before .before .judge .ensures) (c .if1 .taken) .1)
-
 store-row-requires : tie.Need-store-row-requires
 store-row-requires c κs =
     let i = c .before .before in
     let a = i .before .before .before .before .before .args in
-    let g = good i in (
-      move-stands (a .t) (a .config) (a .src .now) (a .dst .now) g (rank i) (c .whole .ensures),
-      move-before (a .t) (a .config) (a .src .now) (a .dst .now) g (rank i) (c .whole .ensures) 18446744073709551615 (omega arith),
+    rw (c .before .outermost .ensures) (
+      move-stands (a .t) (a .config) (a .src .now) (a .dst .now) (good i),
+      starts-before (a .t) (a .config) Lent 0 0 18446744073709551615 (omega arith),
     )
 
 returns : tie.Need-returns
 returns c =
     let r = c .before .before in
-    let i = r .before .before .before in
+    let o = r .before .before in
+    let i = o .before in
     let a = i .before .before .before .before .before .args in (
       i .before .before .judge .ensures,
-      move-stored (a .t) (a .config) (a .src .now) (a .dst .now) (good i) (rank i) (r .before .whole .ensures) 18446744073709551615
-          (total-most (good i)) (r .store-row .ensures .1),
+      move-stored (a .t) (a .config) (a .src .now) (a .dst .now) (good i) 18446744073709551615 (total-most (good i)) (o .outermost .ensures) (r .store-row .ensures .1),
     )
 
 returns-2 : tie.Need-returns-2

@@ -5,13 +5,14 @@ use mathlib.Core.Path.{_≡_, refl, ap, _∙_}
 use lib.ListN.{length, take}
 use lib.Seq.{sets}
 use Rattle.plane.proofs.Bounds.{element-small}
-use Rattle.mover.specs.Private.Rows.{sourceIn, sizeOf, rowBytes}
-use Rattle.mover.proofs.Storing.{still-long, byte-next, stored-long, stored-all}
+use Rattle.mover.specs.Private.Rows.{sizeOf, rowBytes}
+use Rattle.mover.proofs.Places.{still-held}
+use Rattle.mover.proofs.Storing.{byte-next, stored-long, stored-all}
 use Rattle.mover.proofs.plain.store.Statement.{statement}
 use Rattle.mover.proofs.plain.store.Tie as tie
 
 abbrev Inv-loop : tie.InvT-loop
-Inv-loop src dst₀ row b₀ b-end dst b = (b ≤ sizeOf row) × (dst ≡ sets dst₀ (row .place) (take b (rowBytes row (sourceIn src dst₀))))
+Inv-loop src dst₀ row b₀ b-end dst b = (b ≤ sizeOf row) × (dst ≡ sets dst₀ (row .place) (take b (rowBytes row src dst₀)))
 
 abbrev μ-loop : tie.MeasureT-loop
 μ-loop src dst₀ row b₀ b-end dst b = sizeOf row - b
@@ -28,7 +29,7 @@ byte-requires c κs =
     let h = c .before .loop-test .taken in
     let g = s .pre in (
       omega (arith, small s, h),
-      λ k. still-long (a .src .now) (a .dst .now) (l .dst) (ap length (l .inv .1) ∙ stored-long (a .row) (a .src .now) (a .dst .now) g (l .b)) (omega (arith, g .source k, h)),
+      λ k. still-held (a .row .origin) (a .src .now) (a .dst .now) (l .dst) (ap length (l .inv .1) ∙ stored-long (a .row) (a .src .now) (a .dst .now) g (l .b)) (omega (arith, g .source k, h)),
     )
 
 loop-again : tie.Need-loop-again Inv-loop μ-loop
@@ -54,7 +55,7 @@ returns c =
     let a = s .args in
     let e : c .before .loop .b ≡ sizeOf (a .row) = omega (arith, c .before .loop .inv .0, c .loop-test .left) in
     c .before .loop .inv .1 ∙
-    ap (λ (n : ℕ). sets (a .dst .now) (a .row .place) (take n (rowBytes (a .row) (sourceIn (a .src .now) (a .dst .now))))) e ∙
+    ap (λ (n : ℕ). sets (a .dst .now) (a .row .place) (take n (rowBytes (a .row) (a .src .now) (a .dst .now)))) e ∙
     stored-all (a .row) (a .src .now) (a .dst .now) (s .pre)
 
 pub store-spec : {M : Type 1} → statement M
