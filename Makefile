@@ -1,6 +1,6 @@
-# make show: the main job on an example. make test: the gate.
+# make show: the main job on an example. make test: the gate. make numbers: what each number of refusal means.
 # make compare N=.. SEED=..: random calls against the second program. make seeded: faults that the comparison must find.
-.PHONY: show test compare seeded programs kit cargo
+.PHONY: show test numbers compare seeded programs kit cargo
 
 N ?= 20000
 SEED ?= 1
@@ -13,6 +13,10 @@ show: kit
 
 test:
 	@bash .ci/run
+
+# README's table of numbers, as plain lines.
+numbers:
+	@sed -nE 's/^\| ([0-9]+) \| (.*) \|$$/\1 \2/p' README.md | grep . || { echo "README.md has no table of numbers."; exit 1; }
 
 compare: cargo programs
 	@scripts/compare $(N) $(SEED)

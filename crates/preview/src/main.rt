@@ -1,6 +1,7 @@
 // preview: a small picture becomes a thumbnail and a turned picture, and colour and alpha become one plane. A program to copy from:
 // first a whole move between two lent slices, then two planes joined by two moves, then two transfers that take turns over one memory,
-// then the same two moves as a list of records, written and gone through, and at last a record by itself, of a thumbnail in a frame.
+// then the same two moves as a list of records, written and gone through, then a record by itself, of a thumbnail in a frame, and at last
+// a record that asks for more than anybody would lend.
 use libc::STDOUT_FILENO;
 use plane::Config;
 use plane::Tensor;
@@ -24,6 +25,8 @@ const SMALL_AT: usize = PICTURE;
 const TURNED_AT: usize = SMALL_AT + SMALL;
 
 const MEMORY: usize = TURNED_AT + PICTURE;
+
+const MOST: usize = MEMORY; // bytes that are lent to one move at the most, whatever its record asks for
 
 const BUDGET: u64 = 4; // elements that one step may move
 
@@ -99,7 +102,7 @@ fn print_byte(byte: u8, is_last: bool) {
     io::write_all(STDOUT_FILENO, b" ");
 }
 
-// A plane of bytes, a row a line.
+// A plane of bytes without gaps, a row a line.
 fn print_plane(bytes: &[u8], width: u32) {
     for i in 0..bytes.len() {
         print_byte(bytes[i], ends_row(i, width as usize));
@@ -117,15 +120,15 @@ fn move_and_print(t: Tensor, c: Config, source: &[u8], room: &mut [u8]) {
     print_plane(room, answer.extent[1]);
 }
 
-// The same into the start of a buffer. The room question comes first: it refuses what the move would refuse whatever is lent, and
-// tells how many bytes to lend.
+// The same into the start of a buffer. The limit comes first, since a stranger's record may ask for any room: what needs more than
+// MOST is refused with 13, and what the move would refuse with its number. Of the rest n is the need, just what is lent.
 fn move_into(t: Tensor, c: Config, source: &[u8], buffer: &mut [u8]) {
-    let asked = plane::room(t, c);
-    if asked.answer.status != 0 {
-        print_status(b"refused", asked.answer.status);
+    let asked = plane::judge(t, c, source.len(), MOST);
+    if asked.status != 0 {
+        print_status(b"refused", asked.status);
         return;
     }
-    let n = asked.answer.need as usize;
+    let n = asked.need as usize;
     if buffer.len() < n {
         print_status(b"refused", 13);
         return;
@@ -268,11 +271,27 @@ fn framed() -> Config {
     small.with_pre([1, 1, 0, 0]).with_post([1, 1, 0, 0])
 }
 
-// Writes the record of the framed thumbnail into the room, which has to be just as long as the record is, reads it, and makes its move.
-fn write_and_move(room: &mut [u8], source: &[u8], buffer: &mut [u8]) {
-    let f = record::write(picture(), framed(), room);
+// Writes a record into the room, which has to be just as long as the record is, reads it, and makes its move.
+fn write_and_move(t: Tensor, c: Config, room: &mut [u8], source: &[u8], buffer: &mut [u8]) {
+    let f = record::write(t, c, room);
     print_status(b"written", f.status);
     move_read(record::read(room), source, buffer);
+}
+
+// A plane of one pixel, of four bytes.
+fn pixel() -> Tensor {
+    Tensor {
+        rank: 1,
+        element_size: 4,
+        shape: [1, 0, 0, 0],
+        stride: [0; 4],
+    }
+}
+
+// Sets it far behind in a larger plane: the need is (1 + 65,534 x 2,147,483,647) x 4, which are 562,932,773,289,996 bytes.
+fn far() -> Config {
+    let set = ready_made::concatenate(1, [65534, 0, 0, 0], [2147483647, 0, 0, 0]);
+    set.config
 }
 
 fn main() {
@@ -291,6 +310,8 @@ fn main() {
     print_status(b"started", list::start(&mut burst));
     append_both(&mut burst);
     move_listed(&burst, &pixels, &mut mem);
-    let mut alone = [0u8; record::FILLED_LENGTH];
-    write_and_move(&mut alone, &pixels, &mut mem);
+    let mut filled = [0u8; record::FILLED_LENGTH];
+    write_and_move(picture(), framed(), &mut filled, &pixels, &mut mem);
+    let mut alone = [0u8; record::LENGTH];
+    write_and_move(pixel(), far(), &mut alone, &pixels, &mut mem);
 }
