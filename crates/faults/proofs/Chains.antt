@@ -10,7 +10,7 @@ use borrow.Author.Tests.{eqb-false}
 use lib.Dec.{eqb}
 use Rattle.faults.specs.declared.Fault.{Fault}
 use Rattle.faults.specs.Faults.{none, fault, when, _orElse_, first, lowest, outward, Rules, overall, fromFirst, fromLast, _then_, firstFault}
-use Rattle.faults.specs.Exactness.{Positive, Unbroken, Given, Exact}
+use Rattle.faults.specs.Exactness.{Positive, Unbroken, Given, Exact, RulesExact}
 use Rattle.faults.proofs.Bools.{either-clear, both-first, both-second}
 use Rattle.faults.proofs.Faults.{status, is-fault, or-none, or-found, first-at, first-zero, when-bad, when-good, when-zero}
 
@@ -126,7 +126,7 @@ module _
           subst (λ (k : ℕ). Given rs num k) y (subst (λ (k : ℕ). Given rs k (g .1)) x (g .2))
 
 -- the fault itself: where no rule is broken it is `none`
-pub exact-fault : (rs : Rules) → Positive rs → Exact rs (firstFault rs .status) (firstFault rs .dim)
+pub exact-fault : RulesExact
 exact-fault rs p = exact rs p refl plain (λ h. refl)
   where
     plain : firstFault rs .status ≡ 0 → firstFault rs .dim ≡ 0

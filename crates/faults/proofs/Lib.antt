@@ -1,5 +1,4 @@
--- Laws that the crates above cite: a list of rules comes to the first fault of several, and so an answer is exact (Chains); a contract
--- that is an equation decides its outcome (Deciding).
+-- Laws that the crates above cite: what rules give is exact (Chains); a contract that is an equation decides its outcome (Deciding).
 pub mod Chains
 pub mod Deciding
 pub mod Faults

@@ -3,7 +3,7 @@ use Prim.Native.Nat.{ℕ, _<_}
 use mathlib.Core.Path.{_≡_}
 use mathlib.Core.Logic.{_⊎_, _↔_}
 use mathlib.Core.Bool.{true, false}
-use Rattle.faults.specs.Faults.{Rules, overall, fromFirst, fromLast, _then_}
+use Rattle.faults.specs.Faults.{Rules, overall, fromFirst, fromLast, _then_, firstFault}
 
 -- every number is above 0
 abbrev pub Positive : Rules → Type 0
@@ -33,3 +33,7 @@ pub record Exact (rs : Rules) (number dim : ℕ) : Type 0 where
   -- an accepted answer names dimension 0
   pub plain : number ≡ 0 → dim ≡ 0
   pub gives : (num d : ℕ) → 0 < num → ((number ≡ num) × (dim ≡ d)) ↔ Given rs num d
+
+-- what the first broken of any rules gives is exact
+abbrev pub RulesExact : Type 0
+RulesExact = (rs : Rules) → Positive rs → Exact rs (firstFault rs .status) (firstFault rs .dim)

@@ -10,16 +10,16 @@ use Rattle.mover.specs.Moved.{moveMemory}
 use Rattle.joins.specs.Claims.{setConfig, Settable, Joinable, afterBoth}
 
 -- a plane of bytes with all strides 0: rank, shape
-abbrev pub compact : ℕ → List ℕ → Tensor
-compact n shape = record { rank = n; «element_size» = 1; shape = shape; stride = zeros }
+abbrev pub bytePlane : ℕ → List ℕ → Tensor
+bytePlane n shape = record { rank = n; «element_size» = 1; shape = shape; stride = zeros }
 
 -- ---- 2 x 2 set into the right half of two rows of four
 
 abbrev pub square : Tensor
-square = compact 2 (2 ∷ 2 ∷ 0 ∷ 0 ∷ [])
+square = bytePlane 2 (2 ∷ 2 ∷ 0 ∷ 0 ∷ [])
 
 abbrev pub rows : Tensor
-rows = compact 2 (2 ∷ 4 ∷ 0 ∷ 0 ∷ [])
+rows = bytePlane 2 (2 ∷ 4 ∷ 0 ∷ 0 ∷ [])
 
 abbrev pub right : List ℕ
 right = 0 ∷ 2 ∷ 0 ∷ 0 ∷ []
@@ -30,10 +30,10 @@ squareBytes = 5 ∷ 6 ∷ 7 ∷ 8 ∷ []
 -- ---- 2 x 2 pixels of three colours, and their alpha, joined along channels; the digits of a byte are its pixel and its channel
 
 abbrev pub colour : Tensor
-colour = compact 3 (2 ∷ 2 ∷ 3 ∷ 0 ∷ [])
+colour = bytePlane 3 (2 ∷ 2 ∷ 3 ∷ 0 ∷ [])
 
 abbrev pub alpha : Tensor
-alpha = compact 3 (2 ∷ 2 ∷ 1 ∷ 0 ∷ [])
+alpha = bytePlane 3 (2 ∷ 2 ∷ 1 ∷ 0 ∷ [])
 
 abbrev pub joinedStrides : List ℕ
 joinedStrides = 8 ∷ 4 ∷ 1 ∷ 0 ∷ []

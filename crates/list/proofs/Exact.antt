@@ -1,5 +1,5 @@
--- Each refusal in its exact case and order, as in plane's file of this name. A refused
--- reading is zeros besides its number, a refused append tells length 0, and a refused call leaves the buffer. Assumes nothing.
+-- Each refusal in its exact case and order, as in plane's file of this name. A refused reading is zeros besides its number, a refused
+-- append tells length 0, and a refused call leaves the buffer. Assumes nothing.
 use Prim.Native.Nat.{ℕ, _<_, _≤_}
 use native.Mathlib.Omega.{arith}
 use mathlib.Core.Path.{_≡_, refl, sym, ap, _∙_}

@@ -36,7 +36,11 @@ abbrev pub badCount : List ℕ → Bool
 badCount bs = not (eqb (length bs) (listLength (countIn bs)))
 
 abbrev pub listRules : List ℕ → Rules
-listRules bs = overall 25 (badHead bs) then overall 26 (badListMark bs) then overall 27 (badListVersion bs) then overall 30 (badCount bs)
+listRules bs =
+    overall 25 (badHead bs) then
+    overall 26 (badListMark bs) then
+    overall 27 (badListVersion bs) then
+    overall 30 (badCount bs)
 
 unfoldable pub listFault : List ℕ → Fault
 listFault bs = firstFault (listRules bs)

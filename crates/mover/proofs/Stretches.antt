@@ -13,7 +13,7 @@ use borrow.Author.Tests.{lt-ltb, le-ltb, ltb-true, ltb-false}
 use Rattle.plane.specs.declared.Tensor.{Tensor}
 use Rattle.plane.specs.declared.Config.{Config}
 use Rattle.plane.specs.declared.Answer.{Answer}
-use Rattle.plane.specs.Arrays.{at, sum, product}
+use Rattle.plane.specs.Arrays.{at, product}
 use Rattle.plane.specs.Numbers.{little}
 use Rattle.plane.specs.Moves.{accepted}
 use Rattle.plane.proofs.Arrays.{product-same}
@@ -28,7 +28,7 @@ use Rattle.mover.specs.Element.{areKept, sourcePlace, place, padded, ele
 use Rattle.mover.specs.Moved.{extentAt, total, perStep, coordOf, stored, moved}
 use Rattle.mover.specs.Private.Elements.{sourceBytes}
 use Rattle.mover.specs.Private.Runs.{BytesApart}
-use Rattle.mover.specs.Private.Rows.{sizeOf, rowBytes, Storable, inwardOf, elementsIn, firstOf, pastOf, coordTo, sourceTerm, placeTerm, RowOf, Passable, Stands, stretchIn, Comes}
+use Rattle.mover.specs.Private.Rows.{sizeOf, rowBytes, Storable, inwardOf, elementsIn, firstOf, pastOf, RowOf, Passable, Stands, stretchIn, Comes}
 use Rattle.mover.proofs.Bytes.{pick-same}
 use Rattle.mover.proofs.Laws.{moved-length}
 use Rattle.mover.proofs.Parts.{sets-middle, bytes-within, part-other}
@@ -36,7 +36,7 @@ use Rattle.mover.proofs.Places.{apart-part, still-held}
 use Rattle.mover.proofs.Stored.{length-element}
 use Rattle.mover.proofs.Rows.{its-extent, extent-small, inward-row, to-fits, from-fits}
 
--- ---- how many elements lie elementsIn w row
+-- ---- how many elements a row has
 
 product-front : (l : ℕ) (f : ℕ → ℕ) → product (suc l) f ≡ f 0 * product l (λ k. f (suc k))
 unfolding product

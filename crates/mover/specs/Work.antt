@@ -34,7 +34,7 @@ JobWork = (n : ℕ) (j : Job) → verdictOf n j .status ≡ 0 → (totalOf j ≤
 unfoldable pub differing : List ℕ → List ℕ → ℕ
 differing m e = howMany (length m) (λ k. not (eqb (at m k) (at e k)))
 
--- for a budget n elements of so many bytes are reported, and the memory m has become e
+-- for this budget n elements of `size` bytes each are reported, and the memory m has become e
 pub record Paid (budget n size : ℕ) (m e : List ℕ) : Type 0 where
   pub few : n ≤ budget
   -- it is as long as it was, and no more of its bytes differ than those elements have

@@ -38,27 +38,27 @@ fn source_length(src: &[u8], dst: &[u8], origin: Origin) -> usize
     }
 }
 
-// Whether n pairs of bytes from `at` on lie in `room` bytes.
-fn are_pairs(room: usize, at: usize, n: usize) -> bool
-    ensures { λ r. ⌜ (r ≡ true → at + n + n ≤ room) ⌝ }
+// Whether n pairs of bytes from `at` on lie in `len` bytes.
+fn are_pairs(len: usize, at: usize, n: usize) -> bool
+    ensures { λ r. ⌜ (r ≡ true → at + n + n ≤ len) ⌝ }
 {
-    if at <= room {
-        if n <= room - at {
-            return n <= room - at - n;
+    if at <= len {
+        if n <= len - at {
+            return n <= len - at - n;
         }
     }
     false
 }
 
 // How many of n pairs do: all, or all but the last, or it is not looked further.
-fn pairs_in(room: usize, at: usize, n: usize) -> usize
-    ensures { λ r. ⌜ (r ≤ n) × (0 < r → at + r + r ≤ room) ⌝ }
+fn pairs_in(len: usize, at: usize, n: usize) -> usize
+    ensures { λ r. ⌜ (r ≤ n) × (0 < r → at + r + r ≤ len) ⌝ }
 {
-    if are_pairs(room, at, n) {
+    if are_pairs(len, at, n) {
         return n;
     }
     if 0 < n {
-        if are_pairs(room, at, n - 1) {
+        if are_pairs(len, at, n - 1) {
             return n - 1;
         }
     }

@@ -140,8 +140,7 @@ fn outermost(t: Tensor, config: Config, origin: Origin, at: usize, place: usize)
     }
 }
 
-// Moves the plane t from src into dst as config says, and answers; a refused move (1 to 13) changes nothing. No element has so high a
-// number as the end here.
+// Moves the plane t from src into dst as config says, and answers; a refused move (1 to 13) changes nothing.
 pub fn move_plane(t: Tensor, config: Config, src: &[u8], dst: &mut [u8]) -> plane::Answer
     ensures answered { λ r. ⌜ r ≡ judgeOf t config (length (now (src .entry))) (length (now (dst .entry))) ⌝ }
     ensures written { λ r. ⌜ now (dst .exit) ≡ moveMemory t config (now (src .entry)) (now (dst .entry)) ⌝ }
@@ -149,7 +148,7 @@ pub fn move_plane(t: Tensor, config: Config, src: &[u8], dst: &mut [u8]) -> plan
     let a = plane::judge(t, config, src.len(), dst.len());
     if a.status == 0 {
         let row = outermost(t, config, Origin::Lent, 0, 0);
-        store_row(src, dst, row, t.rank, 0, u64::MAX);
+        store_row(src, dst, row, t.rank, 0, u64::MAX); // the end is above every number
     }
     a
 }

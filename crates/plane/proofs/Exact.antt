@@ -1,5 +1,5 @@
--- Each refusal in its exact case and order: every answer is exact (`Exact`) for the rules of its call, and a refused
--- answer is zeros besides. Assumes nothing.
+-- Each refusal in its exact case and order: every answer is exact (`Exact`) for the rules of its call, and a refused answer is zeros
+-- besides. Assumes nothing.
 use Prim.Native.Nat.{ℕ}
 use native.Mathlib.Decide.{ℕ-discrete}
 use native.Mathlib.Omega.{arith}

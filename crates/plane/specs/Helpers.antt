@@ -73,6 +73,7 @@ rankRules t s =
 unfoldable pub rankFault : Tensor → SubConfig → Fault
 rankFault t s = firstFault (rankRules t s)
 
+-- 1 to 5, 7, 8, 14, 15
 abbrev pub subRules : Tensor → SubConfig → ℕ → Rules
 subRules t s srcLen =
     sourceRules t then

@@ -1,5 +1,5 @@
--- Each refusal in its exact case and order, as in plane's file of this name. A refused
--- reading is zeros besides, a refused write leaves the room as it was. Assumes nothing.
+-- Each refusal in its exact case and order, as in plane's file of this name. A refused reading is zeros besides, a refused write leaves
+-- the room as it was. Assumes nothing.
 use native.Mathlib.Omega.{arith}
 use mathlib.Core.Path.{refl, sym, ap, _∙_}
 use Rattle.faults.specs.Faults.{fault}

@@ -75,6 +75,7 @@ fieldsRules v t c =
 unfoldable pub fieldsFault : ℕ → Tensor → Config → Fault
 fieldsFault v t c = firstFault (fieldsRules v t c)
 
+-- 25, 26, 27, and those of the fields
 abbrev pub readRules : List ℕ → Rules
 readRules bs =
     overall 25 (badLength (length bs)) then
@@ -85,7 +86,7 @@ readRules bs =
 unfoldable pub readFault : List ℕ → Fault
 readFault bs = firstFault (readRules bs)
 
--- for a room of n bytes
+-- for a room of n bytes: 25, and those of the fields
 abbrev pub writeRules : Tensor → Config → ℕ → Rules
 writeRules t c n = overall 25 (badRoom c n) then fieldsRules (versionFor c) t c
 

@@ -1,5 +1,5 @@
--- Each refusal in its exact case and order, as in plane's file of this name. A refused call
--- hands back the table that it was given, with zeros besides, and leaves the memory as it was. Assumes nothing.
+-- Each refusal in its exact case and order, as in plane's file of this name. A refused call hands back the table that it was given,
+-- with zeros besides, and leaves the memory as it was. Assumes nothing.
 use Prim.Native.Nat.{ℕ}
 use native.Mathlib.Decide.{ℕ-discrete, decLt}
 use native.Mathlib.Omega.{arith}

@@ -20,7 +20,7 @@ use Rattle.transfers.specs.Slots.{freeSlot, freshTable, slotAt, withSlot
 
 -- ---- fresh
 
--- 17
+-- 17: a length above the limit
 abbrev pub freshRules : ℕ → Rules
 freshRules n = overall 17 (ltb limit n)
 

@@ -24,7 +24,7 @@ pub mod ways;
 /// All cases of a call by its number, and those that a call is by its bytes and what it has to be answered.
 pub type Topic = (fn(u8) -> Vec<String>, fn(&[u8], &[u8]) -> Vec<String>);
 
-const TOPICS: [Topic; 9] = [
+const TOPICS: &[Topic] = &[
     (sizes::cases, sizes::met),
     (counts::cases, counts::met),
     (offsets::cases, offsets::met),

@@ -1,4 +1,4 @@
--- Arrays that leaves hand back: a list made of what stands elsewhere, and in what order.
+-- Arrays as arrays.rt and shuffles.rt hand them back: a list made of what stands elsewhere, and in what order.
 use mathlib.Core.List.{List, [], _∷_, _++_}
 use Prim.Native.Nat.{ℕ, zero, suc, _+_, _*_, _/_, _%_}
 use lib.ListN.{getD}
