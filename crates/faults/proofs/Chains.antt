@@ -21,7 +21,7 @@ unfolding first
 first-none zero f h = refl
 first-none (suc n) f h = or-none _ _ (status (first-none n f (λ k q. h k (omega arith)))) ∙ h n (omega arith)
 
-unbroken-none : (rs : Rules) → Unbroken rs → firstFault rs ≡ none
+pub unbroken-none : (rs : Rules) → Unbroken rs → firstFault rs ≡ none
 unfolding lowest outward
 unbroken-none (overall num bad) h = when-good num 0 bad h
 unbroken-none (fromFirst num n bad) h = first-none n _ (λ k q. when-good num k (bad k) (h k q))
@@ -135,6 +135,13 @@ exact-fault rs p = exact rs p refl plain (λ h. refl)
         (λ k. ap (λ (x : Fault). x .dim) (unbroken-none rs k))
         (λ g. absurd (is-fault (g .0) (g .1) (given-positive rs _ _ p (g .2)) (given-fault rs (g .0) (g .1) p (g .2)) z))
         (unbroken-or-given rs)
+
+-- what acceptance tells, and what is enough for it
+pub unbroken : (rs : Rules) → Positive rs → firstFault rs .status ≡ 0 → Unbroken rs
+unbroken rs p z = exact-fault rs p .accepts .0 z
+
+pub unbroken-accepts : (rs : Rules) → Unbroken rs → firstFault rs .status ≡ 0
+unbroken-accepts rs u = status (unbroken-none rs u)
 
 -- rules of the whole name dimension 0
 abbrev pub areOverall : Rules → Bool

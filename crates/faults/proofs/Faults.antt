@@ -122,24 +122,9 @@ pub lowest-clear : (num n : ℕ) (bad : ℕ → Bool) (d : ℕ) → 0 < num → 
 unfolding lowest
 lowest-clear num n bad d p e h = when-clear num d (bad d) p (first-clear n d (λ (k : ℕ). when num k (bad k)) e h)
 
-pub lowest-zero : (num n : ℕ) (bad : ℕ → Bool) → ((d : ℕ) → d < n → bad d ≡ false) → lowest num n bad .status ≡ 0
-unfolding lowest
-lowest-zero num n bad h = first-zero n _ (λ k q. when-zero num k (bad k) (h k q))
-
 pub lowest-same : (num n : ℕ) (f g : ℕ → Bool) → ((d : ℕ) → d < n → f d ≡ g d) → lowest num n f ≡ lowest num n g
 unfolding lowest
 lowest-same num n f g h = first-same n _ _ (λ k q. ap (when num k) (h k q))
-
-pub outward-clear : (num n : ℕ) (bad : ℕ → Bool) (d : ℕ) → 0 < num → outward num n bad .status ≡ 0 → d < n → bad d ≡ false
-unfolding outward
-outward-clear num n bad d p e h =
-    let b : n - suc (n - suc d) ≡ d = omega arith in
-    rw b at (when-clear num (n - suc (n - suc d)) (bad (n - suc (n - suc d))) p
-    (first-clear n (n - suc d) (λ (k : ℕ). when num (n - suc k) (bad (n - suc k))) e (omega arith)))
-
-pub outward-zero : (num n : ℕ) (bad : ℕ → Bool) → ((d : ℕ) → d < n → bad d ≡ false) → outward num n bad .status ≡ 0
-unfolding outward
-outward-zero num n bad h = first-zero n _ (λ k q. when-zero num (n - suc k) (bad (n - suc k)) (h (n - suc k) (omega arith)))
 
 pub outward-same : (num n : ℕ) (f g : ℕ → Bool) → ((d : ℕ) → d < n → f d ≡ g d) → outward num n f ≡ outward num n g
 unfolding outward

@@ -11,14 +11,14 @@ use lib.Dec.{ltb, eqb}
 use lib.ListN.{length}
 use Rattle.faults.specs.declared.Fault.{Fault}
 use Rattle.faults.specs.Faults.{fault, none, when, ifFault}
-use Rattle.faults.proofs.Faults.{given, spared, if-fault, if-none, when-bad, when-good, when-zero, when-clear, or-clear}
-use Rattle.faults.proofs.Chains.{overall-dim}
+use Rattle.faults.proofs.Faults.{given, spared, if-fault, if-none, when-bad, when-good, when-zero}
+use Rattle.faults.proofs.Chains.{unbroken, overall-dim}
 use Rattle.plane.specs.Arrays.{at}
 use Rattle.record.specs.Layout.{recordLength}
 use Rattle.record.specs.Records.{readOf}
 use Rattle.record.proofs.Digits.{number-two}
 use Rattle.list.specs.Layout.{listHeadLength, versionPlace, listVersion, listLength}
-use Rattle.list.specs.Lists.{countIn, badHead, badListMark, badListVersion, badCount, listRules, listFault, recordCount, recordIn, numberFault, noNumber, noRecord, recordAt, placeAfter}
+use Rattle.list.specs.Lists.{countIn, badListMark, badListVersion, badCount, listRules, listFault, recordCount, recordIn, numberFault, noNumber, noRecord, recordAt, placeAfter}
 
 -- ---- the head
 
@@ -76,14 +76,8 @@ pub record Good (bs : List ℕ) : Type 0 where
 pub good : (bs : List ℕ) → listFault bs .status ≡ 0 → Good bs
 unfolding listFault
 good bs z =
-    let x = or-clear (when 25 0 (badHead bs)) _ z in
-    let y = or-clear (when 26 0 (badListMark bs)) _ (x .1) in
-    let w = or-clear (when 27 0 (badListVersion bs)) _ (y .1) in record {
-      head = ltb-false _ _ (when-clear 25 0 (badHead bs) (omega arith) (x .0));
-      mark = when-clear 26 0 (badListMark bs) (omega arith) (y .0);
-      version = when-clear 27 0 (badListVersion bs) (omega arith) (w .0);
-      long = eqb-true _ _ (not-false _ (when-clear 30 0 (badCount bs) (omega arith) (w .1)));
-    }
+    let u = unbroken (listRules bs) (omega arith) z in
+    record { head = ltb-false _ _ (u .0); mark = u .1 .0; version = u .1 .1 .0; long = eqb-true _ _ (not-false _ (u .1 .1 .1)) }
 
 -- ---- the records
 

@@ -8,6 +8,7 @@ use lib.Dec.{eqb}
 use lib.ListN.{length}
 use Rattle.faults.specs.declared.Fault.{Fault}
 use Rattle.faults.specs.Faults.{fault}
+use Rattle.faults.proofs.Chains.{unbroken}
 use Rattle.faults.proofs.Faults.{status, or-clear, or-zero, when-bad, when-clear, when-zero, passed, stopped}
 use Rattle.plane.specs.declared.Tensor.{Tensor}
 use Rattle.plane.specs.declared.Config.{Config}
@@ -15,7 +16,7 @@ use Rattle.record.specs.Layout.{recordLength, lengthOf, versionFor}
 use Rattle.record.specs.Records.{recordBytes, badRoom, fieldsFault, writeFault}
 use Rattle.record.proofs.Laying.{length-record}
 use Rattle.record.proofs.Lengths.{version-plain, version-filled}
-use Rattle.list.specs.Writers.{memberFault}
+use Rattle.list.specs.Writers.{memberRules, memberFault}
 
 module _ (t : Tensor) (c : Config) where
   -- ---- as the code comes to it
@@ -39,7 +40,7 @@ module _ (t : Tensor) (c : Config) where
   module _ (z : memberFault t c .status ≡ 0) where
     pub no-fill : c .fill ≡ 0
     unfolding memberFault fieldsFault
-    no-fill = eqb-true (c .fill) 0 (not-false _ (when-clear 27 0 _ (omega arith) (or-clear _ _ z .1)))
+    no-fill = eqb-true (c .fill) 0 (not-false _ (unbroken (memberRules t c) (omega arith) z .1))
 
     pub version-one : versionFor c ≡ 1
     version-one = version-plain c no-fill

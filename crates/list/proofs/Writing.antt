@@ -12,7 +12,8 @@ use lib.ListN.{length, take, drop, length-drop}
 use lib.Seq.{sets, sets-eq, length-take-le}
 use Rattle.faults.specs.declared.Fault.{Fault}
 use Rattle.faults.specs.Faults.{fault, when, _orElse_}
-use Rattle.faults.proofs.Faults.{status, is-fault, given, spared, passed, stopped, if-fault, if-none, or-clear, when-bad, when-good, when-clear}
+use Rattle.faults.proofs.Chains.{unbroken, unbroken-accepts}
+use Rattle.faults.proofs.Faults.{status, is-fault, given, spared, passed, stopped, if-fault, if-none, when-bad, when-good}
 use Rattle.plane.specs.declared.Tensor.{Tensor}
 use Rattle.plane.specs.declared.Config.{Config}
 use Rattle.plane.specs.Numbers.{little, number}
@@ -22,8 +23,8 @@ use Rattle.record.proofs.Answers.{write-fields, room-written}
 use Rattle.record.proofs.Parts.{part-part}
 use Rattle.list.specs.declared.Appended.{Appended}
 use Rattle.list.specs.Layout.{listHeadLength, countPlace, most, listHead}
-use Rattle.list.specs.Lists.{countIn, listFault, recordCount}
-use Rattle.list.specs.Writers.{startFault, startedBuffer, memberFault, appendFault, noAppend, appendOf, appendedBuffer}
+use Rattle.list.specs.Lists.{countIn, listRules, listFault, recordCount}
+use Rattle.list.specs.Writers.{startFault, startedBuffer, memberRules, memberFault, appendRules, appendFault, noAppend, appendOf, appendedBuffer}
 use Rattle.list.proofs.Answers.{list-plain, good, count-given}
 use Rattle.list.proofs.Members.{version-one, member-length, member-written}
 
@@ -75,18 +76,15 @@ module _ (buffer : List ℕ) (n : ℕ) (t : Tensor) (c : Config) where
 
   -- an append that is accepted is behind a list
   pub append-behind : appendFault buffer n t c .status ≡ 0 → (n ≤ length buffer) × (listFault (take n buffer) .status ≡ 0)
-  unfolding appendFault listFault memberFault
+  unfolding appendFault listFault
   append-behind z =
-      let x = or-clear (when 25 0 (ltb (length buffer) n)) _ z in
-      (ltb-false (length buffer) n (when-clear 25 0 _ (omega arith) (x .0)), or-clear (listFault (take n buffer)) _ (x .1) .0)
+      let u = unbroken (appendRules buffer n t c) (omega arith) z in
+      (ltb-false (length buffer) n (u .0), unbroken-accepts (listRules (take n buffer)) (u .1 .0))
 
   -- and its fields are such as a list takes
   pub append-member : appendFault buffer n t c .status ≡ 0 → memberFault t c .status ≡ 0
-  unfolding appendFault listFault memberFault
-  append-member z =
-      let x = or-clear (when 25 0 (ltb (length buffer) n)) _ z .1 in
-      let y = or-clear (when 37 0 (eqb (recordCount (take n buffer)) most)) _ (or-clear (listFault (take n buffer)) _ x .1) .1 in
-      or-clear (when 38 0 (ltb (length buffer - n) recordLength)) _ y .1
+  unfolding appendFault memberFault
+  append-member z = unbroken-accepts (memberRules t c) (unbroken (appendRules buffer n t c) (omega arith) z .1 .1 .1 .1)
 
   -- ---- as the code comes to it
 

@@ -7,25 +7,25 @@ use mathlib.Core.Bool.{true, false}
 use mathlib.Core.List.{List}
 use lib.ListN.{length, drop, length-drop}
 use lib.Seq.{sets, length-take-le}
-use Rattle.plane.specs.Planes.{sourceFault}
 use Rattle.plane.specs.declared.Tensor.{Tensor}
 use Rattle.plane.specs.declared.Config.{Config}
 use Rattle.faults.specs.declared.Fault.{Fault}
 use Rattle.plane.specs.declared.Answer.{Answer}
 use Rattle.plane.specs.Arrays.{at, product}
 use Rattle.faults.specs.Faults.{none, fault, when, _orElse_}
-use Rattle.plane.specs.Moves.{moveFault, roomFault, refused, accepted, answerOf, judgeOf, dstFault, configFault}
+use Rattle.plane.specs.Moves.{moveFault, roomRules, roomFault, refused, accepted, answerOf, judgeOf}
 use Rattle.faults.proofs.Bools.{either-first, either-second, neither}
-use Rattle.faults.proofs.Faults.{status, or-none, or-found, or-clear, or-zero, when-bad, when-good, when-clear, given, spared, if-fault, if-none}
+use Rattle.faults.proofs.Chains.{unbroken-none, unbroken, unbroken-accepts}
+use Rattle.faults.proofs.Faults.{status, or-none, or-found, when-bad, when-good, given, spared, if-fault, if-none}
 use Rattle.plane.specs.Good.{GoodMove}
-use Rattle.plane.proofs.Good.{source-clear, config-clear, dst-clear, move-clear}
+use Rattle.plane.proofs.Good.{source-told, config-told, dst-told, move-clear}
 use Rattle.plane.proofs.Rules.{refuses, answer-refused, answer-given, answer-status}
 use Rattle.parts.specs.Parts.{bytesOf}
 use Rattle.mover.specs.declared.Job.{Job}
 use Rattle.mover.specs.declared.plan.Plan.{Plan}
 use Rattle.mover.specs.declared.elements.Origin.the-variants.{Lent}
 use Rattle.mover.specs.Moved.{total, moveMemory}
-use Rattle.mover.specs.Within.{leaves, meets, jobFault, totalOf, verdictOf, advancedBy, further, advanceOf, advanceMemory}
+use Rattle.mover.specs.Within.{leaves, meets, jobRules, jobFault, totalOf, verdictOf, advancedBy, further, advanceOf, advanceMemory}
 use Rattle.mover.specs.Private.Plans.{planOf}
 use Rattle.mover.specs.Private.Elements.{planTotal, movedBy}
 use Rattle.mover.specs.Private.Ready.{Ready}
@@ -36,9 +36,9 @@ use Rattle.mover.proofs.Planned.{planned-total, planned-ready, moved-pl
 -- ---- a whole move
 
 pub move-room : (t : Tensor) (c : Config) {srcLen dstLen : ℕ} → GoodMove t c srcLen dstLen → roomFault t c .status ≡ 0
-unfolding roomFault sourceFault configFault dstFault
+unfolding roomFault
 move-room t c g =
-    or-zero _ _ (source-clear t (g .source)) (or-zero _ _ (config-clear t c (g .config)) (dst-clear t c (g .destination)))
+    unbroken-accepts (roomRules t c) (source-told t (g .source), (config-told t c (g .config), dst-told t c (g .destination)))
 
 module _ (t : Tensor) (c : Config) (srcLen dstLen : ℕ) {a : Answer} (e : a ≡ judgeOf t c srcLen dstLen) where
   pub judged-stopped : (a .status ≡ 0 → ⊥) → judgeOf t c srcLen dstLen .status ≡ 0 → ⊥
@@ -151,12 +151,8 @@ module _ (n : ℕ) (j : Job) where
 
       -- no fault names no dimension
       job-none : none ≡ jobFault n j
-      unfolding jobFault moveFault
-      job-none =
-          let x = or-clear _ _ job-clear in
-          let y = or-clear _ _ (x .1) in
-          sym (or-none _ _ (x .0) ∙ or-none _ _ (y .0) ∙
-          when-good 21 0 (meets (j .source) (j .destination)) (when-clear 21 0 (meets (j .source) (j .destination)) (omega arith) (y .1)))
+      unfolding jobFault
+      job-none = sym (unbroken-none (jobRules n j) (unbroken (jobRules n j) (omega arith) job-clear))
 
       pub verdict-given : {all : ℕ} → all ≡ totalOf j → record { status = 0; dim = 0; total = all } ≡ verdictOf n j
       unfolding verdictOf

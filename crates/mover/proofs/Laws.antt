@@ -16,9 +16,10 @@ use Rattle.plane.specs.declared.Tensor.{Tensor}
 use Rattle.plane.specs.declared.Config.{Config}
 use Rattle.plane.proofs.Arrays.{product-positive}
 use Rattle.plane.specs.Planes.{span}
-use Rattle.plane.specs.Moves.{need, moveFault, judgeOf}
+use Rattle.plane.specs.Moves.{need, moveRules, moveFault, judgeOf}
 use Rattle.faults.proofs.Bools.{either-clear}
-use Rattle.faults.proofs.Faults.{or-clear, when-clear, if-fault, if-none}
+use Rattle.faults.proofs.Faults.{if-fault, if-none}
+use Rattle.faults.proofs.Chains.{unbroken, unbroken-accepts}
 use Rattle.plane.specs.Good.{GoodMove, GoodSource, GoodConfig}
 use Rattle.plane.proofs.Good.{move-good}
 use Rattle.plane.proofs.Bounds.{element-small}
@@ -27,7 +28,7 @@ use Rattle.parts.specs.Parts.{Has, bytesOf}
 use Rattle.parts.specs.declared.Part.{Part}
 use Rattle.mover.specs.declared.Job.{Job}
 use Rattle.mover.specs.Moved.{extentAt, total, stored, moved, moveMemory}
-use Rattle.mover.specs.Within.{leaves, meets, jobFault, totalOf, advancedBy}
+use Rattle.mover.specs.Within.{leaves, meets, jobRules, jobFault, totalOf, advancedBy}
 use Rattle.mover.specs.Claims.{MoveLaws, JobLaws}
 use Rattle.mover.proofs.Bytes.{getD-sets-out, length-take-most}
 use Rattle.mover.proofs.Parts.{part-own, part-other, part-again}
@@ -98,8 +99,8 @@ parts-apart p q e h k =
 
 module _ (n : ℕ) (j : Job) (z : jobFault n j .status ≡ 0) where
   parts : (leaves n (j .source) || leaves n (j .destination)) ≡ false
-  unfolding jobFault moveFault
-  parts = when-clear 20 0 (leaves n (j .source) || leaves n (j .destination)) (omega arith) (or-clear _ _ z .0)
+  unfolding jobFault
+  parts = unbroken (jobRules n j) (omega arith) z .0
 
   pub source-fits : j .source .start + j .source .length ≤ n
   source-fits = part-fits n (j .source) (either-clear _ _ parts .0)
@@ -109,20 +110,20 @@ module _ (n : ℕ) (j : Job) (z : jobFault n j .status ≡ 0) where
 
   pub job-clear : moveFault (j .tensor) (j .config) (j .source .length) (j .destination .length) .status ≡ 0
   unfolding jobFault moveFault
-  job-clear = or-clear _ _ (or-clear _ _ z .1) .0
+  job-clear = unbroken-accepts (moveRules _ _ _ _) (unbroken (jobRules n j) (omega arith) z .1 .0)
 
   pub job-good : GoodMove (j .tensor) (j .config) (j .source .length) (j .destination .length)
   job-good = move-good (j .tensor) (j .config) (j .source .length) (j .destination .length) job-clear
 
   -- its parts share no byte
   pub job-apart : (j .source .start + j .source .length ≤ j .destination .start) ⊎ (j .destination .start + j .destination .length ≤ j .source .start)
-  unfolding jobFault span need moveFault
+  unfolding jobFault span need
   job-apart =
       let b = element-small (j .tensor .«element_size») (job-good .source .element) .0 in
       let s : 0 < span (j .tensor) = mul-pos (omega arith) b in
       let d : 0 < need (j .tensor) (j .config) = mul-pos (omega arith) b in
       parts-apart (j .source) (j .destination)
-      (when-clear 21 0 (meets (j .source) (j .destination)) (omega arith) (or-clear _ _ (or-clear _ _ z .1) .1))
+      (unbroken (jobRules n j) (omega arith) z .1 .1)
       (omega (arith, job-good .long)) (omega (arith, job-good .room))
 
   pub job-total : 0 < totalOf j

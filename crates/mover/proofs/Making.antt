@@ -14,13 +14,14 @@ use Rattle.plane.specs.declared.Source.{Source}
 use Rattle.plane.specs.declared.Answer.{Answer}
 use Rattle.plane.specs.Arrays.{at, sum}
 use Rattle.plane.specs.Numbers.{little}
-use Rattle.plane.specs.Planes.{srcStrides, sourceOf, sourceFault}
-use Rattle.plane.specs.Moves.{count, extent, dstExtents, roomFault, accepted, dstFault, configFault}
+use Rattle.plane.specs.Planes.{srcStrides, sourceRules, sourceOf, sourceFault}
+use Rattle.plane.specs.Moves.{count, extent, dstExtents, roomRules, roomFault, accepted}
 use Rattle.plane.proofs.Arrays.{firsts-at}
 use Rattle.plane.proofs.Bounds.{element-small}
-use Rattle.faults.proofs.Faults.{status, or-clear}
+use Rattle.faults.proofs.Faults.{status}
+use Rattle.faults.proofs.Chains.{unbroken, unbroken-accepts}
 use Rattle.plane.specs.Good.{GoodSource, GoodConfig, GoodDst}
-use Rattle.plane.proofs.Good.{source-good, config-good, dst-good}
+use Rattle.plane.proofs.Good.{source-tells, config-tells, dst-tells}
 use Rattle.plane.proofs.Rules.{dst-extent, its-fault, its-strides}
 use Rattle.mover.specs.declared.plan.Axis.{Axis}
 use Rattle.mover.specs.Element.{dimOf}
@@ -84,20 +85,20 @@ module _ {t : Tensor} {c : Config} (g : GoodSource t) (k : GoodConfig t c) where
 
 module _ (t : Tensor) (c : Config) (z : roomFault t c .status ≡ 0) where
   pub room-source : GoodSource t
-  unfolding roomFault sourceFault configFault dstFault
-  room-source = source-good t (or-clear _ _ z .0)
+  unfolding roomFault
+  room-source = source-tells t (unbroken (roomRules t c) (omega arith) z .0)
 
   pub room-config : GoodConfig t c
-  unfolding roomFault sourceFault configFault dstFault
-  room-config = config-good t c (or-clear _ _ (or-clear _ _ z .1) .0)
+  unfolding roomFault
+  room-config = config-tells t c (unbroken (roomRules t c) (omega arith) z .1 .0)
 
   pub room-dst : GoodDst t c
-  unfolding roomFault sourceFault configFault dstFault
-  room-dst = dst-good t c (or-clear _ _ (or-clear _ _ z .1) .1)
+  unfolding roomFault
+  room-dst = dst-tells t c (unbroken (roomRules t c) (omega arith) z .1 .1)
 
   pub room-strides : {s : Source} → s ≡ sourceOf t → s .stride ≡ srcStrides t
-  unfolding roomFault sourceFault configFault dstFault
-  room-strides e = its-strides t e (status (its-fault t e) ∙ or-clear _ _ z .0)
+  unfolding roomFault sourceFault
+  room-strides e = its-strides t e (status (its-fault t e) ∙ unbroken-accepts (sourceRules t) (unbroken (roomRules t c) (omega arith) z .0))
 
   module _ {a : Answer} (ea : a ≡ accepted t c) where
     pub answer-fit : Fit c a

@@ -10,15 +10,15 @@ use lib.ListN.{length}
 use Rattle.plane.specs.declared.Tensor.{Tensor}
 use Rattle.plane.specs.declared.SubConfig.{SubConfig}
 use Rattle.plane.specs.Arrays.{at, sum}
-use Rattle.plane.specs.Planes.{shapeAt, strideAt, resolved, srcStrides, span, sourceFault}
-use Rattle.plane.specs.Moves.{badOffset}
-use Rattle.plane.specs.Helpers.{staying, excess, subDim, badSubSize, rankFault, subFault, subOf, subByte, noSub, subAnswer, subTensorOf}
+use Rattle.plane.specs.Planes.{shapeAt, strideAt, resolved, srcStrides, span}
+use Rattle.plane.specs.Helpers.{staying, excess, subDim, subRules, subFault, subOf, subByte, noSub, subAnswer, subTensorOf}
 use Rattle.faults.proofs.Bools.{either-clear, neither}
 use Rattle.plane.proofs.Arrays.{firsts-at, firsts-same, sum-same}
-use Rattle.faults.proofs.Faults.{or-clear, or-zero, when-clear, when-zero, lowest-clear, lowest-zero, if-none}
+use Rattle.faults.proofs.Faults.{if-none}
+use Rattle.faults.proofs.Chains.{unbroken, unbroken-accepts}
 use Rattle.plane.specs.Good.{GoodSource, GoodSub}
 use Rattle.plane.specs.Claims.{SubGood, SubClear, SubTold, SubAccepted, SubFits}
-use Rattle.plane.proofs.Good.{positive, source-good, source-clear}
+use Rattle.plane.proofs.Good.{positive, source-tells, source-told, source-clear}
 use Rattle.plane.proofs.Falling.{stride-positive, strides-fall, written-stays, written-good}
 use Rattle.plane.proofs.SubAnswers.{sub-status}
 use Rattle.plane.proofs.Staying.{staying-count, staying-below, staying-rises, staying-sum}
@@ -26,38 +26,36 @@ use Rattle.plane.proofs.Staying.{staying-count, staying-below, staying-
 -- ---- what acceptance of a sub-tensor tells
 
 pub sub-good : SubGood
-unfolding subFault rankFault sourceFault
+unfolding subFault
 sub-good t s srcLen z =
-    let z1 = or-clear _ _ z in
-    let z5 = or-clear _ _ (z1 .1) in
-    let z7 = or-clear _ _ (z5 .1) in
-    let z8 = or-clear _ _ (z7 .1) in
-    let z14 = or-clear _ _ (z8 .1) in
-    let r = either-clear (eqb (s .rank) 0) (ltb (t .rank) (s .rank)) (when-clear 14 0 _ (omega arith) (z14 .0)) in
+    let u = unbroken (subRules t s srcLen) (omega arith) z in
+    let r = either-clear (eqb (s .rank) 0) (ltb (t .rank) (s .rank)) (u .1 .1 .1 .1 .0) in
     record {
-      source = source-good t (z1 .0);
-      long = ltb-false srcLen (span t) (when-clear 5 0 _ (omega arith) (z5 .0));
-      offset = λ d h. leb-false _ _ (lowest-clear 7 (t .rank) (λ d. badOffset (shapeAt t d) (at (s .offset) d)) d (omega arith) (z7 .0) h);
+      source = source-tells t (u .0);
+      long = ltb-false srcLen (span t) (u .1 .0);
+      offset = λ d h. leb-false _ _ (u .1 .1 .0 d h);
       size = λ d h.
-          let w = either-clear (eqb (at (s .size) d) 0) _
-          (lowest-clear 8 (t .rank) (λ d. badSubSize (shapeAt t d) (at (s .offset) d) (at (s .size) d)) d (omega arith) (z8 .0) h) in
-          (positive _ (eqb-false _ _ (w .0)), ltb-false _ _ (w .1));
+          let w = either-clear (eqb (at (s .size) d) 0) _ (u .1 .1 .1 .0 d h) in (positive _ (eqb-false _ _ (w .0)), ltb-false _ _ (w .1));
       rank = (positive _ (eqb-false _ _ (r .0)), ltb-false _ _ (r .1));
-      units = ltb-false _ _ (when-clear 15 0 _ (omega arith) (z14 .1));
+      units = ltb-false _ _ (u .1 .1 .1 .1 .1);
     }
 
 pub sub-clear : SubClear
-unfolding subFault rankFault sourceFault
+unfolding subFault
 sub-clear t s srcLen g =
-    or-zero _ _ (source-clear t (g .source))
-    (or-zero _ _ (when-zero 5 0 _ (le-ltb _ _ (g .long)))
-    (or-zero _ _ (lowest-zero 7 _ _ (λ d h. lt-leb _ _ (g .offset d h)))
-    (or-zero _ _
-    (lowest-zero 8 _ _
-    (λ d h. neither _ _ (ne-eqb (at (s .size) d) 0 (λ e. omega (arith, g .size d h .0))) (le-ltb _ _ (g .size d h .1))))
-    (or-zero _ _
-    (when-zero 14 0 _ (neither _ _ (ne-eqb (s .rank) 0 (λ e. omega (arith, g .rank .0))) (le-ltb _ _ (g .rank .1))))
-    (when-zero 15 0 _ (le-ltb _ _ (g .units)))))))
+    unbroken-accepts (subRules t s srcLen) (
+      source-told t (g .source),
+      (
+        le-ltb _ _ (g .long),
+        (
+          λ d h. lt-leb _ _ (g .offset d h),
+          (
+            λ d h. neither _ _ (ne-eqb (at (s .size) d) 0 (λ e. omega (arith, g .size d h .0))) (le-ltb _ _ (g .size d h .1)),
+            (neither _ _ (ne-eqb (s .rank) 0 (λ e. omega (arith, g .rank .0))) (le-ltb _ _ (g .rank .1)), le-ltb _ _ (g .units)),
+          ),
+        ),
+      ),
+    )
 
 -- ---- the sub-tensor's dimensions
 

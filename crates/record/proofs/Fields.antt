@@ -11,9 +11,9 @@ use Rattle.plane.specs.Planes.{badRank, badElement}
 use Rattle.faults.specs.declared.Fault.{Fault}
 use Rattle.faults.specs.Faults.{fault, lowest, fromFirst}
 use Rattle.faults.proofs.Bools.{both, not-first, not-second}
-use Rattle.faults.proofs.Faults.{or-path, or-clear, given, spared, when-bad, when-good, when-clear, passed, stopped}
-use Rattle.faults.proofs.Chains.{or-last}
-use Rattle.record.specs.Records.{stray, badFill, fieldsFault}
+use Rattle.faults.proofs.Faults.{or-path, given, spared, when-bad, when-good, passed, stopped}
+use Rattle.faults.proofs.Chains.{unbroken, or-last}
+use Rattle.record.specs.Records.{stray, badFill, fieldsRules, fieldsFault}
 
 -- of an element of four bytes every byte of a fill is used
 pub fill-used : (z n : ℕ) → z ≡ 4 → n < 256 ^ 4 → eqb n 0 ≡ badFill z n
@@ -59,4 +59,4 @@ module _ (v : ℕ) (t : Tensor) (c : Config) where
 -- where the fields of version 2 are accepted, the fill is neither 0 nor too wide
 pub fill-passed : (t : Tensor) (c : Config) → fieldsFault 2 t c .status ≡ 0 → badFill (t .«element_size») (c .fill) ≡ false
 unfolding fieldsFault
-fill-passed t c z = when-clear 28 0 _ (omega arith) (or-clear _ _ (or-clear _ _ (or-clear _ _ z .1) .1) .1)
+fill-passed t c z = unbroken (fieldsRules 2 t c) (omega arith) z .1 .1 .1

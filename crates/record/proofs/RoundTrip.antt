@@ -14,17 +14,17 @@ use lib.Seq.{take-all, take-add}
 use Rattle.plane.specs.declared.Tensor.{Tensor}
 use Rattle.plane.specs.declared.Config.{Config}
 use Rattle.plane.specs.Arrays.{at, sum, some}
-use Rattle.faults.specs.Faults.{when}
 use Rattle.plane.specs.Settings.{arrayOf}
 use Rattle.plane.proofs.Arrays.{array-at, is-array}
 use Rattle.plane.proofs.Configs.{same-config}
 use Rattle.plane.proofs.Numbers.{length-little}
 use Rattle.faults.proofs.Bools.{either-clear}
-use Rattle.faults.proofs.Faults.{status, or-clear, when-clear}
+use Rattle.faults.proofs.Faults.{status, or-clear}
+use Rattle.faults.proofs.Chains.{unbroken, unbroken-accepts}
 use Rattle.record.specs.declared.Reading.{Reading}
 use Rattle.plane.specs.Numbers.{little, number}
 use Rattle.record.specs.Layout.{part, consecutive, recordLength, fillWidth, lengthOf, versionByLength, versionFor, versionIn, rankIn, sizeIn, fillIn, headBytes, groupCount, group, width, start, fourBytes}
-use Rattle.record.specs.Records.{groupIn, tensorIn, configIn, recordBytes, lengthIn, badLength, badMark, badVersion, fieldsFault, readFault, writeFault, reading, readOf, writtenRoom}
+use Rattle.record.specs.Records.{groupIn, tensorIn, configIn, recordBytes, lengthIn, badLength, badMark, badVersion, fieldsRules, fieldsFault, readRules, readFault, writeFault, reading, readOf, writtenRoom}
 use Rattle.record.specs.RoundTrip.{Fits, Bytes, OneWriting, ReadBack, WriteBack, ReadLength, SameFieldsSameBytes, AcceptedOnce}
 use Rattle.record.proofs.Parts.{part-cons, length-part, part-append, part-left, part-part, sum-step, sum-const, consecutive-same, part-consecutive, consecutive-parts}
 use Rattle.record.proofs.Digits.{bytes-part, number-little, little-number, number-fits, length-four, head-is}
@@ -254,13 +254,12 @@ record Passed (bs : List ℕ) : Type 0 where
 passed : (bs : List ℕ) → readFault bs .status ≡ 0 → Passed bs
 unfolding readFault fieldsFault
 passed bs z =
-    let x = or-clear (when 25 0 (badLength (length bs))) _ z in
-    let y = or-clear (when 26 0 (badMark bs)) _ (x .1) in
-    let w = or-clear (when 27 0 (badVersion bs)) _ (y .1) in record {
-      long = when-clear 25 0 (badLength (length bs)) (omega arith) (x .0);
-      mark = when-clear 26 0 (badMark bs) (omega arith) (y .0);
-      version = when-clear 27 0 (badVersion bs) (omega arith) (w .0);
-      fields = w .1;
+    let u = unbroken (readRules bs) (omega arith) z in
+    record {
+      long = u .0;
+      mark = u .1 .0;
+      version = u .1 .1 .0;
+      fields = unbroken-accepts (fieldsRules (versionByLength (length bs)) (tensorIn bs) (configIn bs)) (u .1 .1 .1);
     }
 
 -- the version that is written of what was read is the one that was read

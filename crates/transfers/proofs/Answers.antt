@@ -8,16 +8,17 @@ use lib.Dec.{ltb, eqb}
 use Rattle.faults.specs.declared.Fault.{Fault}
 use Rattle.faults.specs.Faults.{fault, when, _orElse_, ifFault}
 use Rattle.faults.proofs.Bools.{either-clear, either-first, either-second, neither}
-use Rattle.faults.proofs.Faults.{status, or-none, or-found, or-clear, if-fault, if-none, when-bad, when-clear, when-zero, given, spared}
-use Rattle.faults.proofs.Chains.{overall-dim}
+use Rattle.faults.proofs.Faults.{status, or-none, or-found, if-fault, if-none, when-bad, when-zero, given, spared}
+use Rattle.faults.specs.Exactness.{Unbroken}
+use Rattle.faults.proofs.Chains.{unbroken, unbroken-accepts, overall-dim}
 use Rattle.mover.specs.declared.Job.{Job}
 use Rattle.mover.specs.declared.Verdict.{Verdict}
-use Rattle.mover.specs.Within.{jobFault, verdictOf}
+use Rattle.mover.specs.Within.{jobRules, jobFault, verdictOf}
 use Rattle.transfers.specs.declared.Slot.{Slot}
 use Rattle.transfers.specs.declared.Table.{Table}
 use Rattle.transfers.specs.declared.FreshTable.{FreshTable}
 use Rattle.transfers.specs.Slots.{freshTable, slotAt, withSlot, isFree, lowestFree, clashes, tableSound, limit}
-use Rattle.transfers.specs.Calls.{freshFault, freshOf, openRules, openFault, prepareFault, callFault, newSlot, prepareOf, changed}
+use Rattle.transfers.specs.Calls.{freshFault, freshOf, openRules, openFault, prepareRules, prepareFault, callRules, callFault, newSlot, prepareOf, changed}
 
 -- ---- a fresh table: 17
 
@@ -59,14 +60,12 @@ module _ (t : Table) (n : ℕ) where
     pub long : n ≡ t .length
     pub sound : tableSound t ≡ true
 
+  open-tells : Unbroken (openRules t n) → Open
+  open-tells u = record { long = eqb-true n (t .length) (not-false (eqb n (t .length)) (u .0)); sound = not-false (tableSound t) (u .1) }
+
   pub opened : openFault t n .status ≡ 0 → Open
   unfolding openFault
-  opened z =
-      let w = or-clear _ _ z in
-      record {
-        long = eqb-true n (t .length) (not-false (eqb n (t .length)) (when-clear 17 0 _ (omega arith) (w .0)));
-        sound = not-false (tableSound t) (when-clear 18 0 _ (omega arith) (w .1));
-      }
+  opened z = open-tells (unbroken (openRules t n) (omega arith) z)
 
 -- ---- 17, 18, 23, 24
 
@@ -108,18 +107,17 @@ module _ (t : Table) (n h want : ℕ) where
     pub state : slotAt t h .state ≡ want
 
   pub called : callFault t n h want .status ≡ 0 → Called
-  unfolding callFault openFault
+  unfolding callFault
   called z =
-      let w = or-clear (openFault t n) _ z in
-      let v = or-clear _ _ (w .1) in
-      let o = opened t n (w .0) in
-      let b = either-clear (ltb 3 h) (isFree t h) (when-clear 23 0 _ (omega arith) (v .0)) in
+      let u = unbroken (callRules t n h want) (omega arith) z in
+      let o = open-tells t n (u .0) in
+      let b = either-clear (ltb 3 h) (isFree t h) (u .1 .0) in
       record {
         long = o .long;
         sound = o .sound;
         range = omega (arith, ltb-false 3 h (b .0));
         taken = eqb-false (slotAt t h .state) 0 (b .1);
-        state = eqb-true (slotAt t h .state) want (not-false (eqb (slotAt t h .state) want) (when-clear 24 0 _ (omega arith) (v .1)));
+        state = eqb-true (slotAt t h .state) want (not-false (eqb (slotAt t h .state) want) (u .1 .1));
       }
 
 -- ---- prepare: 17 to 20, 1 to 13, 21, 22
@@ -180,18 +178,16 @@ module _ (t : Table) (n : ℕ) (j : Job) where
     pub apart : clashes t j 4 ≡ false
 
   pub preparing : prepareFault t n j .status ≡ 0 → Preparing
-  unfolding prepareFault openFault jobFault
+  unfolding prepareFault jobFault
   preparing z =
-      let a = or-clear (openFault t n) _ z in
-      let b = or-clear _ _ (a .1) in
-      let d = or-clear _ _ (b .1) in
-      let o = opened t n (a .0) in
+      let u = unbroken (prepareRules t n j) (omega arith) z in
+      let o = open-tells t n (u .0) in
       record {
         long = o .long;
         sound = o .sound;
-        room = eqb-false (lowestFree t) 4 (when-clear 19 0 _ (omega arith) (b .0));
-        clear = d .0;
-        apart = when-clear 22 0 _ (omega arith) (d .1);
+        room = eqb-false (lowestFree t) 4 (u .1 .0);
+        clear = unbroken-accepts (jobRules n j) (u .1 .1 .0);
+        apart = u .1 .1 .1;
       }
 
 -- ---- start and release
