@@ -19,8 +19,8 @@ Unbroken (fromFirst num n bad) = (d : ℕ) → d < n → bad d ≡ false
 Unbroken (fromLast num n bad) = (d : ℕ) → d < n → bad d ≡ false
 Unbroken (r then s) = Unbroken r × Unbroken s
 
--- number k at dimension d is given: a rule of that number is broken there and at no dimension met before, and every rule before it is
--- kept. A rule of the whole names dimension 0
+-- number k at dimension d is given: a rule of that number is broken there and at no dimension met before, and no rule before it is
+-- broken. A rule of the whole names dimension 0
 abbrev pub Given : Rules → ℕ → ℕ → Type 0
 Given (overall num bad) k d = (k ≡ num) × (bad ≡ true) × (d ≡ 0)
 Given (fromFirst num n bad) k d = (k ≡ num) × (d < n) × (bad d ≡ true) × ((e : ℕ) → e < d → bad e ≡ false)
