@@ -2,6 +2,7 @@
 
 use crate::helpers::{self, Count, SubConfig, SubTensor};
 use crate::job::{self, Advanced, Job, Judged, Part};
+use crate::keeper::{self, GivenBack, Granted, RunPart};
 use crate::list::{self, Appended, FirstTwo, Numbered, Started};
 use crate::moves::{self, Answer, Config, Room};
 use crate::plain;
@@ -133,10 +134,29 @@ const POLL: Gives = Gives::FirstTwo(&[
     ("18", [18, 0]),
     ("23", [23, 0]),
 ]);
+/// "31 for n outside 1 to 64 ..., 32 for no run"
+const REQUEST: Gives = Gives::First(&[0, 31, 32]);
+/// "giving back has 17 ... and 18 first; then 31 ..., 33 for a run that can't be given back"
+const GIVE_BACK: Gives = Gives::First(&[0, 17, 18, 31, 33]);
+/// FORMAT: 17 of a length that is too small or too large, and 31 of a run.
+const PART_OF: Gives = Gives::First(&[0, 17, 31]);
+/// How many of 64 blocks: the lowest byte of the number.
+const BLOCKS: Gives = Gives::First(&UP_TO_64);
 /// Two things that are no refusals: no and yes.
 const NO_YES: Gives = Gives::First(&[0, 1]);
 /// "1, 2, 4, or 0 for others", and "3 for 3"
 const SIZES: Gives = Gives::First(&[0, 1, 2, 3, 4]);
+
+/// 0 to 64.
+const UP_TO_64: [u8; 65] = {
+    let mut numbers = [0; 65];
+    let mut k = 0;
+    while k < 65 {
+        numbers[k] = k as u8;
+        k += 1;
+    }
+    numbers
+};
 
 /// A call that takes `A` and answers `R`.
 fn call<A: Wire + 'static, R: Wire + 'static>(number: u8, name: &'static str, gives: Gives, work: fn(A) -> R) -> Call {
@@ -163,13 +183,14 @@ impl Calls {
         calls.extend(record_calls());
         calls.extend(list_calls());
         calls.extend(table_calls());
+        calls.extend(keeper_calls());
         Calls(calls)
     }
 }
 
 fn plane_calls() -> Vec<Call> {
     vec![
-        call(0x00, "version", Gives::OneKind, |_: ()| -> u16 { 4 }),
+        call(0x00, "version", Gives::OneKind, |_: ()| -> u16 { 5 }),
         call(0x01, "source_of", SOURCE, |tensor: Tensor| -> Source { tensor::source_of(&tensor) }),
         call(0x02, "room", ROOM, |(tensor, config): (Tensor, Config)| -> Room { moves::room(&tensor, &config) }),
         call(0x03, "judge", MOVE, |(tensor, config, source, destination): (Tensor, Config, u64, u64)| -> Answer {
@@ -330,5 +351,19 @@ fn table_calls() -> Vec<Call> {
             transfers::release(&table, handle, memory.0.len())
         }),
         call(0x45, "poll", POLL, |(table, handle): (Table, u32)| -> Poll { transfers::poll(&table, handle) }),
+    ]
+}
+
+fn keeper_calls() -> Vec<Call> {
+    vec![
+        call(0x50, "request", REQUEST, |(word, n): (u64, u32)| -> Granted { keeper::request(word, n) }),
+        call(0x51, "give_back", GIVE_BACK, |(table, word, first, n): (Table, u64, u32, u32)| -> GivenBack {
+            keeper::give_back(&table, word, first, n)
+        }),
+        call(0x52, "free_blocks", BLOCKS, keeper::free_blocks),
+        call(0x53, "free_before_first_taken", BLOCKS, keeper::free_before_first_taken),
+        call(0x54, "part_of", PART_OF, |(length, first, n): (u64, u32, u32)| -> RunPart {
+            keeper::part_of(length, first, n)
+        }),
     ]
 }

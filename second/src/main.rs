@@ -10,6 +10,7 @@ mod coverage;
 mod generate;
 mod helpers;
 mod job;
+mod keeper;
 mod lines;
 mod list;
 mod moves;

@@ -5,8 +5,8 @@ use super::case::{case, met_by_status, named, Case};
 use super::input::{all_differ, used_bytes_are_0};
 use super::moved::{moved, Moved};
 use super::number::{
-    ADVANCE, ALL, APPEND, FIRST_SETTING, JUDGE, JUDGE_JOB, LAST_SETTING, MOVE_PLANE, PLAIN_ADVANCE, PLAIN_MOVE, POLL,
-    PREPARE, RELEASE, ROOM, START, STEP, WITH_FILL,
+    ADVANCE, ALL, APPEND, FIRST_SETTING, GIVE_BACK, JUDGE, JUDGE_JOB, LAST_SETTING, MOVE_PLANE, PLAIN_ADVANCE,
+    PLAIN_MOVE, POLL, PREPARE, RELEASE, ROOM, START, STEP, WITH_FILL,
 };
 use crate::job::Job;
 use crate::list::list_fault;
@@ -41,6 +41,7 @@ fn all(number: u8, arguments: &[u8], status: u8) -> Vec<Case> {
         PREPARE => of_prepare(arguments, status),
         STEP => [of_padding(number, arguments, status), of_slot(number, arguments, status)].concat(),
         START | RELEASE | POLL => of_slot(number, arguments, status),
+        GIVE_BACK => vec![by_free_slot(&begin(arguments), status)],
         _ => Vec::new(),
     }
 }

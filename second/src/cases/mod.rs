@@ -3,6 +3,7 @@
 //! what these stand on: what a case is (`case.rs`), the numbers of calls (`number.rs`), what several topics ask of an
 //! input (`input.rs`), what a call moves (`moved.rs`, `piece.rs`), and the ways of a move (`way.rs`).
 
+pub mod blocks;
 mod case;
 pub mod counts;
 pub mod fills;
@@ -33,6 +34,7 @@ const TOPICS: &[Topic] = &[
     (fills::cases, fills::met),
     (records::cases, records::met),
     (refusals::cases, refusals::met),
+    (blocks::cases, blocks::met),
     (ways::cases, ways::met),
 ];
 

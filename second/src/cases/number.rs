@@ -31,6 +31,10 @@ pub const START: u8 = 0x42;
 pub const STEP: u8 = 0x43;
 pub const RELEASE: u8 = 0x44;
 pub const POLL: u8 = 0x45;
+pub const REQUEST: u8 = 0x50;
+pub const GIVE_BACK: u8 = 0x51;
+pub const FREE_BEFORE: u8 = 0x53;
+pub const PART_OF: u8 = 0x54;
 
 /// Whether a call moves a whole plane, by either engine.
 pub fn is_move(number: u8) -> bool {

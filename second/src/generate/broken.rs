@@ -3,6 +3,7 @@
 use super::jobs::lay_out;
 use super::planes::{good, Scale};
 use super::values::{any_u32, any_u64, any_u8, telling_fill};
+use super::words::{any_run, any_word};
 use super::work::Work;
 use crate::job::{judge_job, Job, Part};
 use crate::random::Random;
@@ -119,7 +120,7 @@ fn move_part(random: &mut Random, table: &mut Table, one: usize) {
 }
 
 /// The calls that take a table.
-pub const TABLE_CALLS: std::ops::RangeInclusive<u8> = 0x41..=0x45;
+pub const TABLE_CALLS: [u8; 6] = [0x41, 0x42, 0x43, 0x44, 0x45, 0x51];
 
 /// Some of the calls that take a table, none of whose answers is kept.
 pub fn call_all(work: &mut Work, table: &Table, job: &Job, handle: u32, memory: &[u8]) {
@@ -133,10 +134,12 @@ pub fn call_all(work: &mut Work, table: &Table, job: &Job, handle: u32, memory: 
 pub fn call_one(work: &mut Work, number: u8, table: &Table, job: &Job, handle: u32, memory: &[u8]) {
     let rest = Rest(memory.to_vec());
     let budget = any_u64(&mut work.random);
+    let (word, run) = (any_word(&mut work.random), any_run(&mut work.random));
     match number {
         0x41 => work.call(number, &(*table, *job, rest)),
         0x43 => work.call(number, &(*table, handle, budget, Memory(memory.to_vec()))),
         0x45 => work.call(number, &(*table, handle)),
+        0x51 => work.call(number, &(*table, word, run.0, run.1)),
         _ => work.call(number, &(*table, handle, rest)),
     }
 }
@@ -146,6 +149,8 @@ pub fn every_free_fill(work: &mut Work) {
     let mut drawn = good(&mut work.random, Scale::Small);
     drawn.config.fill = telling_fill(&mut work.random);
     let (job, length) = lay_out(&mut work.random, &drawn);
+    // A give back refuses a table for fewer bytes with 17.
+    let length = length.max(64);
     let memory = work.random.bytes(length as usize);
     let sound = prepare(&fresh(length).table, &job, memory.len()).table;
     for byte in 0..4 {
@@ -186,10 +191,15 @@ fn draw_wide_table(random: &mut Random) -> Table {
             continue;
         }
         next += length;
-        let some = random.below(judged.total);
-        let running = random.pick(&[0, judged.total - 1, some]);
-        let (state, moved) = random.pick(&[(PREPARED, 0), (RUNNING, running), (DONE, judged.total)]);
-        *slot = Slot { state, job, moved };
+        *slot = in_any_state(random, job, judged.total);
     }
     table
+}
+
+/// A slot with this job, which has so many elements.
+pub fn in_any_state(random: &mut Random, job: Job, total: u64) -> Slot {
+    let some = random.below(total);
+    let running = random.pick(&[0, total - 1, some]);
+    let (state, moved) = random.pick(&[(PREPARED, 0), (RUNNING, running), (DONE, total)]);
+    Slot { state, job, moved }
 }

@@ -14,9 +14,9 @@ use crate::transfers::{fresh, poll, prepare, release, sound, start, step, Slot, 
 use crate::wire::{Memory, Rest, MEMORY_LIMIT};
 
 /// A table and its memory, followed from call to call.
-struct History<'a> {
-    work: &'a mut Work,
-    table: Table,
+pub struct History<'a> {
+    pub work: &'a mut Work,
+    pub table: Table,
     memory: Vec<u8>,
     scale: Scale,
 }
@@ -50,31 +50,40 @@ pub fn fresh_table(work: &mut Work) {
 }
 
 fn follow(work: &mut Work, length: u64, turns: u64, scale: Scale) {
-    work.call(0x40, &length);
-    let memory = work.random.bytes(length as usize);
-    let mut history = History { work, table: fresh(length).table, memory, scale };
+    let mut history = History::begin(work, length, scale);
     for _ in 0..turns {
         history.turn();
     }
 }
 
 impl History<'_> {
-    fn turn(&mut self) {
+    /// A fresh table.
+    pub fn begin(work: &mut Work, length: u64, scale: Scale) -> History<'_> {
+        work.call(0x40, &length);
+        let memory = work.random.bytes(length as usize);
+        History { work, table: fresh(length).table, memory, scale }
+    }
+
+    pub fn turn(&mut self) {
         let handle = self.draw_handle();
-        let state = self.table.slot.get(handle as usize).map_or(FREE, |slot| slot.state);
         match self.work.random.below(40) {
-            // What the slot is ready for.
-            0..=28 => match state {
-                FREE => self.prepare(),
-                PREPARED => self.start(handle),
-                RUNNING => self.step(handle),
-                _ => self.release(handle),
-            },
+            0..=28 => self.go_on(handle),
             29..=30 => self.prepare(),
             31..=33 => self.refusable(handle),
             34..=35 => self.poll(handle),
             36 => self.with_other_memory(handle),
             _ => self.with_broken_table(),
+        }
+    }
+
+    /// What the slot is ready for.
+    pub fn go_on(&mut self, handle: u32) {
+        let state = self.table.slot.get(handle as usize).map_or(FREE, |slot| slot.state);
+        match state {
+            FREE => self.prepare(),
+            PREPARED => self.start(handle),
+            RUNNING => self.step(handle),
+            _ => self.release(handle),
         }
     }
 
@@ -97,6 +106,10 @@ impl History<'_> {
 
     fn prepare(&mut self) {
         let job = self.draw_job();
+        self.prepare_job(job);
+    }
+
+    pub fn prepare_job(&mut self, job: Job) {
         self.work.call(0x41, &(self.table, job, Rest(self.memory.clone())));
         self.table = prepare(&self.table, &job, self.memory.len()).table;
     }

@@ -3,9 +3,12 @@
 mod broken;
 mod faulty_records;
 mod frames;
+mod give_backs;
 mod histories;
 mod jobs;
 mod joins;
+mod keeper;
+mod kept;
 mod limits;
 mod list_shows;
 mod lists;
@@ -22,6 +25,7 @@ mod stretches;
 mod values;
 mod way_planes;
 mod ways;
+mod words;
 pub mod work;
 
 use crate::random::Random;
@@ -68,6 +72,11 @@ const KINDS: &[Kind] = &[
     (3, histories::short),
     (1, histories::narrow),
     (2, broken::wide_polls),
+    (8, keeper::request),
+    (3, keeper::counts),
+    (4, keeper::part_of),
+    (12, give_backs::give_back),
+    (1, kept::history),
     (8, frames::damaged),
 ];
 
@@ -104,7 +113,8 @@ pub fn calls(count: usize, seed: u64) -> Vec<u8> {
 }
 
 /// What is drawn once in a run: two numbers for one call, lines of wrong lengths, the longest lines, the largest numbers,
-/// elements of each size, records and lists spoiled in every way, fills where none may be, and moves of each way.
+/// elements of each size, records and lists spoiled in every way, fills where none may be, moves of each way, and what
+/// the room keeper tells apart.
 fn once(work: &mut Work) {
     refusals::every_wrap(work);
     refusals::every_sub_tensor_pair(work);
@@ -130,6 +140,13 @@ fn once(work: &mut Work) {
     lists::every_fill(work);
     lists::long(work);
     ways::every_way(work);
+    keeper::every_request(work);
+    give_backs::every_order(work);
+    give_backs::every_hold(work);
+    give_backs::every_bound(work);
+    keeper::every_wrong_run(work);
+    give_backs::every_run(work);
+    keeper::every_count(work);
 }
 
 /// Long lines.

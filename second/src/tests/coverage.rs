@@ -39,7 +39,7 @@ fn a_run_that_is_long_enough_meets_everything() {
 }
 
 /// Some of what has to be met.
-const SOME_CASES: [&str; 59] = [
+const SOME_CASES: [&str; 66] = [
     "00 version: made",
     "02 room: 12",
     "03 judge: 12 too large at 0",
@@ -95,6 +95,13 @@ const SOME_CASES: [&str; 59] = [
     "38 append: 28 and 27 by a fill",
     "39 length_in: version 2 behind another mark",
     "45 poll: 18 by the fill of a free slot",
+    "50 request: 32 but for a run round the end",
+    "50 request: the lowest of several",
+    "51 give_back: 33 by the source of a done slot",
+    "51 give_back: 18 by the fill of a free slot",
+    "52 free_blocks: 64",
+    "53 free_before_first_taken: 63",
+    "54 part_of: 31 from a block with which the sum would wrap",
     "rmvlist: room 12",
     "rmvlist: 1000 records",
     "rmvlist: record of version 2",
@@ -133,6 +140,9 @@ fn a_number_that_a_call_can_not_give_is_named() {
     // A record of a list always has its 131 bytes, and so is never one in which the element size is looked at.
     coverage.call(&calls, b"340000000000000000", &[0x34, 0, 0, 0, 0, 0, 0, 0, 0, 25]);
     coverage.call(&calls, b"340000000000000000", &[0x34, 0, 0, 0, 0, 0, 0, 0, 0, 2]);
+    // A request is given nothing back, and a run that is given back is not looked for.
+    coverage.call(&calls, b"50", &[0x50, 33]);
+    coverage.call(&calls, b"51", &[0x51, 32]);
     coverage.show(&[], "status 10 dim 0\n");
     coverage.show(&[], "status 10 dim 0\n");
     coverage.list(&[], "status 0 records 1\nrecord 0 status 25 dim 0\n");
@@ -143,6 +153,8 @@ fn a_number_that_a_call_can_not_give_is_named() {
         "30 record::read: ff04",
         "34 record_at: 2",
         "34 record_at: 25",
+        "50 request: 33",
+        "51 give_back: 32",
         "rmvlist: record 25",
         "rmvshow: 10",
     ];

@@ -118,4 +118,9 @@ fn slots() {
     let mut done = table;
     (done.slot[0].state, done.slot[0].moved) = (DONE, 4);
     assert_eq!(of_call(0x44, bytes_of(&(done, 0u32, Rest(vec![7; 12])))), "slot with a fill");
+    let given_back = |table: Table| of_call(0x51, bytes_of(&(table, u64::MAX, 0u32, 1u32)));
+    let mut free = fresh(64).table;
+    assert_eq!(given_back(free), "");
+    free.slot[3].job.config.fill = 1 << 24;
+    assert_eq!((given_back(free), given_back(filled)), ("18 by the fill of a free slot".into(), String::new()));
 }

@@ -12,7 +12,7 @@ fn answer(input: &[u8]) -> Vec<String> {
 #[test]
 fn the_examples_of_the_page() {
     assert_eq!(answer(b"0403\n0405\nzz\n"), ["0403", "0400", "ff01"]);
-    assert_eq!(answer(b"00\n"), ["000400"]);
+    assert_eq!(answer(b"00\n"), ["000500"]);
 }
 
 #[test]
@@ -61,8 +61,8 @@ fn records_are_as_long_as_the_page_says() {
 fn every_call_has_its_own_number() {
     let mut numbers: Vec<u8> = Calls::all().0.iter().map(|call| call.number).collect();
     numbers.sort();
-    let expected: Vec<u8> =
-        (0..=0x0b).chain(0x10..=0x1f).chain(0x20..=0x27).chain(0x30..=0x3b).chain(0x40..=0x45).collect();
+    let expected = (0..=0x0b).chain(0x10..=0x1f).chain(0x20..=0x27).chain(0x30..=0x3b).chain(0x40..=0x45);
+    let expected: Vec<u8> = expected.chain(0x50..=0x54).collect();
     assert_eq!(numbers, expected);
 }
 
@@ -115,4 +115,22 @@ fn calls_of_records() {
     assert_eq!(answer(fields("02000404").as_bytes()), ["3b1c00"]);
     assert_eq!(answer(fields("01000405").as_bytes()), ["3b0000"]);
     assert_eq!(answer(fields("0200").as_bytes()), ["ff04"]);
+}
+
+#[test]
+fn calls_of_the_keeper() {
+    // Three blocks of none taken; 65, which is 41, is refused by 31, which is 1f; and 64 by 32, which is 20.
+    assert_eq!(answer(b"50000000000000000003000000\n"), ["5000000000000700000000000000"]);
+    assert_eq!(answer(b"50010200000000008041000000\n"), ["501f000000000102000000000080"]);
+    assert_eq!(answer(b"50010200000000008040000000\n"), ["5020000000000102000000000080"]);
+    assert_eq!(answer(b"520000000000000000\n530020000000000080\n"), ["5240000000", "530d000000"]);
+    // 6,400 bytes: two blocks from block 3 on are 200 bytes from byte 300 on. 17 is 11.
+    let two = "0300000002000000";
+    assert_eq!(answer(format!("540019000000000000{two}\n").as_bytes()), ["54002c01000000000000c800000000000000"]);
+    assert_eq!(answer(format!("543f00000000000000{two}\n").as_bytes()), [format!("5411{}", "00".repeat(16))]);
+    // A table of no transfers for 64 bytes; 33 is 21.
+    let table = format!("5140{}", "00".repeat(7 + 684));
+    let back = |word: &str| answer(format!("{table}{word}00000000000000{two}\n").as_bytes());
+    assert_eq!((back("ff"), back("ef")), (vec!["5100e700000000000000".into()], vec!["5121ef00000000000000".into()]));
+    assert_eq!(answer(format!("{table}{two}\n5200\n").as_bytes()), ["ff04", "ff04"]);
 }

@@ -1,5 +1,6 @@
 //! The examples of the paper and how it is read, with values typed in from the paper or worked out by hand.
 
+mod block_cases;
 mod counts;
 mod coverage;
 mod errors;
@@ -7,6 +8,7 @@ mod examples;
 mod fill_cases;
 mod fills;
 mod framing;
+mod keeper;
 mod lists;
 mod offsets;
 mod plain;
