@@ -17,8 +17,10 @@ use Rattle.list.specs.Writers.{startFault, startedBuffer, memberFault, appendFa
 use Rattle.transfers.specs.Slots.{withSlot, lowestFree, breaks, clashes, isZeroTensor, isZeroConfig, isZeroJob, movedRight, slotSound, soundAt, tableSound}
 use Rattle.transfers.specs.Calls.{freshFault, freshOf, openFault, prepareFault, callFault, prepareOf, changed, startOf, releaseOf, later, stepOf, stepMemory, pollSlot, pollFault, pollOf}
 use Rattle.transfers.specs.Demand3.{freshWorld, after}
+use Rattle.keeper.specs.Blocks.{wordOf, lowestOf, withRun, withoutRun}
+use Rattle.keeper.specs.Calls.{requestFault, requestOf, runPart, partFault, partOf, uses, inUse, tableFault, giveBackFault, giveBackOf}
 use Rattle.marked.specs.Examples.{AllRight, examples}
 
 pub all-right : AllRight examples
-unfolding judgeOf roomOf moveFault roomFault sourceFault configFault dstFault when _orElse_ lowest first outward answerOf span need sum product howMany some firstsOr badStrideAt badDstOffsetAt resolved inner extent count dstExtents countOf countFault countAnswer elements subTensorOf subFault rankFault subAnswer subOf subByte staying moveMemory moved stored coordOf perStep total element place sourcePlace padded areKept isKept every subPart jobFault advancedBy advanceOf advanceMemory freshFault freshOf openFault prepareFault callFault prepareOf changed startOf releaseOf later stepOf stepMemory pollSlot pollFault pollOf withSlot lowestFree breaks clashes isZeroTensor isZeroConfig isZeroJob movedRight slotSound soundAt tableSound freshWorld after little number consecutive start tensorIn configIn recordBytes stray fieldsFault readFault writeFault readOf writtenRoom listFault recordCount numberFault recordAt placeAfter startFault startedBuffer memberFault appendFault appendOf appendedBuffer
+unfolding judgeOf roomOf moveFault roomFault sourceFault configFault dstFault when _orElse_ lowest first outward answerOf span need sum product howMany some firstsOr badStrideAt badDstOffsetAt resolved inner extent count dstExtents countOf countFault countAnswer elements subTensorOf subFault rankFault subAnswer subOf subByte staying moveMemory moved stored coordOf perStep total element place sourcePlace padded areKept isKept every subPart jobFault advancedBy advanceOf advanceMemory freshFault freshOf openFault prepareFault callFault prepareOf changed startOf releaseOf later stepOf stepMemory pollSlot pollFault pollOf withSlot lowestFree breaks clashes isZeroTensor isZeroConfig isZeroJob movedRight slotSound soundAt tableSound freshWorld after little number consecutive start tensorIn configIn recordBytes stray fieldsFault readFault writeFault readOf writtenRoom listFault recordCount numberFault recordAt placeAfter startFault startedBuffer memberFault appendFault appendOf appendedBuffer wordOf lowestOf withRun withoutRun requestFault requestOf runPart partFault partOf uses inUse tableFault giveBackFault giveBackOf
 all-right = refl

@@ -31,9 +31,14 @@ use Rattle.list.specs.declared.Appended.{Appended}
 use Rattle.list.specs.Lists.{listFault, recordCount, noRecord, recordAt, placeAfter}
 use Rattle.list.specs.Writers.{startFault, startedBuffer, noAppend, appendOf, appendedBuffer}
 use Rattle.transfers.specs.declared.Table.{Table}
-use Rattle.transfers.specs.Slots.{zeroJob, freshTable, withSlot}
+use Rattle.transfers.specs.Slots.{zeroPart, zeroJob, freshTable, withSlot}
 use Rattle.transfers.specs.Calls.{prepareOf, startOf, stepOf, releaseOf, pollOf, pollNumbers}
 use Rattle.transfers.specs.Demand3.{Call, prepare, start, step, release, poll, World, freshWorld, after}
+use Rattle.keeper.specs.declared.Granted.{Granted}
+use Rattle.keeper.specs.declared.GivenBack.{GivenBack}
+use Rattle.keeper.specs.declared.Placed.{Placed}
+use Rattle.keeper.specs.Blocks.{freeBlocks, freeBeforeFirstTaken}
+use Rattle.keeper.specs.Calls.{requestOf, partOf, giveBackOf}
 
 -- ---- what an example is
 
@@ -67,6 +72,14 @@ pub data Example : Type 0 where
   begins : List ℕ → ℕ → List ℕ → Example
   -- a buffer, how many first bytes are the list, a tensor, a configuration; the answer, the buffer after
   append : List ℕ → ℕ → Tensor → Config → Appended → List ℕ → Example
+  -- a word, how many blocks; what a request for them answers
+  room-for : ℕ → ℕ → Granted → Example
+  -- a table, a word, a run's first block and how many; what giving it back answers
+  gives-back : Table → ℕ → ℕ → ℕ → GivenBack → Example
+  -- a word; how many blocks are free, and how many before the first taken one
+  blocks : ℕ → ℕ → ℕ → Example
+  -- a memory's length, a run's first block and how many; the part that it is
+  run-part : ℕ → ℕ → ℕ → Placed → Example
 
 -- the letters that the paper marks its examples with, and what is not of A to L
 pub data Letter : Type 0 where
@@ -93,6 +106,10 @@ pub data Outcome : Type 0 where
   of-list : ℕ → ℕ → List Numbered → Outcome
   of-start : ℕ → List ℕ → Outcome
   of-append : Appended → List ℕ → Outcome
+  of-request : Granted → Outcome
+  of-back : GivenBack → Outcome
+  of-blocks : ℕ → ℕ → Outcome
+  of-part : Placed → Outcome
 
 -- the status first; then prepare: the dimension and the handle; step: how many it moved; poll: the state and what is left
 abbrev pub reply : Call → World → List ℕ
@@ -130,6 +147,10 @@ given (write t c before a out) = of-write (writeFault t c (length before)) (writ
 given (list bs status n rs) = of-list (listFault bs .status) (recordCount bs) (handed bs 0 (length rs))
 given (begins buffer status out) = of-start (startFault buffer .status) (startedBuffer buffer)
 given (append buffer n t c a out) = of-append (appendOf buffer n t c) (appendedBuffer buffer n t c)
+given (room-for w n a) = of-request (requestOf w n)
+given (gives-back t w first n a) = of-back (giveBackOf t w first n)
+given (blocks w free before) = of-blocks (freeBlocks w) (freeBeforeFirstTaken w)
+given (run-part l first n a) = of-part (partOf l first n)
 
 abbrev pub said : Example → Outcome
 said (move t c source over a out) = of-move a out
@@ -144,6 +165,10 @@ said (write t c before a out) = of-write a out
 said (list bs status n rs) = of-list status n rs
 said (begins buffer status out) = of-start status out
 said (append buffer n t c a out) = of-append a out
+said (room-for w n a) = of-request a
+said (gives-back t w first n a) = of-back a
+said (blocks w free before) = of-blocks free before
+said (run-part l first n a) = of-part a
 
 -- entry by entry, each under its letter
 abbrev pub outcomes : (Example → Outcome) → List Lettered → List (Letter × Outcome)
@@ -293,6 +318,38 @@ acceptedMove n size extent stride need =
 abbrev pub acceptedSub : ℕ → ℕ → List ℕ → List ℕ → ℕ → SubTensor
 acceptedSub n size shape stride byte =
     record { status = 0; dim = 0; tensor = record { rank = n; «element_size» = size; shape = shape; stride = stride }; byte = byte }
+
+-- a request granted: the first block, the word after; and refused: the word as it was
+abbrev pub grant : ℕ → ℕ → Granted
+grant first w = record { status = 0; first = first; word = w }
+
+abbrev pub noGrant : ℕ → ℕ → Granted
+noGrant number w = record { status = number; first = 0; word = w }
+
+-- giving back: the number, the word after
+abbrev pub back : ℕ → ℕ → GivenBack
+back number w = record { status = number; word = w }
+
+-- the part of a run, and that of a refused one
+abbrev pub bytes : ℕ → ℕ → Placed
+bytes b n = record { status = 0; part = record { start = b; length = n } }
+
+abbrev pub noBytes : ℕ → Placed
+noBytes number = record { status = number; part = zeroPart }
+
+-- all 64 blocks taken; every second one, from block 1 on; all but the first and the last
+abbrev pub allBlocks : ℕ
+allBlocks = 18446744073709551615
+
+abbrev pub oddBlocks : ℕ
+oddBlocks = 12297829382473034410
+
+abbrev pub innerBlocks : ℕ
+innerBlocks = 9223372036854775806
+
+-- a table for n bytes that has a transfer of two bytes, from byte 2 into byte 8, in that state, with so many elements moved
+abbrev pub busy : ℕ → ℕ → ℕ → Table
+busy n state moved = withSlot (freshTable n) 0 (record { state = state; job = transfer 2 2 8; moved = moved })
 
 -- ---- the table
 
@@ -614,4 +671,61 @@ examples =
     besides shows append (headOf 0 ++ over 131) 7 turnTensor (withFill turnConfig 128) (noAppend (fault 27 0)) (headOf 0 ++ over 131) ∷
     besides shows append (headOf 0 ++ over 131) 7 turnTensor (withFill (withPre turnConfig (0 ∷ 0 ∷ 5 ∷ 0 ∷ [])) 128)
     (noAppend (fault 28 2)) (headOf 0 ++ over 131) ∷
+    -- ---- room in the working memory
+    -- one block of none taken, and all 64; one of all taken: 32
+    besides shows room-for 0 1 (grant 0 1) ∷
+    besides shows room-for 0 64 (grant 0 allBlocks) ∷
+    besides shows room-for allBlocks 1 (noGrant 32 allBlocks) ∷
+    -- blocks 1 and 6 taken, which is 66: block 0 is free by itself, and two neighbours are free from block 2 on; four are just 2 to 5, and
+    -- five from 7 on. Against `request_takes_the_highest_run`
+    besides shows room-for 66 1 (grant 0 67) ∷
+    besides shows room-for 66 2 (grant 2 78) ∷
+    besides shows room-for 66 4 (grant 2 126) ∷
+    besides shows room-for 66 5 (grant 7 4034) ∷
+    -- the first and the last block free are no neighbours: 32. Against `request_wraps_round_the_end`
+    besides shows room-for innerBlocks 2 (noGrant 32 innerBlocks) ∷
+    -- 32 blocks free, and no two neighbours
+    besides shows room-for oddBlocks 2 (noGrant 32 oddBlocks) ∷
+    besides shows room-for oddBlocks 1 (grant 0 12297829382473034411) ∷
+    -- no block, and 65: 31, also where none is free
+    besides shows room-for 66 0 (noGrant 31 66) ∷
+    besides shows room-for allBlocks 65 (noGrant 31 allBlocks) ∷
+    -- how many are free, and before the first taken one. Against `free_before_counts_all_free`
+    besides shows blocks 0 64 64 ∷
+    besides shows blocks 66 62 1 ∷
+    besides shows blocks oddBlocks 32 1 ∷
+    besides shows blocks allBlocks 0 0 ∷
+    besides shows blocks 9223372036854775808 63 63 ∷
+    -- a 64th of 1,000 bytes is 15, rounded down: three blocks from the third on, and all. Against `blocks_rounded_up`
+    besides shows run-part 1000 2 3 (bytes 30 45) ∷
+    besides shows run-part 1000 0 64 (bytes 0 960) ∷
+    -- the longest memory, whose blocks are of 33,554,431 bytes; one byte more, and 63 bytes: 17, also for a run that there is not
+    besides shows run-part 2147483647 63 1 (bytes 2113929153 33554431) ∷
+    besides shows run-part 2147483648 0 1 (noBytes 17) ∷
+    besides shows run-part 63 0 65 (noBytes 17) ∷
+    -- a run that ends past the last block, also where 32 bits would wrap: 31
+    besides shows run-part 64 60 5 (noBytes 31) ∷
+    besides shows run-part 64 4294967295 1 (noBytes 31) ∷
+    -- blocks 1, 2 and 3 taken, which is 14: all three given back, or two of them
+    besides shows gives-back (freshTable 64) 14 1 3 (back 0 0) ∷
+    besides shows gives-back (freshTable 64) 14 1 2 (back 0 8) ∷
+    -- a block of the run not taken: 33; past the end: 31. Against `give_back_past_the_end_is_33`
+    besides shows gives-back (freshTable 64) 14 3 2 (back 33 14) ∷
+    besides shows gives-back (freshTable 64) allBlocks 63 2 (back 31 allBlocks) ∷
+    besides shows gives-back (freshTable 64) 14 1 0 (back 31 14) ∷
+    -- a table for 63 bytes: 17, also if it is not sound; one that is not sound: 18, whatever the run. Against
+    -- `give_back_asks_the_run_before_the_table`
+    besides shows gives-back (freshTable 63) 14 1 3 (back 17 14) ∷
+    besides shows gives-back (unsound 63) 14 1 3 (back 17 14) ∷
+    besides shows gives-back (unsound 64) 14 63 2 (back 18 14) ∷
+    -- a prepared transfer from bytes 2 and 3, which are blocks 2 and 3, into 8 and 9: neither can be given back, and what lies between
+    -- can. Against `give_back_looks_at_running_slots`, `give_back_looks_at_destinations`
+    besides shows gives-back (busy 64 1 0) allBlocks 3 1 (back 33 allBlocks) ∷
+    besides shows gives-back (busy 64 1 0) allBlocks 8 2 (back 33 allBlocks) ∷
+    besides shows gives-back (busy 64 1 0) allBlocks 4 4 (back 0 18446744073709551375) ∷
+    -- and so it is while it runs, and when it is done
+    besides shows gives-back (busy 64 2 1) allBlocks 2 1 (back 33 allBlocks) ∷
+    besides shows gives-back (busy 64 3 2) allBlocks 9 1 (back 33 allBlocks) ∷
+    -- in 127 bytes a block has one byte, so block 4 is byte 4: rounded up it would be bytes 8 and 9
+    besides shows gives-back (busy 127 1 0) allBlocks 4 1 (back 0 18446744073709551599) ∷
     []

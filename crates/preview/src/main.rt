@@ -1,7 +1,7 @@
 // preview: a small picture becomes a thumbnail and a turned picture, and colour and alpha become one plane. A program to copy from:
 // first a whole move between two lent slices, then two planes joined by two moves, then two transfers that take turns over one memory,
-// then the same two moves as a list of records, written and gone through, then a record by itself, of a thumbnail in a frame, and at last
-// a record that asks for more than anybody would lend.
+// then one in room that a keeper grants, then the same two moves as a list of records, written and gone through, then a record by itself,
+// of a thumbnail in a frame, and at last a record that asks for more than anybody would lend.
 use libc::STDOUT_FILENO;
 use plane::Config;
 use plane::Tensor;
@@ -29,6 +29,13 @@ const MEMORY: usize = TURNED_AT + PICTURE;
 const MOST: usize = MEMORY; // bytes that are lent to one move at the most, whatever its record asks for
 
 const BUDGET: u64 = 4; // elements that one step may move
+
+// A memory whose room is kept: 64 blocks of 4 bytes. The picture takes 6 of them, its thumbnail 2.
+const KEPT: usize = 256;
+
+const PICTURE_BLOCKS: u32 = 6;
+
+const SMALL_BLOCKS: u32 = 2;
 
 // The bytes of the picture: their digits are row and column.
 const PIXELS: [u8; PICTURE] =
@@ -78,11 +85,15 @@ fn turned() -> Config {
     turn.config
 }
 
-fn print_status(text: &[u8], status: u8) {
+fn print_number(text: &[u8], number: u64) {
     io::write_all(STDOUT_FILENO, text);
     io::write_all(STDOUT_FILENO, b" ");
-    io::print_decimal(STDOUT_FILENO, status as u64);
+    io::print_decimal(STDOUT_FILENO, number);
     io::write_all(STDOUT_FILENO, b"\n");
+}
+
+fn print_status(text: &[u8], status: u8) {
+    print_number(text, status as u64);
 }
 
 // Whether byte i is the last of its row.
@@ -185,6 +196,16 @@ fn job(config: Config, start: usize, length: usize) -> Job {
     }
 }
 
+// The thumbnail, from the part that holds the picture into another.
+fn between(source: Part, destination: Part) -> Job {
+    Job {
+        source,
+        destination,
+        tensor: picture(),
+        config: thumbnail(),
+    }
+}
+
 fn is_done(table: Table, handle: u32) -> bool {
     let poll = table.poll(handle);
     match poll {
@@ -232,6 +253,51 @@ fn transfer_both(mem: &mut [u8]) {
         return;
     }
     run_both(large.table, mem, small.handle, large.handle);
+}
+
+// Starts a prepared transfer, moves all of it in one step, and releases it.
+fn run_one(table: Table, mem: &mut [u8], handle: u32) -> Table {
+    let one = table.start(mem, handle);
+    let done = one.table.step(mem, handle, u64::MAX);
+    let none = done.table.release(mem, handle);
+    print_status(b"released", none.status);
+    none.table
+}
+
+// Gives a run back: before its transfer is released, which is refused with 33, and after that.
+fn run_and_give_back(table: Table, mem: &mut [u8], handle: u32, word: u64, first: u32) {
+    let early = keeper::give_back(table, word, first, SMALL_BLOCKS);
+    print_status(b"given back", early.status);
+    let after = run_one(table, mem, handle);
+    let back = keeper::give_back(after, early.word, first, SMALL_BLOCKS);
+    print_status(b"given back", back.status);
+    print_number(b"free blocks", keeper::free_blocks(back.word) as u64);
+}
+
+// A transfer in room that the keeper grants: each request is given the word that the one before handed back, so no block is granted
+// twice, and nobody else's parts meet these. The picture's run is asked for first, so it is the lowest: the memory's start, where the
+// picture stands. (Where part_of were refused, its part would be empty, and prepare would refuse the job with 5.)
+fn transfer_kept(mem: &mut [u8]) {
+    let length = mem.len() as u64;
+    let large = keeper::request(0, PICTURE_BLOCKS);
+    if large.status != 0 {
+        print_status(b"no room", large.status);
+        return;
+    }
+    let small = keeper::request(large.word, SMALL_BLOCKS);
+    if small.status != 0 {
+        print_status(b"no room", small.status);
+        return;
+    }
+    let from = keeper::part_of(length, large.first, PICTURE_BLOCKS);
+    let to = keeper::part_of(length, small.first, SMALL_BLOCKS);
+    let made = Table::fresh(length);
+    let ready = made.table.prepare(mem, between(from.part, to.part));
+    if ready.status != 0 {
+        print_status(b"refused", ready.status);
+        return;
+    }
+    run_and_give_back(ready.table, mem, ready.handle, small.word, small.first);
 }
 
 // Appends the two moves to a list that was just started, as a camera stores them beside the picture. Each goes behind the length that
@@ -306,6 +372,10 @@ fn main() {
     transfer_both(&mut mem);
     print_plane(&mem[SMALL_AT..TURNED_AT], WIDTH as u32 / 2);
     print_plane(&mem[TURNED_AT..MEMORY], HEIGHT as u32);
+    let mut kept = [0u8; KEPT];
+    move_into(picture(), copy.config, &pixels, &mut kept);
+    transfer_kept(&mut kept);
+    print_plane(&kept[PICTURE..PICTURE + SMALL], WIDTH as u32 / 2);
     let mut burst = [0u8; LISTED];
     print_status(b"started", list::start(&mut burst));
     append_both(&mut burst);

@@ -136,7 +136,7 @@ pub(crate) fn counted(out: &mut Out, p: usize, status: u8, dim: u8, count: u64) 
     long(out, p2, count)
 }
 
-fn part(out: &mut Out, p: usize, x: Part) -> usize {
+pub(crate) fn part(out: &mut Out, p: usize, x: Part) -> usize {
     let p1 = long(out, p, x.start);
     long(out, p1, x.length)
 }

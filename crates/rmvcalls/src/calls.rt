@@ -5,6 +5,7 @@ use crate::answers::memory;
 use crate::args;
 use crate::args::Body;
 use crate::config_calls::config_call;
+use crate::keeper_calls::keeper_call;
 use crate::layout::BYTE;
 use crate::layout::BYTES;
 use crate::layout::CONFIG;
@@ -94,6 +95,12 @@ const OF_HANDLE: usize = FIRST + TABLE + WORD;
 
 const STEP: usize = OF_HANDLE + LONG;
 
+const REQUEST: usize = OF_LONG + WORD;
+
+const GIVE_BACK: usize = FIRST + TABLE + LONG + 2 * WORD;
+
+const PART_OF: usize = OF_LONG + 2 * WORD;
+
 // The bytes of the call with this number; 0 where no call has it.
 fn fixed(number: u8) -> usize {
     match number {
@@ -118,13 +125,16 @@ fn fixed(number: u8) -> usize {
         0x22 | 0x27 => ADVANCE,
         0x23 => MEETS,
         0x24 | 0x25 => OF_SUB,
-        0x34 | 0x35 | 0x40 => OF_LONG,
+        0x34 | 0x35 | 0x40 | 0x52 | 0x53 => OF_LONG,
         0x38 => APPEND,
         0x3a => OF_CONFIG,
         0x3b => FIELDS,
         0x41 => PREPARE,
         0x42 | 0x44 | 0x45 => OF_HANDLE,
         0x43 => STEP,
+        0x50 => REQUEST,
+        0x51 => GIVE_BACK,
+        0x54 => PART_OF,
         _ => 0,
     }
 }
@@ -133,7 +143,7 @@ fn fixed(number: u8) -> usize {
 fn has_rest(number: u8) -> bool {
     match number {
         0x21 | 0x23 | 0x3a | 0x3b | 0x40 | 0x45 => false,
-        _ => 0x20 <= number,
+        _ => (0x20 <= number) & (number < 0x50),
     }
 }
 
@@ -160,7 +170,7 @@ pub(crate) fn no_call(out: &mut Out, reason: u8) -> usize {
 
 // The version of docs/CALLS.md.
 fn version(out: &mut Out) -> usize {
-    let p = byte(out, FIRST, 4);
+    let p = byte(out, FIRST, 5);
     byte(out, p, 0)
 }
 
@@ -232,7 +242,8 @@ fn ask(number: u8, body: &Body, rest: &[u8], out: &mut Out) -> usize {
         1 => config_call(number, body, out),
         2 => mover_call(number, body, rest, out),
         3 => list_call(number, body, rest, out),
-        _ => table_call(number, body, rest, out),
+        4 => table_call(number, body, rest, out),
+        _ => keeper_call(number, body, out),
     }
 }
 
