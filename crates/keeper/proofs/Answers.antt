@@ -1,4 +1,4 @@
--- What the functions compute, over plain numbers: words with a run taken or free, and the calls' answers case by case. Assumes nothing.
+-- What the functions compute, over plain values: words with a run taken or free, and the calls' answers case by case. Assumes nothing.
 use Prim.Native.Nat.{ℕ, _+_, _-_, _*_, _/_, _%_, _^_, _≤_, _<_}
 use native.Mathlib.Nat.{lt-of-lt-of-le, lt-of-le-of-lt, mul-le-mul}
 use native.Mathlib.Omega.{arith}

@@ -2,15 +2,15 @@
 -- Assumes nothing.
 use mathlib.Core.Path.{_≡_, refl, sym, ap, ap₂, _∙_}
 use mathlib.Core.Bool.{Bool, true, false, not, cond, _&&_, _||_, and-true, and-false}
-use Prim.Native.Nat.{ℕ, zero, suc, _+_, _-_, _*_, _/_, _%_, _^_, _≤_, _<_, min, max}
-use native.Mathlib.Nat.{div-one, mod-one, mod-lt, mod-eq-of-lt, div-eq-of-lt, lt-of-lt-of-le, pow-suc, mul-assoc, mul-mod-left, zero-lt-suc}
+use Prim.Native.Nat.{ℕ, zero, suc, _+_, _-_, _*_, _/_, _%_, _^_, _<_, min, max}
+use native.Mathlib.Nat.{div-one, mod-one, mod-lt, mod-eq-of-lt, div-eq-of-lt, pow-suc, zero-add, suc-add, zero-lt-suc}
 use native.Mathlib.Numerals.{one-add}
 use native.Mathlib.Omega.{arith}
-use borrow.Author.Tests.{eqb-true, eqb-false, eq-eqb, ne-eqb, lt-ltb, le-ltb, ltb-true, ltb-false, leb-true, leb-false}
-use lib.Dec.{eqb, leb, ltb}
+use borrow.Author.Tests.{eqb-true, eqb-false, eq-eqb, ne-eqb}
+use lib.Dec.{eqb, ltb, leb·zero, leb·suc-zero, leb·suc-suc}
 use lib.Arith.{digits-mod}
-use lib.Pow.{pow-pos, pow-mono, pow-add, shr-shr, shl-shr, mod-pow-add, ones-split, ones-lt, high}
-use lib.Bits.{bitAnd, bitOr, and-step, or-step, and-shr, or-shr, and-mask}
+use lib.Pow.{pow-pos, shr-shr, mod-pow-add}
+use lib.Bits.{bitAnd, bitOr, and-step, or-step, and-shr, or-shr, and-mask, shifted-half, shifted-even}
 use Rattle.plane.specs.Arrays.{every}
 use Rattle.plane.proofs.Arrays.{every-same}
 use Rattle.keeper.specs.Blocks.{isTaken, wordOf, inRun}
@@ -23,16 +23,6 @@ eqb-iff a b c d f g = go (eqb a b) refl
     go : (t : Bool) → eqb a b ≡ t → t ≡ eqb c d
     go true e = sym (eq-eqb c d (f (eqb-true a b e)))
     go false e = sym (ne-eqb c d (λ q. eqb-false a b e (g q)))
-
-ltb-iff : (a b c d : ℕ) → (a < b → c < d) → (c < d → a < b) → ltb a b ≡ ltb c d
-ltb-iff a b c d f g = go (ltb a b) refl
-  where
-    lt-or : (x y : ℕ) → (x < y → ⊥) → y ≤ x
-    lt-or x y h = omega arith
-
-    go : (t : Bool) → ltb a b ≡ t → t ≡ ltb c d
-    go true e = sym (lt-ltb c d (f (ltb-true a b e)))
-    go false e = sym (le-ltb c d (lt-or c d (λ q. omega (arith, g q, ltb-false a b e))))
 
 -- ---- a bit is 0 or 1
 
@@ -48,28 +38,29 @@ digit-is (suc (suc d)) h = absurd (omega arith)
 bit-is : (w j : ℕ) → w / 2 ^ j % 2 ≡ cond (isTaken w j) 1 0
 bit-is w j = digit-is (w / 2 ^ j % 2) (two-mod (w / 2 ^ j))
 
-cond-test : (t : Bool) → eqb (cond t 1 0) 1 ≡ t
-cond-test true = refl
-cond-test false = refl
+-- block b + k of w is block k of `w >> b`; so block j + 1 is block j of w / 2, and block 0 is the last digit
+shifted : (w b k : ℕ) → isTaken w (b + k) ≡ isTaken (w / 2 ^ b) k
+shifted w b k = ap (λ (x : ℕ). eqb (x % 2) 1) (sym (shr-shr w b k))
 
--- the halves: block j + 1 of w is block j of w / 2
-pub half-bit : (w j : ℕ) → w / 2 ^ suc j ≡ w / 2 / 2 ^ j
-half-bit w j = ap (λ (n : ℕ). w / 2 ^ n) (sym (one-add j)) ∙ sym (shr-shr w 1 j)
+pub next-block : (w j : ℕ) → isTaken w (suc j) ≡ isTaken (w / 2) j
+next-block w j = ap (isTaken w) (sym (one-add j)) ∙ shifted w 1 j
 
-pub first-bit : (w : ℕ) → w / 2 ^ 0 ≡ w
-first-bit w = div-one w
+pub first-block : (w : ℕ) → isTaken w 0 ≡ eqb (w % 2) 1
+first-block w = ap (λ (x : ℕ). eqb (x % 2) 1) (div-one w)
+
+-- one digit more
+pub mod-step : (n x : ℕ) → x % 2 ^ suc n ≡ cond (isTaken x n) 1 0 * 2 ^ n + x % 2 ^ n
+mod-step n x = ap (λ (m : ℕ). x % 2 ^ m) (sym (one-add n)) ∙ mod-pow-add x 1 n ∙ ap (λ (d : ℕ). d * 2 ^ n + x % 2 ^ n) (bit-is x n)
 
 -- ---- words with the same bits are equal
 
-mods : (k a b : ℕ) → ((j : ℕ) → j < k → a / 2 ^ j % 2 ≡ b / 2 ^ j % 2) → a % 2 ^ k ≡ b % 2 ^ k
+mods : (k a b : ℕ) → ((j : ℕ) → j < k → isTaken a j ≡ isTaken b j) → a % 2 ^ k ≡ b % 2 ^ k
 mods zero a b h = mod-one a ∙ sym (mod-one b)
 mods (suc k) a b h =
-    let step : (x : ℕ) → x % 2 ^ suc k ≡ (x / 2 ^ k % 2) * 2 ^ k + x % 2 ^ k = λ x. ap (λ (n : ℕ). x % 2 ^ n) (sym (one-add k)) ∙ mod-pow-add x 1 k in
-    step a ∙ ap₂ (λ (x y : ℕ). x * 2 ^ k + y) (h k (omega arith)) (mods k a b (λ j l. h j (omega arith))) ∙ sym (step b)
+    mod-step k a ∙ ap₂ (λ (t : Bool) (y : ℕ). cond t 1 0 * 2 ^ k + y) (h k (omega arith)) (mods k a b (λ j l. h j (omega arith))) ∙ sym (mod-step k b)
 
 bits-ext : (k a b : ℕ) → a < 2 ^ k → b < 2 ^ k → ((j : ℕ) → j < k → isTaken a j ≡ isTaken b j) → a ≡ b
-bits-ext k a b ha hb h =
-    sym (mod-eq-of-lt ha) ∙ mods k a b (λ j l. bit-is a j ∙ ap (λ (t : Bool). cond t 1 0) (h j l) ∙ sym (bit-is b j)) ∙ mod-eq-of-lt hb
+bits-ext k a b ha hb h = sym (mod-eq-of-lt ha) ∙ mods k a b h ∙ mod-eq-of-lt hb
 
 -- ---- a word made of blocks
 
@@ -82,24 +73,20 @@ of-lt (suc k) f = go (f 0) (of-lt k (λ j. f (suc j)))
     go true r = omega (arith, pow-suc 2 k)
     go false r = omega (arith, pow-suc 2 k)
 
-digit-of : (t : Bool) (x : ℕ) → (cond t 1 0 + 2 * x) % 2 ≡ cond t 1 0
-digit-of true x = omega arith
-digit-of false x = omega arith
+digit-of : (t : Bool) (x : ℕ) → eqb ((cond t 1 0 + 2 * x) % 2) 1 ≡ t
+digit-of true x = eq-eqb ((1 + 2 * x) % 2) 1 (omega arith)
+digit-of false x = ne-eqb ((0 + 2 * x) % 2) 1 (λ e. omega arith)
 
 rest-of : (t : Bool) (x : ℕ) → (cond t 1 0 + 2 * x) / 2 ≡ x
 rest-of true x = omega arith
 rest-of false x = omega arith
 
-of-bit : (k : ℕ) (f : ℕ → Bool) (j : ℕ) → j < k → wordOf k f / 2 ^ j % 2 ≡ cond (f j) 1 0
-unfolding wordOf
-of-bit zero f j h = absurd (omega arith)
-of-bit (suc k) f zero h = ap (λ (x : ℕ). x % 2) (first-bit (wordOf (suc k) f)) ∙ digit-of (f 0) (wordOf k (λ j. f (suc j)))
-of-bit (suc k) f (suc j) h =
-    ap (λ (x : ℕ). x % 2) (half-bit (wordOf (suc k) f) j ∙ ap (λ (x : ℕ). x / 2 ^ j) (rest-of (f 0) (wordOf k (λ j. f (suc j)))))
-    ∙ of-bit k (λ j. f (suc j)) j (omega arith)
-
 pub taken-of : (k : ℕ) (f : ℕ → Bool) (j : ℕ) → j < k → isTaken (wordOf k f) j ≡ f j
-taken-of k f j h = ap (λ (x : ℕ). eqb x 1) (of-bit k f j h) ∙ cond-test (f j)
+unfolding wordOf
+taken-of zero f j h = absurd (omega arith)
+taken-of (suc k) f zero h = first-block (wordOf (suc k) f) ∙ digit-of (f 0) (wordOf k (λ j. f (suc j)))
+taken-of (suc k) f (suc j) h =
+    next-block (wordOf (suc k) f) j ∙ ap (λ (x : ℕ). isTaken x j) (rest-of (f 0) (wordOf k (λ j. f (suc j)))) ∙ taken-of k (λ j. f (suc j)) j (omega arith)
 
 -- so whatever has those bits is that word
 pub is-of : (k a : ℕ) (f : ℕ → Bool) → a < 2 ^ k → ((j : ℕ) → j < k → isTaken a j ≡ f j) → a ≡ wordOf k f
@@ -147,74 +134,38 @@ not-digit : (t : Bool) → eqb (1 - cond t 1 0) 1 ≡ not t
 not-digit true = refl
 not-digit false = refl
 
--- the complement of m below 2 * p: its last digit, and the rest
-comp-low : (p m : ℕ) → m < 2 * p → (2 * p - 1 - m) % 2 ≡ 1 - m % 2
-comp-low p m h = omega arith
-
-comp-high : (p m : ℕ) → m < 2 * p → (2 * p - 1 - m) / 2 ≡ p - 1 - m / 2
-comp-high p m h = omega arith
-
-not-bit : (k m j : ℕ) → m < 2 ^ k → j < k → (2 ^ k - 1 - m) / 2 ^ j % 2 ≡ 1 - m / 2 ^ j % 2
-not-bit zero m j h l = absurd (omega arith)
-not-bit (suc k) m zero h l =
-    let e : 2 ^ suc k ≡ 2 * 2 ^ k = pow-suc 2 k ∙ omega arith in
-    rw (first-bit, first-bit, e, comp-low (2 ^ k) m (omega arith))
-not-bit (suc k) m (suc j) h l =
-    let e : 2 ^ suc k ≡ 2 * 2 ^ k = pow-suc 2 k ∙ omega arith in
-    ap (λ (x : ℕ). x % 2) (half-bit (2 ^ suc k - 1 - m) j ∙ ap (λ (x : ℕ). x / 2 ^ j) (ap (λ (x : ℕ). (x - 1 - m) / 2) e ∙ comp-high (2 ^ k) m (omega arith)))
-    ∙ not-bit k (m / 2) j (omega arith) (omega arith)
-    ∙ ap (λ (x : ℕ). 1 - x % 2) (sym (half-bit m j))
-
 pub taken-not : (k m j : ℕ) → m < 2 ^ k → j < k → isTaken (2 ^ k - 1 - m) j ≡ not (isTaken m j)
-taken-not k m j h l = ap (λ (x : ℕ). eqb x 1) (not-bit k m j h l ∙ ap (λ (x : ℕ). 1 - x) (bit-is m j)) ∙ not-digit (isTaken m j)
+taken-not zero m j h l = absurd (omega arith)
+taken-not (suc k) m zero h l =
+    let e : (2 ^ suc k - 1 - m) % 2 ≡ 1 - m % 2 = omega (arith, pow-suc 2 k) in
+    first-block (2 ^ suc k - 1 - m) ∙ ap (λ (x : ℕ). eqb x 1) (e ∙ ap (λ (x : ℕ). 1 - x) (digit-is (m % 2) (two-mod m)))
+    ∙ not-digit (eqb (m % 2) 1) ∙ ap not (sym (first-block m))
+taken-not (suc k) m (suc j) h l =
+    let e : (2 ^ suc k - 1 - m) / 2 ≡ 2 ^ k - 1 - m / 2 = omega (arith, pow-suc 2 k) in
+    next-block (2 ^ suc k - 1 - m) j ∙ ap (λ (x : ℕ). isTaken x j) e
+    ∙ taken-not k (m / 2) j (omega (arith, pow-suc 2 k)) (omega arith) ∙ ap not (sym (next-block m j))
 
 -- ---- runs of ones
 
-odd : (m : ℕ) → (2 ^ suc m - 1) % 2 ≡ 1
-odd m = let e : 2 ^ suc m ≡ 2 ^ m * 2 = pow-suc 2 m in let p : 0 < 2 ^ m = pow-pos m in rw e (omega arith)
-
 low-run : (n i : ℕ) → isTaken (2 ^ n - 1) i ≡ ltb i n
-low-run n i = go (ltb i n) refl
-  where
-    inside : i < n → (2 ^ n - 1) / 2 ^ i % 2 ≡ 1
-    inside h =
-        let m = n - i - 1 in
-        let e : n ≡ suc m + i = omega arith in
-        ap (λ (x : ℕ). (2 ^ x - 1) / 2 ^ i % 2) e ∙ ap (λ (x : ℕ). x / 2 ^ i % 2) (ones-split (suc m) i) ∙ ap (λ (x : ℕ). x % 2) (high (2 ^ suc m - 1) i (ones-lt i)) ∙ odd m
-
-    outside : n ≤ i → (2 ^ n - 1) / 2 ^ i % 2 ≡ 0
-    outside h = ap (λ (x : ℕ). x % 2) (div-eq-of-lt (lt-of-lt-of-le (ones-lt n) (pow-mono h)))
-
-    go : (t : Bool) → ltb i n ≡ t → isTaken (2 ^ n - 1) i ≡ t
-    go true e = ap (λ (x : ℕ). eqb x 1) (inside (ltb-true i n e))
-    go false e = ap (λ (x : ℕ). eqb x 1) (outside (ltb-false i n e))
+low-run zero i = ap (λ (x : ℕ). eqb (x % 2) 1) (div-eq-of-lt (pow-pos i)) ∙ sym (leb·suc-zero i)
+low-run (suc n) zero =
+    let p : 0 < 2 ^ n = pow-pos n in
+    first-block (2 ^ suc n - 1) ∙ eq-eqb ((2 ^ suc n - 1) % 2) 1 (omega (arith, pow-suc 2 n)) ∙ sym (leb·suc-suc 0 n ∙ leb·zero n)
+low-run (suc n) (suc i) =
+    let e : (2 ^ suc n - 1) / 2 ≡ 2 ^ n - 1 = omega (arith, pow-suc 2 n) in
+    next-block (2 ^ suc n - 1) i ∙ ap (λ (x : ℕ). isTaken x i) e ∙ low-run n i ∙ sym (leb·suc-suc (suc i) n)
 
 -- `(2 ^ n - 1) << b`
 pub taken-run : (b n j : ℕ) → isTaken ((2 ^ n - 1) * 2 ^ b) j ≡ inRun b n j
-taken-run b n j = go (leb b j) refl
-  where
-    past : b ≤ j → isTaken ((2 ^ n - 1) * 2 ^ b) j ≡ ltb j (b + n)
-    past h =
-        let i = j - b in
-        let e : j ≡ b + i = omega arith in
-        ap (λ (x : ℕ). eqb (x % 2) 1) (ap (λ (x : ℕ). (2 ^ n - 1) * 2 ^ b / 2 ^ x) e ∙ sym (shr-shr ((2 ^ n - 1) * 2 ^ b) b i) ∙ ap (λ (x : ℕ). x / 2 ^ i) (shl-shr (2 ^ n - 1) b))
-        ∙ low-run n i ∙ ltb-iff i n j (b + n) (λ l. omega arith) (λ l. omega arith)
-
-    before : j < b → (2 ^ n - 1) * 2 ^ b / 2 ^ j % 2 ≡ 0
-    before h =
-        let c = b - j - 1 in
-        let e : b ≡ suc c + j = omega arith in
-        ap (λ (x : ℕ). (2 ^ n - 1) * 2 ^ x / 2 ^ j % 2) e
-        ∙ ap (λ (x : ℕ). (2 ^ n - 1) * x / 2 ^ j % 2) (pow-add 2 (suc c) j)
-        ∙ ap (λ (x : ℕ). x / 2 ^ j % 2) (sym (mul-assoc (2 ^ n - 1) (2 ^ suc c) (2 ^ j)))
-        ∙ ap (λ (x : ℕ). x % 2) (shl-shr ((2 ^ n - 1) * 2 ^ suc c) j)
-        ∙ ap (λ (x : ℕ). (2 ^ n - 1) * x % 2) (pow-suc 2 c)
-        ∙ ap (λ (x : ℕ). x % 2) (sym (mul-assoc (2 ^ n - 1) (2 ^ c) 2))
-        ∙ mul-mod-left ((2 ^ n - 1) * 2 ^ c) 2
-
-    go : (t : Bool) → leb b j ≡ t → isTaken ((2 ^ n - 1) * 2 ^ b) j ≡ (t && ltb j (b + n))
-    go true e = past (leb-true b j e)
-    go false e = ap (λ (x : ℕ). eqb x 1) (before (leb-false b j e))
+taken-run zero n j =
+    ap (λ (x : ℕ). isTaken x j) (omega arith) ∙ low-run n j ∙ sym (ap₂ (λ (t : Bool) (m : ℕ). t && ltb j m) (leb·zero j) (zero-add n))
+taken-run (suc b) n zero =
+    first-block ((2 ^ n - 1) * 2 ^ suc b) ∙ ap (λ (x : ℕ). eqb x 1) (shifted-even (2 ^ n - 1) b)
+    ∙ sym (ap (λ (t : Bool). t && ltb 0 (suc b + n)) (leb·suc-zero b))
+taken-run (suc b) n (suc j) =
+    next-block ((2 ^ n - 1) * 2 ^ suc b) j ∙ ap (λ (x : ℕ). isTaken x j) (shifted-half (2 ^ n - 1) b) ∙ taken-run b n j
+    ∙ sym (ap₂ _&&_ (leb·suc-suc b j) (ap (ltb (suc j)) (suc-add b n) ∙ leb·suc-suc (suc j) (b + n)))
 
 -- ---- a run of free blocks, and a run of taken ones, by a mask
 
@@ -225,9 +176,6 @@ none-taken false r p h = and-true (eqb r 0) ∙ eqb-iff r 0 (0 * p + r) 0 (λ e.
 all-taken : (t : Bool) (r p : ℕ) → r < p → (eqb r (p - 1) && t) ≡ eqb (cond t 1 0 * p + r) (p * 2 - 1)
 all-taken true r p h = and-true (eqb r (p - 1)) ∙ eqb-iff r (p - 1) (1 * p + r) (p * 2 - 1) (λ e. omega arith) (λ e. omega arith)
 all-taken false r p h = and-false (eqb r (p - 1)) ∙ sym (ne-eqb (0 * p + r) (p * 2 - 1) (λ e. omega arith))
-
-pub mod-step : (n x : ℕ) → x % 2 ^ suc n ≡ cond (isTaken x n) 1 0 * 2 ^ n + x % 2 ^ n
-mod-step n x = ap (λ (m : ℕ). x % 2 ^ m) (sym (one-add n)) ∙ mod-pow-add x 1 n ∙ ap (λ (d : ℕ). d * 2 ^ n + x % 2 ^ n) (bit-is x n)
 
 low-free : (n x : ℕ) → every n (λ k. not (isTaken x k)) ≡ eqb (x % 2 ^ n) 0
 unfolding every
@@ -240,10 +188,6 @@ low-taken zero x = sym (ap (λ (r : ℕ). eqb r 0) (mod-one x))
 low-taken (suc n) x =
     ap (λ (t : Bool). t && isTaken x n) (low-taken n x) ∙ all-taken (isTaken x n) (x % 2 ^ n) (2 ^ n) (mod-lt x (pow-pos n))
     ∙ ap₂ (λ (r p : ℕ). eqb r (p - 1)) (sym (mod-step n x)) (sym (pow-suc 2 n))
-
--- block b + k of w is block k of `w >> b`
-shifted : (w b k : ℕ) → isTaken w (b + k) ≡ isTaken (w / 2 ^ b) k
-shifted w b k = ap (λ (x : ℕ). eqb (x % 2) 1) (sym (shr-shr w b k))
 
 -- `(w >> b) & (2 ^ n - 1) == 0`
 pub run-free : (w b n : ℕ) → every n (λ k. not (isTaken w (b + k))) ≡ eqb (bitAnd (w / 2 ^ b) (2 ^ n - 1)) 0

@@ -27,24 +27,25 @@ use Rattle.transfers.proofs.Fours.{slot-same, slot-other, with-length, lowest-i
 use Rattle.transfers.proofs.Answers.{called, preparing}
 use Rattle.transfers.proofs.Demand3.{by-fault}
 use Rattle.keeper.specs.Calls.{requestOf, blockBytes, runPart, giveBackOf}
-use Rattle.keeper.specs.Sharing.{Deed, given-back, Holds, InOwn, Housed, ToolCall, on-table, request, give-back, ask, Tools, freshTools, noteRequest, noteBack, noteOwner, ownersAfter, afterTool, runTools, AllHoused, InOrder, AllInOrder, OrderlyTools}
+use Rattle.keeper.specs.Sharing.{Deed, given-back, Holds, InOwn, Owners, Housed, ToolCall, on-table, request, give-back, ask, Tools, freshTools, noteRequest, noteBack, noteOwner, ownersAfter, afterTool, runTools, AllHoused, InOrder, AllInOrder, OrderlyTools}
 use Rattle.keeper.proofs.Granting.{back-run}
 use Rattle.keeper.proofs.Placing.{byte-of}
 use Rattle.keeper.proofs.Sharing.{no-collision}
 
 -- ---- calls of the keeper
 
-module _ (l : ℕ) (deeds later : List Deed) (who : ℕ) where
+module _ (l : ℕ) (deeds later : List Deed) where
   -- where each block with a byte of the part stays held
-  own-still : (p : Part) → ((i : ℕ) → Has p i → Holds deeds who (i / blockBytes l) → Holds later who (i / blockBytes l)) → InOwn l deeds who p → InOwn l later who p
-  own-still p f a = record { ends = a .ends; held = λ i h. f i h (a .held i h) }
+  abbrev Stays : ℕ → Part → Type 0
+  Stays who p = (i : ℕ) → Has p i → Holds deeds who (i / blockBytes l) → Holds later who (i / blockBytes l)
 
-  house-still : (j : Job) → ((i : ℕ) → Has (j .source) i → Holds deeds who (i / blockBytes l) → Holds later who (i / blockBytes l))
-      → ((i : ℕ) → Has (j .destination) i → Holds deeds who (i / blockBytes l) → Holds later who (i / blockBytes l))
-      → Housed l deeds who j → Housed l later who j
-  house-still j f g a = record { source = own-still (j .source) f (a .source); destination = own-still (j .destination) g (a .destination) }
+  own-still : (who : ℕ) (p : Part) → Stays who p → InOwn l deeds who p → InOwn l later who p
+  own-still who p f a = record { ends = a .ends; held = λ i h. f i h (a .held i h) }
 
-module _ (t : Table) (w : ℕ) (deeds : List Deed) (owner : ℕ → ℕ) (all : AllHoused t deeds owner) where
+  house-still : (o : Owners) (j : Job) → Stays (o .reads) (j .source) → Stays (o .writes) (j .destination) → Housed l deeds o j → Housed l later o j
+  house-still o j f g a = record { source = own-still _ _ f (a .source); destination = own-still _ _ g (a .destination) }
+
+module _ (t : Table) (w : ℕ) (deeds : List Deed) (owner : ℕ → Owners) (all : AllHoused t deeds owner) where
   in-request : (who n : ℕ) → AllHoused t (noteRequest who n (requestOf w n) deeds) owner
   unfolding noteRequest
   in-request who n = elim (ℕ-discrete (requestOf w n .status) 0) [
@@ -68,15 +69,15 @@ module _ (t : Table) (w : ℕ) (deeds : List Deed) (owner : ℕ → ℕ) (all : 
         let a = all h b in
         let r = back-run t w first n z in
         house-still (t .length) deeds (given-back first n ∷ deeds) (owner h) j
-        (spared (j .source) (owner h) first n (a .source) (r .source h (b .0) (b .1)))
-        (spared (j .destination) (owner h) first n (a .destination) (r .destination h (b .0) (b .1))) a)
+        (spared (j .source) (owner h .reads) first n (a .source) (r .source h (b .0) (b .1)))
+        (spared (j .destination) (owner h .writes) first n (a .destination) (r .destination h (b .0) (b .1))) a)
     | no z ↦ rw (ne-eqb (giveBackOf t w first n .status) 0 z) all
   ]
 
   -- ---- calls on the table
 
   -- a slot put in its place, for whom: its parts, where it is not free, lie in that one's blocks
-  in-with : (g : ℕ) (s : Slot) (then : ℕ → ℕ) → g < 4 → ((h : ℕ) → (h ≡ g → ⊥) → then h ≡ owner h)
+  in-with : (g : ℕ) (s : Slot) (then : ℕ → Owners) → g < 4 → ((h : ℕ) → (h ≡ g → ⊥) → then h ≡ owner h)
       → ((s .state ≡ 0 → ⊥) → Housed (t .length) deeds (then g) (s .job)) → AllHoused (withSlot t g s) deeds then
   in-with g s then l same new h b = elim (ℕ-discrete h g) [
     | yes e ↦ let q : slotAt (withSlot t g s) h ≡ s = ap (slotAt (withSlot t g s)) e ∙ slot-same t g s l in
@@ -85,7 +86,7 @@ module _ (t : Table) (w : ℕ) (deeds : List Deed) (owner : ℕ → ℕ) (all : 
         rw (with-length t g s, q, same h e) (all h (b .0, λ z. b .1 (ap (λ (x : Slot). x .state) q ∙ z)))
   ]
 
-  in-prepare : (who n : ℕ) (j : Job) → Housed (t .length) deeds who j → AllHoused (prepareOf t n j .table) deeds (noteOwner who (prepareOf t n j) owner)
+  in-prepare : (who : Owners) (n : ℕ) (j : Job) → Housed (t .length) deeds who j → AllHoused (prepareOf t n j .table) deeds (noteOwner who (prepareOf t n j) owner)
   unfolding prepareOf noteOwner
   in-prepare who n j house =
       by-fault (λ (a : Prepared). AllHoused (a .table) deeds (noteOwner who a owner)) (prepareFault t n j)
@@ -113,7 +114,7 @@ module _ (t : Table) (w : ℕ) (deeds : List Deed) (owner : ℕ → ℕ) (all : 
 
 -- ---- a call, and many
 
-in-call : (who : ℕ) (c : Call) (s : Tools) → InOrder (on-table who c) s → AllHoused (s .world .table) (s .deeds) (s .owner)
+in-call : (who : Owners) (c : Call) (s : Tools) → InOrder (on-table who c) s → AllHoused (s .world .table) (s .deeds) (s .owner)
     → AllHoused (after c (s .world) .table) (s .deeds) (ownersAfter who c (s .world) (s .owner))
 unfolding after startOf releaseOf
 in-call who (prepare j) s own all = let w = s .world in in-prepare (w .table) (s .word) (s .deeds) (s .owner) all who (length (w .memory)) j (own .housed)

@@ -12,35 +12,29 @@ use Rattle.keeper.specs.Claims.{InRun, RunParts}
 pub blocks-end : (l : ℕ) → 64 * blockBytes l ≤ l
 blocks-end l = omega arith
 
+-- where a run ends
+run-end : (l first n : ℕ) → (first + n) * blockBytes l ≡ runPart l first n .start + runPart l first n .length
+unfolding runPart
+run-end l first n = add-mul first n (l / 64)
+
 -- no run of at most 64 ends past them
 pub run-ends : (l first n : ℕ) → first + n ≤ 64 → runPart l first n .start + runPart l first n .length ≤ 64 * blockBytes l
-unfolding runPart
-run-ends l first n h =
-    let e : (first + n) * (l / 64) ≡ first * (l / 64) + n * (l / 64) = add-mul first n (l / 64) in
-    let m : (first + n) * (l / 64) ≤ 64 * (l / 64) = mul-le-mul h (omega arith) in
-    omega arith
+run-ends l first n h = rw (← run-end l first n) (mul-le-mul h (omega arith))
 
 module _ (l first n i : ℕ) where
   pub block-of : 0 < blockBytes l → Has (runPart l first n) i → InRun first n (i / blockBytes l)
   unfolding runPart
-  block-of p h =
-      let e : (first + n) * (l / 64) ≡ first * (l / 64) + n * (l / 64) = add-mul first n (l / 64) in
-      (le-div-iff-mul-le p .1 (h .0), div-lt-iff-lt-mul p .1 (omega arith))
+  block-of p h = (le-div-iff-mul-le p .1 (h .0), div-lt-iff-lt-mul p .1 (omega (arith, run-end l first n, h .1)))
 
   pub byte-of : 0 < blockBytes l → InRun first n (i / blockBytes l) → Has (runPart l first n) i
   unfolding runPart
-  byte-of p r =
-      let e : (first + n) * (l / 64) ≡ first * (l / 64) + n * (l / 64) = add-mul first n (l / 64) in
-      let m = div-lt-iff-lt-mul p .0 (r .1) in
-      (le-div-iff-mul-le p .0 (r .0), omega arith)
+  byte-of p r = (le-div-iff-mul-le p .0 (r .0), omega (arith, run-end l first n, div-lt-iff-lt-mul p .0 (r .1)))
 
 -- where a block has no byte, no run has
 no-bytes : (l first n i : ℕ) → blockBytes l ≡ 0 → Has (runPart l first n) i → ⊥
-unfolding runPart
 no-bytes l first n i z h =
-    let e : (first + n) * (l / 64) ≡ first * (l / 64) + n * (l / 64) = add-mul first n (l / 64) in
-    let m : (first + n) * (l / 64) ≤ (first + n) * 0 = mul-le-mul (omega arith) (omega arith) in
-    omega arith
+    let m : (first + n) * blockBytes l ≤ (first + n) * 0 = mul-le-mul (omega arith) (omega arith) in
+    omega (arith, run-end l first n, h .0, h .1)
 
 apart : (l f k g m : ℕ) → ((b : ℕ) → InRun f k b → InRun g m b → ⊥) → Apart (runPart l f k) (runPart l g m)
 apart l f k g m none i p q = elim (decLt 0 (blockBytes l)) [

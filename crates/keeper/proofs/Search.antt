@@ -12,7 +12,7 @@ use Rattle.faults.proofs.Bools.{neither}
 use Rattle.plane.specs.Arrays.{some, howMany}
 use Rattle.plane.proofs.Arrays.{some-clear, some-none, some-found}
 use Rattle.keeper.specs.Blocks.{isTaken, lowestOf}
-use Rattle.keeper.proofs.Bits.{first-bit, half-bit, mod-step, two-mod}
+use Rattle.keeper.proofs.Bits.{first-block, next-block, mod-step, two-mod}
 
 -- ---- the lowest
 
@@ -62,19 +62,16 @@ trailing zero w = (λ j l. absurd (omega arith), λ l. absurd (omega arith))
 trailing (suc k) w = go (w % 2) refl (two-mod w) (trailing k (w / 2))
   where
     first : (d : ℕ) → w % 2 ≡ d → isTaken w 0 ≡ eqb d 1
-    first d e = ap (λ (x : ℕ). eqb (x % 2) 1) (first-bit w) ∙ ap (λ (x : ℕ). eqb x 1) e
-
-    other : (j : ℕ) → isTaken w (suc j) ≡ isTaken (w / 2) j
-    other j = ap (λ (x : ℕ). eqb (x % 2) 1) (half-bit w j)
+    first d e = first-block w ∙ ap (λ (x : ℕ). eqb x 1) e
 
     go : (d : ℕ) → w % 2 ≡ d → d < 2 → Trailing k (w / 2) (trailingZeros k (w / 2))
         → ((j : ℕ) → j < under d (trailingZeros k (w / 2)) → isTaken w j ≡ false)
         × (under d (trailingZeros k (w / 2)) < suc k → isTaken w (under d (trailingZeros k (w / 2))) ≡ true)
-    go zero e l r = (low, λ m. other (trailingZeros k (w / 2)) ∙ r .1 (omega arith))
+    go zero e l r = (low, λ m. next-block w (trailingZeros k (w / 2)) ∙ r .1 (omega arith))
       where
         low : (j : ℕ) → j < suc (trailingZeros k (w / 2)) → isTaken w j ≡ false
         low zero m = first zero e
-        low (suc j) m = other j ∙ r .0 j (omega arith)
+        low (suc j) m = next-block w j ∙ r .0 j (omega arith)
     go (suc zero) e l r = (λ j m. absurd (omega arith), λ m. first 1 e)
     go (suc (suc d)) e l r = absurd (omega arith)
 

@@ -34,7 +34,7 @@ use Rattle.keeper.specs.declared.GivenBack.{GivenBack}
 use Rattle.keeper.specs.Blocks.{isTaken}
 use Rattle.keeper.specs.Calls.{requestOf, blockBytes, giveBackOf}
 use Rattle.keeper.specs.Claims.{InRun}
-use Rattle.keeper.specs.Sharing.{Deed, granted, given-back, Holds, InOwn, Housed, RunIsOwn, ToolCall, on-table, request, give-back, ask, Tools, freshTools, noteRequest, noteBack, afterTool, runTools, tableCalls, DemandStands, AllHoused, OfItsOwn, Neither20Nor22, NoCollision}
+use Rattle.keeper.specs.Sharing.{Deed, granted, given-back, Holds, InOwn, Owners, RunIsOwn, ToolCall, on-table, request, give-back, ask, Tools, freshTools, noteRequest, noteBack, afterTool, runTools, tableCalls, DemandStands, GrantedOnce, AllHoused, OfItsOwn, Neither20Nor22, NoCollision}
 use Rattle.keeper.proofs.Exact.{refused-keeper}
 use Rattle.keeper.proofs.Granting.{granted-run, back-run}
 use Rattle.keeper.proofs.Placing.{blocks-end, run-ends, block-of}
@@ -125,6 +125,9 @@ kept-fresh : (n : ℕ) (m₀ : List ℕ) (w : ℕ) → let s = freshTools n m₀
 unfolding freshTools
 kept-fresh n m₀ w = record { inside = λ who b x. absurd x; taken = λ who b x. absurd x; one = λ who other b x y. absurd x }
 
+pub granted-once : GrantedOnce
+granted-once n m₀ w cs k ok = unheld (kept-tools cs (freshTools n m₀ w) (kept-fresh n m₀ w)) 0 k ok
+
 -- ---- parts in blocks of one's own
 
 pub run-is-own : RunIsOwn
@@ -136,20 +139,14 @@ run-is-own l deeds who first n p inside all lo hi = record {
     positive : (i : ℕ) → Has p i → 0 < blockBytes l
     positive i h = omega (arith, run-ends l first n inside, h .0, h .1)
 
--- the parts of two who are not the same share no byte
-module _ {w : ℕ} {deeds : List Deed} (k : Kept w deeds) (l : ℕ) {who other : ℕ} (d : who ≡ other → ⊥) where
-  no-meeting : {p q : Part} → InOwn l deeds who p → InOwn l deeds other q → meets p q ≡ false
-  no-meeting {p} {q} a b = go (meets p q) refl
+-- parts in blocks of two owners who are not the same share no byte
+module _ {w : ℕ} {deeds : List Deed} (k : Kept w deeds) (l : ℕ) where
+  no-meeting : {who other : ℕ} {p q : Part} → (who ≡ other → ⊥) → InOwn l deeds who p → InOwn l deeds other q → meets p q ≡ false
+  no-meeting {who} {other} {p} {q} d a b = go (meets p q) refl
     where
       go : (t : Bool) → meets p q ≡ t → t ≡ false
       go true e = let (i, x, y) = meets-shared p q e in absurd (d (k .one who other (i / blockBytes l) (a .held i x) (b .held i y)))
       go false e = refl
-
-  no-break : {j i : Job} → Housed l deeds who j → Housed l deeds other i → breaks j i ≡ false
-  unfolding breaks
-  no-break a b =
-      neither _ _ (neither _ _ (no-meeting (a .destination) (b .destination)) (no-meeting (a .destination) (b .source)))
-      (no-meeting (a .source) (b .destination))
 
 -- such a part does not leave the memory
 stays : (l : ℕ) (deeds : List Deed) (who : ℕ) (p : Part) → InOwn l deeds who p → leaves l p ≡ false
@@ -158,13 +155,17 @@ stays l deeds who p a = leaves-end l p ∙ le-ltb l (p .start + p .length) (omeg
 -- ---- prepare gives neither 20 nor 22
 
 module _
-    (t : Table) {w : ℕ} {deeds : List Deed} (k : Kept w deeds) (owner : ℕ → ℕ) (all : AllHoused t deeds owner) (who : ℕ) (j : Job)
+    (t : Table) {w : ℕ} {deeds : List Deed} (k : Kept w deeds) (owner : ℕ → Owners) (all : AllHoused t deeds owner) (who : Owners) (j : Job)
     (own : OfItsOwn t deeds owner who j) where
   no-clash : tableSound t ≡ true → clashes t j 4 ≡ false
-  unfolding clashes
+  unfolding clashes breaks
   no-clash e = some-none 4 (λ h. breaks j (slotAt t h .job)) (λ h l. elim (ℕ-discrete (slotAt t h .state) 0) [
     | yes z ↦ breaks-either j (slotAt t h .job) ∙ free-breaks-none (t .length) (slotAt t h) j (sound-tells t e .each h l) z
-    | no z ↦ no-break k (t .length) (λ q. own .single h (l, z) (sym q)) (own .housed) (all h (l, z))
+    | no z ↦ let a = own .housed in let b = all h (l, z) in
+        neither _ _
+        (neither _ _ (no-meeting k (t .length) (own .unwritten h (l, z)) (a .destination) (b .destination))
+        (no-meeting k (t .length) (own .unread h (l, z)) (a .destination) (b .source)))
+        (no-meeting k (t .length) (own .unchanged h (l, z)) (a .source) (b .destination))
   ])
 
   module _ (n d : ℕ) where
@@ -173,7 +174,7 @@ module _
     long u = eqb-true n (t .length) (not-false (eqb n (t .length)) (u .0))
 
     fits : n ≡ t .length → (leaves n (j .source) || leaves n (j .destination)) ≡ false
-    fits e = rw e (neither _ _ (stays (t .length) deeds who (j .source) (own .housed .source)) (stays (t .length) deeds who (j .destination) (own .housed .destination)))
+    fits e = rw e (neither _ _ (stays (t .length) deeds (who .reads) (j .source) (own .housed .source)) (stays (t .length) deeds (who .writes) (j .destination) (own .housed .destination)))
 
     never-20 : Given (prepareRules t n j) 20 d → ⊥
     never-20 (inl g) = never-given (openRules t n) 20 d refl g

@@ -1,5 +1,5 @@
 -- What the theorems claim of the keeper's calls: refusals, which run is granted and which blocks change, what is given back and used
--- again, counts, and the parts that runs are.
+-- again, counts, the parts that runs are, and that entries past the rank are not looked at.
 use Prim.Native.Nat.{ℕ, _+_, _/_, _^_, _≤_, _<_}
 use mathlib.Core.Path.{_≡_}
 use mathlib.Core.Logic.{_↔_}

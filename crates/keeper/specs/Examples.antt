@@ -7,8 +7,9 @@ use Rattle.plane.specs.Arrays.{zeros}
 use Rattle.plane.specs.Settings.{zeroConfig, withStep}
 use Rattle.mover.specs.declared.Job.{Job}
 use Rattle.transfers.specs.Slots.{slotAt}
+use Rattle.transfers.specs.Calls.{newSlot}
 use Rattle.transfers.specs.Demand3.{prepare}
-use Rattle.keeper.specs.Sharing.{ToolCall, on-table, request, give-back, Tools, freshTools, runTools, AllInOrder}
+use Rattle.keeper.specs.Sharing.{Owners, ToolCall, on-table, request, give-back, Tools, freshTools, runTools, AllInOrder}
 
 -- one byte, from byte a to byte b
 abbrev pub byteJob : ℕ → ℕ → Job
@@ -19,18 +20,22 @@ byteJob a b = record {
   config = withStep zeroConfig (1 ∷ 0 ∷ 0 ∷ 0 ∷ []);
 }
 
--- in 64 bytes a block is a byte. Tool 1 gets blocks 0 and 1, tool 2 blocks 2 and 3; each prepares a transfer from its first to its second
--- block, and block 2 is asked to be given back
+-- in 64 bytes a block is a byte. Owner 3 gets blocks 0 and 1, owners 1 and 2 blocks 2 and 3; two transfers read byte 0, and one writes into
+-- byte 2, the other into byte 3. Then block 1 is given back, which neither needs, and block 0 is asked to be given back
+abbrev pub into : ℕ → Owners
+into who = record { reads = 3; writes = who }
+
 abbrev pub twoTools : List ToolCall
 twoTools =
-    request 1 2 ∷ request 2 2 ∷ on-table 1 (prepare (byteJob 0 1)) ∷ on-table 2 (prepare (byteJob 2 3)) ∷ give-back 2 1 ∷ []
+    request 3 2 ∷ request 1 1 ∷ request 2 1 ∷ on-table (into 1) (prepare (byteJob 0 2)) ∷ on-table (into 2) (prepare (byteJob 0 3)) ∷
+    give-back 1 1 ∷ give-back 0 1 ∷ []
 
 abbrev pub begun : Tools
 begun = freshTools 64 (replicate 64 0) 0
 
--- they keep order; all is accepted but for the last, so both transfers are prepared and four blocks are taken
+-- they keep order; all is accepted but for the last, so both transfers are prepared, and blocks 0, 2 and 3 are taken
 pub record ToolsMet : Type 0 where
   pub in-order : AllInOrder twoTools begun
-  pub first : slotAt (runTools twoTools begun .world .table) 0 .job ≡ byteJob 0 1
-  pub second : slotAt (runTools twoTools begun .world .table) 1 .job ≡ byteJob 2 3
-  pub word : runTools twoTools begun .word ≡ 15
+  pub first : slotAt (runTools twoTools begun .world .table) 0 ≡ newSlot (byteJob 0 2)
+  pub second : slotAt (runTools twoTools begun .world .table) 1 ≡ newSlot (byteJob 0 3)
+  pub word : runTools twoTools begun .word ≡ 13

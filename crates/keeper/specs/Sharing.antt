@@ -22,9 +22,7 @@ use Rattle.keeper.specs.Claims.{InRun}
 
 -- ---- who holds which blocks
 
--- An owner, `who`, is any number by which transfers are told apart: a tool that has two at once is two owners.
-
--- what the tools write down of the keeper's accepted calls, the newest first
+-- what the tools write down of the keeper's accepted calls, the newest first. An owner is any number by which runs are told apart
 pub data Deed : Type 0 where
   -- to which owner, and the run: its first block, and how many
   granted : ℕ → ℕ → ℕ → Deed
@@ -36,17 +34,23 @@ Holds [] who b = ⊥
 Holds (granted to first n ∷ older) who b = ((to ≡ who) × InRun first n b) ⊎ Holds older who b
 Holds (given-back first n ∷ older) who b = (InRun first n b → ⊥) × Holds older who b
 
--- the part of a memory of l bytes lies in blocks that `who` holds. (`ends` speaks for a part that has no bytes)
+-- the part of a memory of l bytes lies in blocks that the owner `who` holds. (`ends` speaks for a part that has no bytes)
 pub record InOwn (l : ℕ) (deeds : List Deed) (who : ℕ) (p : Part) : Type 0 where
   pub ends : p .start + p .length ≤ 64 * blockBytes l
   pub held : (i : ℕ) → Has p i → Holds deeds who (i / blockBytes l)
 
--- and both parts of a job do
-pub record Housed (l : ℕ) (deeds : List Deed) (who : ℕ) (j : Job) : Type 0 where
-  pub source : InOwn l deeds who (j .source)
-  pub destination : InOwn l deeds who (j .destination)
+-- a transfer has two owners: it reads in blocks of the one, and writes in blocks of the other, which may be the same. So transfers may
+-- read in the same blocks, as prepare allows
+pub record Owners : Type 0 where
+  pub reads : ℕ
+  pub writes : ℕ
 
--- so it is with a part that lies in the part of a run, each of whose blocks `who` holds
+-- both parts of a job lie in blocks of its owners
+pub record Housed (l : ℕ) (deeds : List Deed) (o : Owners) (j : Job) : Type 0 where
+  pub source : InOwn l deeds (o .reads) (j .source)
+  pub destination : InOwn l deeds (o .writes) (j .destination)
+
+-- a part is in its own blocks if it lies in the part of a run, each of whose blocks `who` holds
 abbrev pub RunIsOwn : Type 0
 RunIsOwn =
     (l : ℕ) (deeds : List Deed) (who first n : ℕ) (p : Part) → first + n ≤ 64 → ((b : ℕ) → InRun first n b → Holds deeds who b)
@@ -56,8 +60,8 @@ RunIsOwn =
 -- ---- calls of the tools
 
 pub data ToolCall : Type 0 where
-  -- for which owner, and a call on the table
-  on-table : ℕ → Call → ToolCall
+  -- for which owners, and a call on the table
+  on-table : Owners → Call → ToolCall
   -- for which owner, and how many blocks
   request : ℕ → ℕ → ToolCall
   -- the run
@@ -65,16 +69,16 @@ pub data ToolCall : Type 0 where
   -- a call of the keeper that only tells: a count, or the part that a run is
   ask : ToolCall
 
--- table, memory and log; the word, and what is written down of it; the owner of the transfer at each handle
+-- table, memory and log; the word, and what is written down of it; the owners of the transfer at each handle
 pub record Tools : Type 0 where
   pub world : World
   pub word : ℕ
   pub deeds : List Deed
-  pub owner : ℕ → ℕ
+  pub owner : ℕ → Owners
 
 -- a fresh table for n bytes, the memory m, and a word to begin with
 unfoldable pub freshTools : ℕ → List ℕ → ℕ → Tools
-freshTools n m w = record { world = freshWorld n m; word = w; deeds = []; owner = λ h. 0 }
+freshTools n m w = record { world = freshWorld n m; word = w; deeds = []; owner = λ h. record { reads = 0; writes = 0 } }
 
 -- of a refused call nothing is written down
 
@@ -84,11 +88,11 @@ noteRequest who n a deeds = cond (eqb (a .status) 0) (granted who (a .first) n �
 unfoldable pub noteBack : ℕ → ℕ → GivenBack → List Deed → List Deed
 noteBack first n a deeds = cond (eqb (a .status) 0) (given-back first n ∷ deeds) deeds
 
-unfoldable pub noteOwner : ℕ → Prepared → (ℕ → ℕ) → ℕ → ℕ
+unfoldable pub noteOwner : Owners → Prepared → (ℕ → Owners) → ℕ → Owners
 noteOwner who a owner h = cond (eqb (a .status) 0 && eqb h (a .handle)) who (owner h)
 
 -- whose the transfers are after a call on the table: only a prepare changes it
-abbrev pub ownersAfter : ℕ → Call → World → (ℕ → ℕ) → ℕ → ℕ
+abbrev pub ownersAfter : Owners → Call → World → (ℕ → Owners) → ℕ → Owners
 ownersAfter who (prepare j) w owner = noteOwner who (prepareOf (w .table) (length (w .memory)) j) owner
 ownersAfter who (start h) w owner = owner
 ownersAfter who (step h b) w owner = owner
@@ -129,31 +133,40 @@ pub record DemandStands : Type 0 where
 
 -- ---- no two tools collide
 
+-- whatever the tools called before, a request gets no block that anybody holds
+abbrev pub GrantedOnce : Type 0
+GrantedOnce =
+    (n : ℕ) (m₀ : List ℕ) (w : ℕ) (cs : List ToolCall) → let s = runTools cs (freshTools n m₀ w) in
+    (k : ℕ) → let a = requestOf (s .word) k in a .status ≡ 0 → (who b : ℕ) → InRun (a .first) k b → Holds (s .deeds) who b → ⊥
+
 -- the slot at h is not free
 abbrev pub Busy : Table → ℕ → Type 0
 Busy t h = (h < 4) × (slotAt t h .state ≡ 0 → ⊥)
 
--- both parts of each transfer in the table lie in blocks that its owner holds
-abbrev pub AllHoused : Table → List Deed → (ℕ → ℕ) → Type 0
+-- both parts of each transfer in the table lie in blocks of its owners
+abbrev pub AllHoused : Table → List Deed → (ℕ → Owners) → Type 0
 AllHoused t deeds owner = (h : ℕ) → Busy t h → Housed (t .length) deeds (owner h) (slotAt t h .job)
 
--- a job with both parts in blocks that `who` holds, where `who` owns no other transfer in the table
-pub record OfItsOwn (t : Table) (deeds : List Deed) (owner : ℕ → ℕ) (who : ℕ) (j : Job) : Type 0 where
+-- a job with both parts in blocks of its owners, where no other transfer in the table reads or writes in the blocks that it writes in, nor
+-- writes in those that it reads in
+pub record OfItsOwn (t : Table) (deeds : List Deed) (owner : ℕ → Owners) (who : Owners) (j : Job) : Type 0 where
   pub housed : Housed (t .length) deeds who j
-  pub single : (h : ℕ) → Busy t h → owner h ≡ who → ⊥
+  pub unwritten : (h : ℕ) → Busy t h → who .writes ≡ owner h .writes → ⊥
+  pub unread : (h : ℕ) → Busy t h → who .writes ≡ owner h .reads → ⊥
+  pub unchanged : (h : ℕ) → Busy t h → who .reads ≡ owner h .writes → ⊥
 
 -- over a memory of n bytes, prepare refuses the job with neither
 pub record Neither20Nor22 (t : Table) (n : ℕ) (j : Job) : Type 0 where
   pub not-20 : prepareOf t n j .status ≡ 20 → ⊥
   pub not-22 : prepareOf t n j .status ≡ 22 → ⊥
 
--- whatever the tools called before: if every slot that is not free has both its parts in blocks that were granted to its owner and not
+-- whatever the tools called before: if every slot that is not free has both its parts in blocks that were granted to its owners and not
 -- given back since, a prepare whose parts lie in blocks of its own meets neither 20 nor 22
 abbrev pub NoCollision : Type 0
 NoCollision =
     (n : ℕ) (m₀ : List ℕ) (w : ℕ) (cs : List ToolCall) →
     let s = runTools cs (freshTools n m₀ w) in let t = s .world .table in
-    (owner : ℕ → ℕ) → AllHoused t (s .deeds) owner → (who : ℕ) (j : Job) → OfItsOwn t (s .deeds) owner who j
+    (owner : ℕ → Owners) → AllHoused t (s .deeds) owner → (who : Owners) (j : Job) → OfItsOwn t (s .deeds) owner who j
     → (k : ℕ) → Neither20Nor22 t k j
 
 -- a call in order: a prepare is of such a job; every other call may be made at any time
@@ -177,4 +190,4 @@ abbrev pub OrderlyTools : Type 0
 OrderlyTools =
     (n : ℕ) (m₀ : List ℕ) (w : ℕ) (cs : List ToolCall) → AllInOrder cs (freshTools n m₀ w) →
     let s = runTools cs (freshTools n m₀ w) in let t = s .world .table in
-    (who : ℕ) (j : Job) → OfItsOwn t (s .deeds) (s .owner) who j → (k : ℕ) → Neither20Nor22 t k j
+    (who : Owners) (j : Job) → OfItsOwn t (s .deeds) (s .owner) who j → (k : ℕ) → Neither20Nor22 t k j

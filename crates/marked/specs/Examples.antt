@@ -718,6 +718,8 @@ examples =
     besides shows gives-back (freshTable 63) 14 1 3 (back 17 14) ∷
     besides shows gives-back (unsound 63) 14 1 3 (back 17 14) ∷
     besides shows gives-back (unsound 64) 14 63 2 (back 18 14) ∷
+    -- a table above the limit is not sound: 18
+    besides shows gives-back (freshTable 2147483648) 14 1 3 (back 18 14) ∷
     -- a prepared transfer from bytes 2 and 3, which are blocks 2 and 3, into 8 and 9: neither can be given back, and what lies between
     -- can. Against `give_back_looks_at_running_slots`, `give_back_looks_at_destinations`
     besides shows gives-back (busy 64 1 0) allBlocks 3 1 (back 33 allBlocks) ∷

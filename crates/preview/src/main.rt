@@ -276,7 +276,7 @@ fn run_and_give_back(table: Table, mem: &mut [u8], handle: u32, word: u64, first
 
 // A transfer in room that the keeper grants: each request is given the word that the one before handed back, so no block is granted
 // twice, and nobody else's parts meet these. The picture's run is asked for first, so it is the lowest: the memory's start, where the
-// picture stands. (Where part_of were refused, its part would be empty, and prepare would refuse the job with 5.)
+// picture stands. (Where part_of were refused, its part would be empty, and prepare would refuse the job.)
 fn transfer_kept(mem: &mut [u8]) {
     let length = mem.len() as u64;
     let large = keeper::request(0, PICTURE_BLOCKS);

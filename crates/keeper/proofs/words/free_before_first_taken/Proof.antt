@@ -1,4 +1,4 @@
--- `keeper::words::free_before_first_taken` tells the number of the first taken block. Assumes nothing.
+-- `keeper::words::free_before_first_taken` tells the number of the first taken block, or 64. Assumes nothing.
 use Rattle.keeper.proofs.Search.{trailing-lowest}
 use Rattle.keeper.proofs.words.free_before_first_taken.Statement.{statement}
 use Rattle.keeper.proofs.words.free_before_first_taken.Tie as tie

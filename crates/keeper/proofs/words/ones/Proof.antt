@@ -1,4 +1,4 @@
--- `keeper::words::ones` makes a word of ones. Assumes nothing.
+-- `keeper::words::ones` makes a word whose n lowest bits are ones. Assumes nothing.
 use borrow.Author.Needs.{needs}
 use Rattle.keeper.proofs.Answers.{low-ones}
 use Rattle.keeper.proofs.words.ones.Statement.{statement}
