@@ -32,7 +32,7 @@ module _ (c : tie.After-uses Inv-loop μ-loop) where
   told b e =
       let s = head .before .before in
       let n : length (s .args .table .slots) ≡ 4 = simp length-map at (s .good .0 .1 .1 .1 .0 .1 .0 .1) in
-      ap (λ (x : Slot). uses x (s .args .part)) (sym (slot-read (s .args .table) (head .loop .handle) n (c .before .before .loop-test .taken))) ∙
+      ap (λ (x : Slot). uses x (s .args .part)) (sym (slot-read (s .args .table) (head .loop .handle) n (omega (arith, c .before .before .loop-test .taken)))) ∙
       sym (c .uses .ensures) ∙ e
 
 returns : tie.Need-returns Inv-loop μ-loop
@@ -41,7 +41,7 @@ returns c =
     let u = c .before in
     let l = head u in
     let a = l .before .before .args in
-    sym (some-found 4 (l .loop .handle) (λ (h : ℕ). uses (slotAt (a .table) h) (a .part)) (u .before .before .loop-test .taken) (told u true (c .if1 .taken)))
+    sym (some-found 4 (l .loop .handle) (λ (h : ℕ). uses (slotAt (a .table) h) (a .part)) (omega (arith, u .before .before .loop-test .taken)) (told u true (c .if1 .taken)))
 
 loop-again : tie.Need-loop-again Inv-loop μ-loop
 loop-again c =
