@@ -98,8 +98,8 @@ const SUB_TENSOR: Gives = Gives::First(&[0, 1, 2, 3, 4, 5, 7, 8, 14, 15]);
 const COUNT: Gives = Gives::First(&[0, 1, 3, 16]);
 /// "1 with all fields 0 answers a wrong one"
 const MADE: Gives = Gives::First(&[0, 1]);
-/// CALLS: "20, 1 to 13, 21".
-const JOB: Gives = Gives::First(&[0, 20, 1, 2, 3, 4, 5, 6, 7, 8, 9, 10, 11, 12, 13, 21]);
+/// CALLS: "20, 1 to 13, 34, 21".
+const JOB: Gives = Gives::First(&[0, 20, 1, 2, 3, 4, 5, 6, 7, 8, 9, 10, 11, 12, 13, 34, 21]);
 /// "25 for a length that is neither, 26, 27 where the version isn't that length's, 1, then for version 2 also 2; 28"
 const READ: Gives = Gives::First(&[0, 25, 26, 27, 1, 2, 28]);
 /// "Write does the same, 25 being a room not of the version written."
@@ -120,8 +120,8 @@ const LIST_START: Gives = Gives::First(&[0, 38]);
 const APPEND: Gives = Gives::First(&[0, 25, 26, 27, 30, 38, 1, 28]);
 /// 17: "above the limit for a fresh one".
 const FRESH: Gives = Gives::First(&[0, 17]);
-/// "Prepare: 17 to 20, 1 to 13, 21, 22."
-const PREPARE: Gives = Gives::First(&[0, 17, 18, 19, 20, 1, 2, 3, 4, 5, 6, 7, 8, 9, 10, 11, 12, 13, 21, 22]);
+/// "Prepare: 17 to 20, 1 to 13, 21, 22", and "34 after 13 and before 21".
+const PREPARE: Gives = Gives::First(&[0, 17, 18, 19, 20, 1, 2, 3, 4, 5, 6, 7, 8, 9, 10, 11, 12, 13, 34, 21, 22]);
 /// "Start, step, release: 17, 18, 23, 24."
 const TURN: Gives = Gives::First(&[0, 17, 18, 23, 24]);
 /// "Poll: 18; a handle above 3 gives 23." "A poll says free, prepared with what is left, running with what is left, or
@@ -190,7 +190,7 @@ impl Calls {
 
 fn plane_calls() -> Vec<Call> {
     vec![
-        call(0x00, "version", Gives::OneKind, |_: ()| -> u16 { 5 }),
+        call(0x00, "version", Gives::OneKind, |_: ()| -> u16 { 6 }),
         call(0x01, "source_of", SOURCE, |tensor: Tensor| -> Source { tensor::source_of(&tensor) }),
         call(0x02, "room", ROOM, |(tensor, config): (Tensor, Config)| -> Room { moves::room(&tensor, &config) }),
         call(0x03, "judge", MOVE, |(tensor, config, source, destination): (Tensor, Config, u64, u64)| -> Answer {

@@ -31,6 +31,12 @@ impl Part {
         self.start > length || self.length > length - self.start
     }
 
+    /// 34: "a source or destination part whose start isn't a multiple of the element size; 3-byte elements may start
+    /// anywhere". Only asked with a size that has passed 2.
+    pub fn is_off_boundary(&self, element_size: u8) -> bool {
+        element_size != 3 && self.start % element_size as u64 != 0
+    }
+
     /// The bytes of a part that has passed 20.
     pub fn range(&self) -> std::ops::Range<usize> {
         self.start as usize..(self.start + self.length) as usize
@@ -53,12 +59,16 @@ pub fn break_rule(a: &Job, b: &Job) -> bool {
     meets(&a.destination, &b.destination) || meets(&a.destination, &b.source) || meets(&a.source, &b.destination)
 }
 
-/// 20, 1 to 13, 21: a job by itself over a memory of that length.
+/// 20, 1 to 13, 34, 21: a job by itself over a memory of that length.
 pub fn plan_job(length: u64, job: &Job) -> Result<Plan, Fault> {
     if job.source.leaves(length) || job.destination.leaves(length) {
         return refuse(20, 0);
     }
     let plan = plan(&job.tensor, &job.config, Some((job.source.length, job.destination.length)))?;
+    // "34 after 13 and before 21"
+    if [job.source, job.destination].iter().any(|part| part.is_off_boundary(job.tensor.element_size)) {
+        return refuse(34, 0);
+    }
     // 21: "own parts meet"
     if meets(&job.source, &job.destination) {
         return refuse(21, 0);

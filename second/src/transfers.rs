@@ -40,7 +40,8 @@ pub fn fresh(length: u64) -> Fresh {
 }
 
 /// "A table is sound if its length is within the limit, free slots are all zero, every other slot passes 20, 1 to 13
-/// and 21 for the table's length, no two slots break the rule just given", and what `sound_slot` says.
+/// and 21 for the table's length, no two slots break the rule just given", and what `sound_slot` says. One with a part
+/// off an element boundary, which is 34, "is not sound" either.
 pub fn sound(table: &Table) -> bool {
     table.length <= LIMIT
         && table.slot.iter().all(|slot| sound_slot(table.length, slot))
@@ -110,7 +111,7 @@ pub fn prepare(table: &Table, job: &Job, memory: usize) -> Prepared {
     }
 }
 
-/// "Prepare: 17 to 20, 1 to 13, 21, 22." The slot that the job takes.
+/// "Prepare: 17 to 20, 1 to 13, 21, 22", and "34 after 13 and before 21". The slot that the job takes.
 fn place(table: &Table, job: &Job, memory: usize) -> Result<usize, Fault> {
     check_table(table, memory)?;
     // 19: "no free slot"; "it takes the lowest free slot"
@@ -177,7 +178,7 @@ pub fn poll(table: &Table, handle: u32) -> Poll {
     }
     let slot = &table.slot[handle as usize];
     let left = match slot.state {
-        FREE => 0,
+        FREE | DONE => 0,
         _ => judge_job(table.length, &slot.job).total - slot.moved,
     };
     Poll { status: 0, state: slot.state, left }

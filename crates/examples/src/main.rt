@@ -1,5 +1,5 @@
 // Runs the paper's examples through the public calls, and prints what each answers: A to J (moves, some by the plain engine too, and D
-// by stretches of either), K (a sub-tensor), L (two transfers), and those that the paper only runs.
+// by stretches of either), K (a sub-tensor), L (two transfers), those that the paper only runs, and transfers off boundaries and on them.
 use libc::STDOUT_FILENO;
 use plane::Config;
 use plane::SubConfig;
@@ -259,20 +259,43 @@ fn run_only() {
     end_line();
 }
 
-// n elements of one byte each.
-fn job(n: u32, from: u64, to: u64) -> Job {
+// The rank 1 plane t, which has so many bytes, copied from one byte on into another.
+fn copied(t: Tensor, length: u64, from: u64, to: u64) -> Job {
     Job {
         source: Part {
             start: from,
-            length: n as u64,
+            length,
         },
-        destination: Part {
-            start: to,
-            length: n as u64,
-        },
-        tensor: compact(1, 1, [n, 0, 0, 0]),
+        destination: Part { start: to, length },
+        tensor: t,
         config: copy_of(1),
     }
+}
+
+// n elements of one byte each.
+fn job(n: u32, from: u64, to: u64) -> Job {
+    copied(compact(1, 1, [n, 0, 0, 0]), n as u64, from, to)
+}
+
+// Prepares a transfer of two elements in a memory of 16 bytes.
+fn prepare_two(size: u8, from: u64, to: u64) {
+    let made = Table::fresh(16);
+    let two = compact(1, size, [2, 0, 0, 0]);
+    let job = copied(two, 2 * size as u64, from, to);
+    let a = made.table.prepare(&[0u8; 16], job);
+    print(b"boundary", size as u64);
+    print(b" from", from);
+    print(b" into", to);
+    print(b" status", a.status as u64);
+    end_line();
+}
+
+// Samples of two bytes off their boundaries and on them; pixels of three bytes may start anywhere.
+fn boundaries() {
+    prepare_two(2, 1, 8);
+    prepare_two(2, 2, 7);
+    prepare_two(2, 2, 8);
+    prepare_two(3, 1, 8);
 }
 
 // L: two transfers, stepped by turns, the second first; and a third that would write where one of them reads.
@@ -307,4 +330,5 @@ fn main() {
     sub();
     run_only();
     two_at_once();
+    boundaries();
 }

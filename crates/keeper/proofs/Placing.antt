@@ -1,10 +1,16 @@
--- The parts that runs are: they lie in the memory, and share a byte only where the runs share a block. Assumes nothing.
-use Prim.Native.Nat.{ℕ, _+_, _*_, _/_, _≤_, _<_}
-use native.Mathlib.Nat.{add-mul, mul-le-mul, le-div-iff-mul-le, div-lt-iff-lt-mul}
-use native.Mathlib.Decide.{decLt}
+-- The parts that runs are: they lie in the memory, share a byte only where the runs share a block, and start at multiples of 4 where the
+-- memory's length is one of 256. Assumes nothing.
+use Prim.Native.Nat.{ℕ, _+_, _*_, _/_, _%_, _≤_, _<_}
+use native.Mathlib.Nat.{add-mul, mul-assoc, mul-le-mul, mul-mod-left, mod-one, le-div-iff-mul-le, div-lt-iff-lt-mul}
+use native.Mathlib.Decide.{ℕ-discrete, decLt}
 use native.Mathlib.Omega.{arith}
-use mathlib.Core.Path.{_≡_}
+use mathlib.Core.Path.{_≡_, sym, ap, _∙_}
+use mathlib.Core.Bool.{false, not}
+use borrow.Author.Tests.{eq-eqb}
+use lib.Dec.{eqb}
+use Rattle.faults.proofs.Bools.{not-second}
 use Rattle.parts.specs.Parts.{Has, Apart}
+use Rattle.mover.specs.Within.{offBoundary}
 use Rattle.keeper.specs.Calls.{blockBytes, runPart}
 use Rattle.keeper.specs.Claims.{InRun, RunParts}
 
@@ -42,6 +48,30 @@ apart l f k g m none i p q = elim (decLt 0 (blockBytes l)) [
   | no b ↦ no-bytes l f k i (omega arith) p
 ]
 
+-- 64 blocks of a multiple of 256 bytes have a multiple of 4 bytes each
+fours : (l first n : ℕ) → l % 256 ≡ 0 → runPart l first n .start % 4 ≡ 0
+unfolding runPart
+fours l first n e =
+    let b : l / 64 ≡ l / 256 * 4 = omega arith in
+    ap (λ (k : ℕ). first * k % 4) b ∙ ap (λ (k : ℕ). k % 4) (sym (mul-assoc first (l / 256) 4)) ∙ mul-mod-left (first * (l / 256)) 4
+
+-- a multiple of 4 is one of every element size but 3
+every-size : (s z : ℕ) → s % 4 ≡ 0 → 1 ≤ z → z ≤ 4 → (z ≡ 3 → ⊥) → s % z ≡ 0
+every-size s z e l m h = elim (ℕ-discrete z 1) [
+  | yes p ↦ rw p (mod-one s)
+  | no p ↦ elim (ℕ-discrete z 2) [
+    | yes q ↦ rw q (omega arith)
+    | no q ↦ let w : z ≡ 4 = omega arith in rw w e
+  ]
+]
+
+boundary : (l first n z : ℕ) → l % 256 ≡ 0 → 1 ≤ z → z ≤ 4 → offBoundary z (runPart l first n) ≡ false
+boundary l first n z e p q = elim (ℕ-discrete z 3) [
+  | yes h ↦ simp (eq-eqb z 3 h)
+  | no h ↦ let s = runPart l first n .start in
+      not-second (not (eqb z 3)) _ (ap not (eq-eqb (s % z) 0 (every-size s z (fours l first n e) p q h)))
+]
+
 pub run-parts : RunParts
 run-parts = record {
   inside = λ l first n h. omega (arith, run-ends l first n h, blocks-end l);
@@ -49,4 +79,6 @@ run-parts = record {
   block = λ l first n i h.
       let p : 0 < blockBytes l = omega arith in
       (block-of l first n i p, byte-of l first n i p);
+  fours = fours;
+  boundary = boundary;
 }

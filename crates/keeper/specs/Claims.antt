@@ -1,11 +1,12 @@
 -- What the theorems claim of the keeper's calls: refusals, which run is granted and which blocks change, what is given back and used
 -- again, counts, the parts that runs are, and that entries past the rank are not looked at.
-use Prim.Native.Nat.{ℕ, _+_, _/_, _^_, _≤_, _<_}
+use Prim.Native.Nat.{ℕ, _+_, _/_, _%_, _^_, _≤_, _<_}
 use mathlib.Core.Path.{_≡_}
 use mathlib.Core.Logic.{_↔_}
 use mathlib.Core.Bool.{true, false}
 use Rattle.faults.specs.Exactness.{Exact}
 use Rattle.parts.specs.Parts.{Has, Apart}
+use Rattle.mover.specs.Within.{offBoundary}
 use Rattle.transfers.specs.declared.Table.{Table}
 use Rattle.transfers.specs.Slots.{zeroPart, slotAt}
 use Rattle.transfers.specs.Claims.{Refused}
@@ -109,6 +110,9 @@ pub record RunParts : Type 0 where
   pub apart : (l f k g m : ℕ) → ((b : ℕ) → InRun f k b → InRun g m b → ⊥) → Apart (runPart l f k) (runPart l g m)
   -- a byte is one of the run's exactly if its block is
   pub block : (l first n i : ℕ) → 64 ≤ l → Has (runPart l first n) i ↔ InRun first n (i / blockBytes l)
+  -- in a memory whose length is a multiple of 256 it starts at a multiple of 4, so 34 is given for it with no element size
+  pub fours : (l first n : ℕ) → l % 256 ≡ 0 → runPart l first n .start % 4 ≡ 0
+  pub boundary : (l first n z : ℕ) → l % 256 ≡ 0 → 1 ≤ z → z ≤ 4 → offBoundary z (runPart l first n) ≡ false
 
 -- ---- entries past the rank
 

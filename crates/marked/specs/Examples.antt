@@ -1,7 +1,7 @@
 -- The paper's marked examples A to L, as one table: an entry has the paper's letter, and says what is given and what comes out.
 -- `AllRight` says when a table is right. Where a comment says against `name`, that is a wrong reading by which an entry below it
 -- would come out otherwise: one of the faults that the comparison with the second program has to find.
-use Prim.Native.Nat.{ℕ, zero, suc}
+use Prim.Native.Nat.{ℕ, zero, suc, _*_}
 use mathlib.Core.Path.{_≡_}
 use mathlib.Core.List.{List, [], _∷_, _++_}
 use lib.ListN.{length, take, set, replicate}
@@ -202,12 +202,24 @@ compact n size shape = record { rank = n; «element_size» = size; shape = shape
 abbrev pub cut : List ℕ → List ℕ → ℕ → SubConfig
 cut offset size n = record { offset = offset; size = size; rank = n }
 
--- a transfer of shape (n), in bytes, from byte a on into byte b on
+-- a transfer of shape (n) in elements of so many bytes, from byte a on into byte b on; and in single bytes
+abbrev pub transferOf : ℕ → ℕ → ℕ → ℕ → Job
+transferOf size n a b = record {
+  source = record { start = a; length = n * size };
+  destination = record { start = b; length = n * size };
+  tensor = compact 1 size (one n);
+  config = defaults;
+}
+
 abbrev pub transfer : ℕ → ℕ → ℕ → Job
-transfer n a b = record {
-  source = record { start = a; length = n };
-  destination = record { start = b; length = n };
-  tensor = compact 1 1 (one n);
+transfer n a b = transferOf 1 n a b
+
+-- (2) in elements of two bytes, from byte a on into byte b on, with parts of k and of l bytes
+abbrev pub lentTransfer : ℕ → ℕ → ℕ → ℕ → Job
+lentTransfer a k b l = record {
+  source = record { start = a; length = k };
+  destination = record { start = b; length = l };
+  tensor = compact 1 2 (one 2);
   config = defaults;
 }
 
@@ -242,15 +254,6 @@ filledTransfer = record {
   config = withFill (withPost (withPre defaults (one 1)) (one 1)) 7;
 }
 
--- (2) in elements of three bytes: from byte 0 on, to byte 6 on
-abbrev pub pixelTransfer : Job
-pixelTransfer = record {
-  source = record { start = 0; length = 6 };
-  destination = record { start = 6; length = 6 };
-  tensor = compact 1 3 (one 2);
-  config = defaults;
-}
-
 -- two bytes from byte 0 on into nine from byte 1 on, which no memory below ten bytes has; and the rank is 0
 abbrev pub leavingTransfer : Job
 leavingTransfer = record {
@@ -259,10 +262,6 @@ leavingTransfer = record {
   tensor = compact 0 1 (one 2);
   config = defaults;
 }
-
--- a table for n bytes that is not sound: there is no state 4
-abbrev pub unsound : ℕ → Table
-unsound n = withSlot (freshTable n) 0 (record { state = 4; job = zeroJob; moved = 0 })
 
 -- the bytes 1..n
 abbrev pub upTo : ℕ → List ℕ
@@ -347,9 +346,17 @@ oddBlocks = 12297829382473034410
 abbrev pub innerBlocks : ℕ
 innerBlocks = 9223372036854775806
 
--- a table for n bytes that has a transfer of two bytes, from byte 2 into byte 8, in that state, with so many elements moved
+-- a table for n bytes that has a job in slot 0, in that state, with so many elements moved; and a transfer of two bytes, from byte 2 into
+-- byte 8
+abbrev pub holding : Job → ℕ → ℕ → ℕ → Table
+holding j n state moved = withSlot (freshTable n) 0 (record { state = state; job = j; moved = moved })
+
+-- one that is not sound: there is no state 4
+abbrev pub unsound : ℕ → Table
+unsound n = holding zeroJob n 4 0
+
 abbrev pub busy : ℕ → ℕ → ℕ → Table
-busy n state moved = withSlot (freshTable n) 0 (record { state = state; job = transfer 2 2 8; moved = moved })
+busy n state moved = holding (transfer 2 2 8) n state moved
 
 -- ---- the table
 
@@ -536,6 +543,56 @@ examples =
     -- `soundness_before_the_length`
     besides shows handed-in (unsound 4) (over 4) (start 0 answers (18 ∷ []) ∷ []) (over 4) ∷
     besides shows handed-in (unsound 4) (over 5) (start 0 answers (17 ∷ []) ∷ []) (over 5) ∷
+    -- ---- parts on element boundaries, in a memory of 16 bytes
+    -- (2) in elements of two bytes, from byte 1 into 8, and from 2 into 7: 34. Against `boundary_of_the_source_alone`. From 2 into 8 it is
+    -- taken, and after a step of one element bytes 3 and 4 are in place
+    besides shows transfers (upTo 16)
+    (prepare (transferOf 2 2 1 8) answers (34 ∷ 0 ∷ 0 ∷ []) ∷
+    prepare (transferOf 2 2 2 7) answers (34 ∷ 0 ∷ 0 ∷ []) ∷
+    prepare (transferOf 2 2 2 8) answers (0 ∷ 0 ∷ 0 ∷ []) ∷
+    start 0 answers (0 ∷ []) ∷
+    step 0 1 answers (0 ∷ 1 ∷ []) ∷
+    [])
+    (upTo 8 ++ (3 ∷ 4 ∷ 11 ∷ 12 ∷ 13 ∷ 14 ∷ 15 ∷ 16 ∷ [])) ∷
+    -- elements of four bytes, from byte 2 into 8 and from 4 into 10: multiples of two are not enough. Against `four_bytes_on_two`
+    besides shows transfers (over 16)
+    (prepare (transferOf 4 1 2 8) answers (34 ∷ 0 ∷ 0 ∷ []) ∷
+    prepare (transferOf 4 1 4 10) answers (34 ∷ 0 ∷ 0 ∷ []) ∷
+    prepare (transferOf 4 1 4 8) answers (0 ∷ 0 ∷ 0 ∷ []) ∷
+    [])
+    (over 16) ∷
+    -- elements of three bytes may start anywhere: from byte 1 into 8, all of (2) in one step. Against `three_bytes_on_a_boundary`
+    besides shows transfers (upTo 16)
+    (prepare (transferOf 3 2 1 8) answers (0 ∷ 0 ∷ 0 ∷ []) ∷
+    start 0 answers (0 ∷ []) ∷
+    step 0 2 answers (0 ∷ 2 ∷ []) ∷
+    [])
+    (upTo 8 ++ (2 ∷ 3 ∷ 4 ∷ 5 ∷ 6 ∷ 7 ∷ 15 ∷ 16 ∷ [])) ∷
+    -- lengths may be anything: five bytes for two elements of two. Against `boundary_of_the_length`
+    besides shows transfers (over 16)
+    (prepare (lentTransfer 0 5 8 5) answers (0 ∷ 0 ∷ 0 ∷ []) ∷
+    [])
+    (over 16) ∷
+    -- a destination of three bytes, which is too short, and a source from byte 1: 13 comes before 34. Against `boundary_before_the_move`.
+    -- From byte 1 into 2, where the parts meet: 34 comes before 21. Against `boundary_after_own_parts`. From 0 into 2: 21. From 3 into a
+    -- part that another has: 34, and from 4: 22
+    besides shows transfers (over 16)
+    (prepare (lentTransfer 1 4 8 3) answers (13 ∷ 0 ∷ 0 ∷ []) ∷
+    prepare (transferOf 2 2 1 2) answers (34 ∷ 0 ∷ 0 ∷ []) ∷
+    prepare (transferOf 2 2 0 2) answers (21 ∷ 0 ∷ 0 ∷ []) ∷
+    prepare (transferOf 2 2 0 8) answers (0 ∷ 0 ∷ 0 ∷ []) ∷
+    prepare (transferOf 2 2 3 8) answers (34 ∷ 0 ∷ 0 ∷ []) ∷
+    prepare (transferOf 2 2 4 8) answers (22 ∷ 0 ∷ 0 ∷ []) ∷
+    [])
+    (over 16) ∷
+    -- by itself, a stretch: 34, and nothing changes
+    besides shows stretch (transferOf 2 2 1 8) 0 2 (over 16) (record { status = 34; dim = 0; count = 0 }) (over 16) ∷
+    -- a table with such a slot, prepared, running or done, is not sound: 18. Against `sound_off_a_boundary`. With the source at byte 2 it
+    -- is, and is told
+    besides shows handed-in (holding (transferOf 2 2 1 8) 16 1 0) (over 16) (start 0 answers (18 ∷ []) ∷ []) (over 16) ∷
+    besides shows handed-in (holding (transferOf 2 2 1 8) 16 2 1) (over 16) (step 0 1 answers (18 ∷ 0 ∷ []) ∷ []) (over 16) ∷
+    besides shows handed-in (holding (transferOf 2 2 1 8) 16 3 2) (over 16) (release 0 answers (18 ∷ []) ∷ []) (over 16) ∷
+    besides shows handed-in (holding (transferOf 2 2 2 8) 16 2 1) (over 16) (poll 0 answers (0 ∷ 2 ∷ 1 ∷ []) ∷ []) (over 16) ∷
     -- ---- padding that isn't black. 67,305,985 is 4 x 2^24 + 3 x 2^16 + 2 x 2^8 + 1, so its bytes are 1 2 3 4, the lowest first
     -- D with fill 128: 128 128 128 5 6 128
     besides shows move (compact 2 1 (two 1 2)) (withFill (withPost (withPre defaults (two 1 0)) (two 0 1)) 128) (5 ∷ 6 ∷ []) (over 6)
@@ -589,7 +646,7 @@ examples =
     (acceptedSub 1 3 (2 ∷ 0 ∷ 0 ∷ 0 ∷ []) (1 ∷ 0 ∷ 0 ∷ 0 ∷ []) 6) (7 ∷ 8 ∷ 9 ∷ 10 ∷ 11 ∷ 12 ∷ []) ∷
     -- as a transfer of (2), after a step of one element: three bytes are in place, and the rest is untouched
     besides shows transfers (upTo 6 ++ over 6)
-    (prepare pixelTransfer answers (0 ∷ 0 ∷ 0 ∷ []) ∷
+    (prepare (transferOf 3 2 0 6) answers (0 ∷ 0 ∷ 0 ∷ []) ∷
     start 0 answers (0 ∷ []) ∷
     step 0 1 answers (0 ∷ 1 ∷ []) ∷
     poll 0 answers (0 ∷ 2 ∷ 1 ∷ []) ∷
@@ -699,6 +756,9 @@ examples =
     -- a 64th of 1,000 bytes is 15, rounded down: three blocks from the third on, and all. Against `blocks_rounded_up`
     besides shows run-part 1000 2 3 (bytes 30 45) ∷
     besides shows run-part 1000 0 64 (bytes 0 960) ∷
+    -- of 256 bytes a block has 4, so every run starts at a multiple of 4; of 320 it has 5, and the second starts at byte 5
+    besides shows run-part 256 1 2 (bytes 4 8) ∷
+    besides shows run-part 320 1 2 (bytes 5 10) ∷
     -- the longest memory, whose blocks are of 33,554,431 bytes; one byte more, and 63 bytes: 17, also for a run that there is not
     besides shows run-part 2147483647 63 1 (bytes 2113929153 33554431) ∷
     besides shows run-part 2147483648 0 1 (noBytes 17) ∷

@@ -1,4 +1,4 @@
--- Each refusal of a move inside one memory in its exact case and order: 20, then those of a move, then 21. Assumes nothing.
+-- Each refusal of a move inside one memory in its exact case and order: 20, then those of a move, then 34, then 21. Assumes nothing.
 use native.Mathlib.Omega.{arith}
 use lib.ListN.{length}
 use Rattle.faults.proofs.Faults.{if-fault}

@@ -3,7 +3,7 @@
 use Prim.Native.Nat.{ℕ, _+_, _-_, _≤_, _<_, min}
 use native.Mathlib.Omega.{arith}
 use mathlib.Core.Path.{_≡_, sym, ap, ap₂, subst, _∙_}
-use mathlib.Core.Bool.{true, false}
+use mathlib.Core.Bool.{Bool, true, false, _||_}
 use mathlib.Core.List.{List}
 use lib.ListN.{length, drop, length-drop}
 use lib.Seq.{sets, length-take-le}
@@ -18,14 +18,16 @@ use Rattle.faults.proofs.Bools.{either-first, either-second, neither}
 use Rattle.faults.proofs.Chains.{unbroken-none, unbroken, unbroken-accepts}
 use Rattle.faults.proofs.Faults.{status, or-none, or-found, when-bad, when-good, given, spared, if-fault, if-none}
 use Rattle.plane.specs.Good.{GoodMove}
+use Rattle.plane.proofs.Bounds.{element-small}
 use Rattle.plane.proofs.Good.{source-told, config-told, dst-told, move-clear}
 use Rattle.plane.proofs.Rules.{refuses, answer-refused, answer-given, answer-status}
+use Rattle.parts.specs.declared.Part.{Part}
 use Rattle.parts.specs.Parts.{bytesOf}
 use Rattle.mover.specs.declared.Job.{Job}
 use Rattle.mover.specs.declared.plan.Plan.{Plan}
 use Rattle.mover.specs.declared.elements.Origin.the-variants.{Lent}
 use Rattle.mover.specs.Moved.{total, moveMemory}
-use Rattle.mover.specs.Within.{leaves, meets, jobRules, jobFault, totalOf, verdictOf, advancedBy, further, advanceOf, advanceMemory}
+use Rattle.mover.specs.Within.{leaves, offBoundary, meets, jobRules, jobFault, totalOf, verdictOf, advancedBy, further, advanceOf, advanceMemory}
 use Rattle.mover.specs.Private.Plans.{planOf}
 use Rattle.mover.specs.Private.Elements.{planTotal, movedBy}
 use Rattle.mover.specs.Private.Ready.{Ready}
@@ -81,6 +83,9 @@ abbrev pub answerAt : ℕ → Job → Answer
 answerAt n j = answerOf (jobFault n j) (j .tensor) (j .config)
 
 module _ (n : ℕ) (j : Job) where
+  abbrev off : Part → Bool
+  off p = offBoundary (j .tensor .«element_size») p
+
   -- 20
   pub source-leaves : {r : Answer} → leaves n (j .source) ≡ true → r ≡ refused (fault 20 0) → r ≡ answerAt n j
   unfolding jobFault moveFault
@@ -93,7 +98,7 @@ module _ (n : ℕ) (j : Job) where
       refuses (j .tensor) (j .config) e (λ z. omega arith) (given 20 0 _ _ (omega arith) (either-second (leaves n (j .source)) (leaves n (j .destination)) h))
 
   module _ (p : leaves n (j .source) ≡ false) (q : leaves n (j .destination) ≡ false) where
-    stays : jobFault n j ≡ (moveFault (j .tensor) (j .config) (j .source .length) (j .destination .length) orElse when 21 0 (meets (j .source) (j .destination)))
+    stays : jobFault n j ≡ (moveFault (j .tensor) (j .config) (j .source .length) (j .destination .length) orElse when 34 0 (off (j .source) || off (j .destination)) orElse when 21 0 (meets (j .source) (j .destination)))
     unfolding jobFault moveFault
     stays = spared 20 0 _ _ (neither (leaves n (j .source)) (leaves n (j .destination)) p q)
 
@@ -108,17 +113,35 @@ module _ (n : ℕ) (j : Job) where
           e ∙ ap (λ (f : Fault). answerOf f (j .tensor) (j .config)) (sym (stays ∙ or-found _ _ (λ z. h (its-status ∙ z))))
 
       module _ (z : a .status ≡ 0) where
-        passes : jobFault n j ≡ when 21 0 (meets (j .source) (j .destination))
+        passes : jobFault n j ≡ (when 34 0 (off (j .source) || off (j .destination)) orElse when 21 0 (meets (j .source) (j .destination)))
         passes = stays ∙ or-none _ _ (sym its-status ∙ z)
 
-        -- 21
-        pub parts-meet : {r : Answer} → meets (j .source) (j .destination) ≡ true → r ≡ refused (fault 21 0) → r ≡ answerAt n j
-        parts-meet h er = refuses (j .tensor) (j .config) er (λ y. omega arith) (passes ∙ when-bad 21 0 _ h)
+        -- the element size is none that a start can't be divided by
+        pub some-size : 0 < j .tensor .«element_size»
+        some-size =
+            element-small (j .tensor .«element_size») (judged-move (j .tensor) (j .config) (j .source .length) (j .destination .length) e z .source .element) .0
 
-        pub job-given : meets (j .source) (j .destination) ≡ false → a ≡ answerAt n j
-        job-given h =
-            judged-accepted (j .tensor) (j .config) (j .source .length) (j .destination .length) e z .1 ∙
-            sym (answer-given (jobFault n j) (j .tensor) (j .config) (status (passes ∙ when-good 21 0 _ h)))
+        -- 34
+        pub source-off : {r : Answer} → off (j .source) ≡ true → r ≡ refused (fault 34 0) → r ≡ answerAt n j
+        source-off h er =
+            refuses (j .tensor) (j .config) er (λ y. omega arith) (passes ∙ given 34 0 _ _ (omega arith) (either-first (off (j .source)) (off (j .destination)) h))
+
+        pub destination-off : {r : Answer} → off (j .destination) ≡ true → r ≡ refused (fault 34 0) → r ≡ answerAt n j
+        destination-off h er =
+            refuses (j .tensor) (j .config) er (λ y. omega arith) (passes ∙ given 34 0 _ _ (omega arith) (either-second (off (j .source)) (off (j .destination)) h))
+
+        module _ (s : off (j .source) ≡ false) (d : off (j .destination) ≡ false) where
+          on : jobFault n j ≡ when 21 0 (meets (j .source) (j .destination))
+          on = passes ∙ spared 34 0 _ _ (neither (off (j .source)) (off (j .destination)) s d)
+
+          -- 21
+          pub parts-meet : {r : Answer} → meets (j .source) (j .destination) ≡ true → r ≡ refused (fault 21 0) → r ≡ answerAt n j
+          parts-meet h er = refuses (j .tensor) (j .config) er (λ y. omega arith) (on ∙ when-bad 21 0 _ h)
+
+          pub job-given : meets (j .source) (j .destination) ≡ false → a ≡ answerAt n j
+          job-given h =
+              judged-accepted (j .tensor) (j .config) (j .source .length) (j .destination .length) e z .1 ∙
+              sym (answer-given (jobFault n j) (j .tensor) (j .config) (status (on ∙ when-good 21 0 _ h)))
 
   -- ---- what the answer tells
 

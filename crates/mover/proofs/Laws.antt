@@ -123,7 +123,7 @@ module _ (n : ℕ) (j : Job) (z : jobFault n j .status ≡ 0) where
       let s : 0 < span (j .tensor) = mul-pos (omega arith) b in
       let d : 0 < need (j .tensor) (j .config) = mul-pos (omega arith) b in
       parts-apart (j .source) (j .destination)
-      (unbroken (jobRules n j) (omega arith) z .1 .1)
+      (unbroken (jobRules n j) (omega arith) z .1 .1 .1)
       (omega (arith, job-good .long)) (omega (arith, job-good .room))
 
   pub job-total : 0 < totalOf j

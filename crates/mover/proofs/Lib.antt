@@ -1,6 +1,6 @@
 -- Theorems to read first: Demand2 (what an accepted move leaves), Decided (no two outcomes), Exact (refusals), Unseen (entries past
--- the rank are not looked at, nor unused bytes of a fill), Reaching (how far it reaches), Meeting (parts that share a byte, or leave the memory), Work (how much
--- is moved), Laws (what the layer above may use).
+-- the rank are not looked at, nor unused bytes of a fill), Reaching (how far it reaches), Meeting (parts that share a byte, or leave the
+-- memory), Boundaries (elements on boundaries of their size), Work (how much is moved), Laws (what the layer above may use).
 pub mod Demand2
 pub mod Work
 pub mod Decided
@@ -8,6 +8,7 @@ pub mod Exact
 pub mod Unseen
 pub mod Reaching
 pub mod Meeting
+pub mod Boundaries
 pub mod Laws
 pub mod Engines
 -- Laws over plain values, which the functions' proofs cite.

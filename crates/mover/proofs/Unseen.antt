@@ -29,7 +29,7 @@ use Rattle.mover.specs.declared.Job.{Job}
 use Rattle.mover.specs.Claims.{SameFill, SameAsked, SameJob, MovesUnseen}
 use Rattle.mover.specs.Element.{dimOf, kOf, isKept, areKept, sourcePlace, place, padded, element}
 use Rattle.mover.specs.Moved.{total, perStep, coordOf, stored, moved, moveMemory}
-use Rattle.mover.specs.Within.{leaves, meets, jobFault, totalOf, verdictOf, advancedBy, further, advanceOf, advanceMemory}
+use Rattle.mover.specs.Within.{leaves, offBoundary, meets, jobFault, totalOf, verdictOf, advancedBy, further, advanceOf, advanceMemory}
 use Rattle.mover.specs.SubPart.{subPart}
 use Rattle.mover.proofs.Laws.{job-good}
 use Rattle.mover.proofs.SubParts.{partBy, part-by}
@@ -128,11 +128,13 @@ module _ (j j′ : Job) (s : SameAsked j j′) where
   job-fault-unseen n =
       let e = s .source in
       let f = s .destination in
+      let z = s .tensor .element in
       or-path (λ i. when 20 0 (leaves n (e i) || leaves n (f i)))
       (or-path
       (fault-unseen (j .tensor) (j′ .tensor) (s .tensor) (j .config) (j′ .config) (s .arrays) (j .source .length) (j .destination .length) ∙
       (λ i. moveFault (j′ .tensor) (j′ .config) (e i .length) (f i .length)))
-      (λ i. when 21 0 (meets (e i) (f i))))
+      (or-path (λ i. when 34 0 (offBoundary (z i) (e i) || offBoundary (z i) (f i)))
+      (λ i. when 21 0 (meets (e i) (f i)))))
 
   module _ (n : ℕ) (z : jobFault n j .status ≡ 0) where
     same-total : totalOf j ≡ totalOf j′

@@ -1,6 +1,6 @@
--- What the theorems claim besides demand 2 and the work: refusals of a job, how far a move reaches, which bytes a part has, which jobs
--- agree, and what the layer above may use.
-use Prim.Native.Nat.{ℕ, _+_, _-_, _*_, _≤_, _<_}
+-- What the theorems claim besides demand 2 and the work: refusals of a job, how far a move reaches, which bytes a part has, that elements
+-- stand on their boundaries, which jobs agree, and what the layer above may use.
+use Prim.Native.Nat.{ℕ, _+_, _-_, _*_, _%_, _≤_, _<_}
 use mathlib.Core.Path.{_≡_}
 use mathlib.Core.Bool.{true, false}
 use mathlib.Core.List.{List}
@@ -9,17 +9,19 @@ use lib.ListN.{length, getD}
 use Rattle.faults.specs.Exactness.{Exact}
 use Rattle.plane.specs.declared.Tensor.{Tensor}
 use Rattle.plane.specs.declared.Config.{Config}
+use Rattle.plane.specs.declared.SubConfig.{SubConfig}
 use Rattle.plane.specs.Arrays.{at, sum}
 use Rattle.plane.specs.Moves.{dstStrides, need}
+use Rattle.plane.specs.Helpers.{subByte}
 use Rattle.plane.specs.Numbers.{little}
 use Rattle.plane.specs.Unseen.{SameTensor, SameArrays, UnseenSub}
 use Rattle.parts.specs.declared.Part.{Part}
 use Rattle.parts.specs.Parts.{Has, Apart, bytesOf}
 use Rattle.mover.specs.declared.Job.{Job}
 use Rattle.mover.specs.Moved.{total, moved, moveMemory}
-use Rattle.mover.specs.Within.{leaves, meets, jobRules, jobFault, totalOf, verdictOf, advancedBy, advanceOf, advanceMemory}
+use Rattle.mover.specs.Within.{leaves, offBoundary, meets, jobRules, jobFault, totalOf, verdictOf, advancedBy, advanceOf, advanceMemory}
 use Rattle.mover.specs.SubPart.{subPart}
-use Rattle.mover.specs.Demand2.{IsCoordinate, endAt, Accepted}
+use Rattle.mover.specs.Demand2.{IsCoordinate, KeptAt, byteAt, endAt, sourceByte, Accepted}
 
 -- ---- Refusals of a move inside one memory
 
@@ -86,6 +88,30 @@ ByteLeaves = (n : ℕ) (p : Part) (i : ℕ) → Has p i → n ≤ i → leaves n
 -- an empty one, exactly if it starts past the end
 abbrev pub EmptyLeaves : Type 0
 EmptyLeaves = (n : ℕ) (p : Part) → p .length ≡ 0 → leaves n p ≡ ltb n (p .start)
+
+-- ---- Element boundaries
+
+-- byte k of a memory is a multiple of the element size z, which is not 3
+abbrev pub Boundary : ℕ → ℕ → Type 0
+Boundary z k = (z ≡ 3 → ⊥) → k % z ≡ 0
+
+-- every element of the job begins at such a byte: in the destination part that of each coordinate, and if it is kept its source element
+pub record OnBoundaries (j : Job) : Type 0 where
+  pub destination : let t = j .tensor in let c = j .config in
+      (x : ℕ → ℕ) → IsCoordinate t c x → Boundary (t .«element_size») (j .destination .start + byteAt t c x)
+  pub source : let t = j .tensor in let c = j .config in
+      (x : ℕ → ℕ) → IsCoordinate t c x → ((i : ℕ) → i < t .rank → KeptAt t c x i) →
+      Boundary (t .«element_size») (j .source .start + sourceByte t c x)
+
+-- so it is of every job that no number refuses
+abbrev pub JobOnBoundaries : Type 0
+JobOnBoundaries = (n : ℕ) (j : Job) → jobFault n j .status ≡ 0 → OnBoundaries j
+
+-- a part that starts at a sub-tensor of a plane is off a boundary just if the plane's own part is
+abbrev pub SubOnBoundary : Type 0
+SubOnBoundary =
+    (t : Tensor) (s : SubConfig) (p q : Part) → q .start ≡ p .start + subByte t s →
+    offBoundary (t .«element_size») q ≡ offBoundary (t .«element_size») p
 
 -- ---- Entries past the rank, and the fill
 

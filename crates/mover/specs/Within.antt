@@ -1,8 +1,8 @@
 -- A move between two parts of one memory.
-use Prim.Native.Nat.{ℕ, _+_, _-_, min, max}
-use mathlib.Core.Bool.{Bool, _||_}
+use Prim.Native.Nat.{ℕ, _+_, _-_, _%_, min, max}
+use mathlib.Core.Bool.{Bool, not, _&&_, _||_}
 use mathlib.Core.List.{List}
-use lib.Dec.{ltb}
+use lib.Dec.{ltb, eqb}
 use lib.ListN.{length}
 use lib.Seq.{sets}
 use Rattle.faults.specs.declared.Fault.{Fault}
@@ -19,15 +19,20 @@ use Rattle.mover.specs.Moved.{total, moved}
 abbrev pub leaves : ℕ → Part → Bool
 leaves n p = ltb n (p .start) || ltb (n - p .start) (p .length)
 
+-- 34: a part does not start at a multiple of the element size z; elements of three bytes may start anywhere
+abbrev pub offBoundary : ℕ → Part → Bool
+offBoundary z p = not (eqb z 3) && not (eqb (p .start % z) 0)
+
 -- two parts share a byte: the later start lies before the earlier end
 abbrev pub meets : Part → Part → Bool
 meets p q = ltb (max (p .start) (q .start)) (min (p .start + p .length) (q .start + q .length))
 
--- 20, 1 to 13, 21
+-- 20, 1 to 13, 34, 21
 abbrev pub jobRules : ℕ → Job → Rules
 jobRules n j =
     overall 20 (leaves n (j .source) || leaves n (j .destination)) then
     moveRules (j .tensor) (j .config) (j .source .length) (j .destination .length) then
+    overall 34 (offBoundary (j .tensor .«element_size») (j .source) || offBoundary (j .tensor .«element_size») (j .destination)) then
     overall 21 (meets (j .source) (j .destination))
 
 unfoldable pub jobFault : ℕ → Job → Fault

@@ -153,8 +153,8 @@ pub fn move_plane(t: Tensor, config: Config, src: &[u8], dst: &mut [u8]) -> plan
     a
 }
 
-// Moves the elements of a job from number `from` on: budget of them, or what is left. A refused job (20, 1 to 13, 21) has a total of 0.
-// The source stands in the memory, so none is lent.
+// Moves the elements of a job from number `from` on: budget of them, or what is left. A refused job (20, 1 to 13, 34, 21) has a total
+// of 0. The source stands in the memory, so none is lent.
 pub fn advance(mem: &mut [u8], job: crate::Job, from: u64, budget: u64) -> crate::Advanced
     ensures answered { λ r. ⌜ r ≡ advanceOf job from budget (now (mem .entry)) ⌝ }
     ensures written { λ r. ⌜ now (mem .exit) ≡ advanceMemory job from budget (now (mem .entry)) ⌝ }

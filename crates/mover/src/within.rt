@@ -9,9 +9,10 @@ use crate::stretch::advance_within;
 use plane::Answer;
 use plane::Fault;
 ghost use mathlib.Core.Path.{_≡_};
+ghost use Prim.Native.Nat.{_<_};
 ghost use Rattle.faults.specs.Faults.{fault};
 ghost use Rattle.plane.specs.Moves.{refused, answerOf};
-ghost use Rattle.mover.specs.Within.{leaves, meets, jobFault, verdictOf, advanceOf, advanceMemory};
+ghost use Rattle.mover.specs.Within.{leaves, offBoundary, meets, jobFault, verdictOf, advanceOf, advanceMemory};
 
 // 20: whether a part leaves a memory of len bytes.
 fn leaves(len: usize, p: Part) -> bool
@@ -22,6 +23,14 @@ fn leaves(len: usize, p: Part) -> bool
         return true;
     }
     n - p.start < p.length
+}
+
+// 34: whether a part does not start at a multiple of the element size. Elements of three bytes may start anywhere.
+fn is_off_boundary(size: u8, p: Part) -> bool
+    requires { ⌜ 0 < size ⌝ }
+    ensures { λ r. ⌜ r ≡ offBoundary size p ⌝ }
+{
+    (size != 3) & (p.start % size as u64 != 0)
 }
 
 // Whether two parts share a byte: the one that starts later starts within the other, and is not empty.
@@ -41,7 +50,7 @@ fn refused(status: u8) -> Answer
     Answer::refused(Fault { status, dim: 0 })
 }
 
-// What a job answers over a memory of len bytes: 20, 1 to 13, 21, else as its move does.
+// What a job answers over a memory of len bytes: 20, 1 to 13, 34, 21, else as its move does.
 fn answer(len: usize, job: Job) -> Answer
     ensures { λ r. ⌜ r ≡ answerOf (jobFault len job) (job .tensor) (job .config) ⌝ }
 {
@@ -59,6 +68,12 @@ fn answer(len: usize, job: Job) -> Answer
     );
     if a.status != 0 {
         return a;
+    }
+    if is_off_boundary(job.tensor.element_size, job.source) {
+        return refused(34);
+    }
+    if is_off_boundary(job.tensor.element_size, job.destination) {
+        return refused(34);
     }
     if meets(job.source, job.destination) {
         return refused(21);

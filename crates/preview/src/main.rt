@@ -30,7 +30,7 @@ const MOST: usize = MEMORY; // bytes that are lent to one move at the most, what
 
 const BUDGET: u64 = 4; // elements that one step may move
 
-// A memory whose room is kept: 64 blocks of 4 bytes. The picture takes 6 of them, its thumbnail 2.
+// A memory whose room is kept: 64 blocks of 4 bytes, each at a multiple of 4. The picture takes 6 of them, its thumbnail 2.
 const KEPT: usize = 256;
 
 const PICTURE_BLOCKS: u32 = 6;

@@ -10,7 +10,7 @@ use Rattle.serial.specs.Machine.{Mover, applied, wholeMove, Clear}
 use Rattle.serial.specs.Claims.{Lawful}
 use Rattle.serial.proofs.Memory.{apart-sym, length-bytes, length-replaced, bytes-replaced, bytes-kept, replaced-again, replaced-own, replaced-comm}
 
--- the job passed 20, 1 to 13 and 21 over a memory of n bytes
+-- no number refuses the job over a memory of n bytes
 abbrev pub Fits : (M : Mover) → ℕ → M .Job → Type 0
 Fits M n j = M .verdict n j ≡ 0
 

@@ -18,7 +18,7 @@ pub record Mover : Type 1 where
   pub destination : Job → Part
   -- how many elements it has to move
   pub total : Job → ℕ
-  -- over a memory of that many bytes: the first refusal among 20, 1 to 13 and 21, or 0
+  -- over a memory of that many bytes: the number that refuses the job by itself, or 0
   pub verdict : ℕ → Job → ℕ
   -- a whole move: the destination's bytes after it, from the source's bytes and the destination's bytes before it
   pub move : Job → List ℕ → List ℕ → List ℕ
@@ -99,7 +99,7 @@ module _ (M : Mover) where
   -- slots, memory and log that accepted calls lead to, from free slots and the memory m₀
   pub data Reached (m₀ : List ℕ) : List (Slot (M .Job)) → List ℕ → List (Entry (M .Job)) → Type 0 where
     fresh : {ss : List (Slot (M .Job))} → ((h : ℕ) → getD ss h free ≡ free) → Reached m₀ ss m₀ []
-    -- into a free slot, a job that passes 20, 1 to 13 and 21, and keeps the rule with every slot that is not free
+    -- into a free slot, a job that no number refuses by itself, and that keeps the rule with every slot that is not free
     prepare : {ss : List (Slot (M .Job))} {m : List ℕ} {log : List (Entry (M .Job))} → Reached m₀ ss m log
         → (h : ℕ) → h < length ss → getD ss h free ≡ free
         → (j : M .Job) → M .verdict (length m) j ≡ 0

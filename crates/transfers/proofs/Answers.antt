@@ -120,7 +120,7 @@ module _ (t : Table) (n h want : ℕ) where
         state = eqb-true (slotAt t h .state) want (not-false (eqb (slotAt t h .state) want) (u .1 .1));
       }
 
--- ---- prepare: 17 to 20, 1 to 13, 21, 22
+-- ---- prepare: 17 to 20, 1 to 13, 34, 21, 22
 
 module _ (t : Table) (n : ℕ) (j : Job) where
   refuses : {r d : ℕ} → prepareFault t n j ≡ fault r d → (r ≡ 0 → ⊥) → record { status = r; dim = d; handle = 0; table = t } ≡ prepareOf t n j

@@ -54,7 +54,7 @@ module _ (n : ℕ) where
   ]
 
 module _ (t : Table) (n : ℕ) (j : Job) where
-  prepare-number : prepareOf t n j .status ≡ prepareFault t n j .status
+  pub prepare-number : prepareOf t n j .status ≡ prepareFault t n j .status
   unfolding prepareOf
   prepare-number = number-of (prepareFault t n j) _ _ (λ (r : Prepared). r .status) refl refl
 

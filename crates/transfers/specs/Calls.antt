@@ -43,7 +43,7 @@ openRules t n = overall 17 (not (eqb n (t .length))) then overall 18 (not (table
 unfoldable pub openFault : Table → ℕ → Fault
 openFault t n = firstFault (openRules t n)
 
--- 17, 18, 19, 20, 1 to 13, 21, 22
+-- 17, 18, 19, 20, 1 to 13, 34, 21, 22
 abbrev pub prepareRules : Table → ℕ → Job → Rules
 prepareRules t n j =
     openRules t n then

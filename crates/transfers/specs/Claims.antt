@@ -1,5 +1,5 @@
 -- What is claimed besides: each refusal in its case and order, what a refused call hands back, what a poll says, what finishes a
--- transfer.
+-- transfer, and that the elements of transfers stand on their boundaries.
 use mathlib.Core.Path.{_≡_}
 use Prim.Native.Nat.{ℕ, _+_, _≤_, _<_}
 use mathlib.Core.Bool.{true, false, cond}
@@ -8,11 +8,13 @@ use lib.Dec.{eqb}
 use lib.ListN.{length}
 use Rattle.faults.specs.Exactness.{Exact}
 use Rattle.mover.specs.declared.Job.{Job}
+use Rattle.mover.specs.Claims.{OnBoundaries}
+use Rattle.serial.specs.Claims.{Every}
 use Rattle.transfers.specs.declared.Table.{Table}
 use Rattle.transfers.specs.declared.Poll.the-variants as says
 use Rattle.transfers.specs.Slots.{freshTable, slotAt, tableSound}
 use Rattle.transfers.specs.Calls.{freshOf, freshRules, prepareRules, callRules, prepareOf, startOf, stepOf, stepMemory, releaseOf, left, pollRules, pollOf, pollStatus, pollNumbers}
-use Rattle.transfers.specs.Demand3.{Call, prepare, start, step, release, poll, World, after, run}
+use Rattle.transfers.specs.Demand3.{Log, History, Call, prepare, start, step, release, poll, World, after, run}
 
 -- ---- refusals
 
@@ -85,3 +87,12 @@ abbrev pub BudgetsFinish : Type 0
 BudgetsFinish =
     (h n : ℕ) (w : World) (cs : List Call) → length (w .memory) ≡ w .table .length
     → pollOf (w .table) h ≡ says.Running n → Unreleased h cs w → n ≤ spend h cs → pollOf (run cs w .table) h ≡ says.Done
+
+-- ---- element boundaries
+
+-- the elements of every transfer stand on boundaries of their size: of one that is prepared, of each that was accepted, and of each slot
+-- of a sound table that is not free
+pub record TransfersOnBoundaries : Type 0 where
+  pub prepare : (t : Table) (n : ℕ) (j : Job) → prepareOf t n j .status ≡ 0 → OnBoundaries j
+  pub accepted : (m₀ : List ℕ) (t : Table) (m : List ℕ) (log : Log) → History m₀ t m log → Every (λ e. OnBoundaries (e .job)) log
+  pub slot : (t : Table) (h : ℕ) → tableSound t ≡ true → h < 4 → (slotAt t h .state ≡ 0 → ⊥) → OnBoundaries (slotAt t h .job)

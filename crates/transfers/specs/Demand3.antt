@@ -117,7 +117,7 @@ destinationIn j m = bytesOf (j .destination) m
 abbrev pub Outside : Part → ℕ → Type 0
 Outside p k = (k < p .start) ⊎ (p .start + p .length ≤ k)
 
--- the job passes 20, 1 to 13 and 21 over a memory of n bytes
+-- the job passes 20, 1 to 13, 34 and 21 over a memory of n bytes
 abbrev pub Passes : ℕ → Job → Type 0
 Passes n j = jobFault n j .status ≡ 0
 

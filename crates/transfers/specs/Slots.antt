@@ -83,7 +83,7 @@ unfoldable pub movedRight : ℕ → ℕ → ℕ → Bool
 movedRight state moved total =
     cond (eqb state 1) (eqb moved 0) (cond (eqb state 2) (ltb moved total) (eqb state 3 && eqb moved total))
 
--- a free slot is all zero; every other passes 20, 1 to 13 and 21, and has moved what its state says
+-- a free slot is all zero; every other passes 20, 1 to 13, 34 and 21, and has moved what its state says
 unfoldable pub slotSound : ℕ → Slot → Bool
 slotSound n s =
     cond (eqb (s .state) 0)

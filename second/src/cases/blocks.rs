@@ -1,6 +1,7 @@
 //! The cases of the room keeper, which its numbers alone do not tell apart. A long comparison has to meet each.
 
 use super::case::{case, met_by_status, named, Case};
+use super::input::STATES;
 use super::number::{FREE_BEFORE, GIVE_BACK, PART_OF, REQUEST};
 use crate::job::{meets, Part};
 use crate::keeper::{
@@ -9,11 +10,8 @@ use crate::keeper::{
 };
 use crate::moves::room;
 use crate::tensor::LIMIT;
-use crate::transfers::{sound, Table, DONE, FREE, PREPARED, RUNNING};
+use crate::transfers::{sound, Table, FREE};
 use crate::wire::begin;
-
-/// The states of a slot that is not free.
-const STATES: [(u8, &str); 3] = [(PREPARED, "prepared"), (RUNNING, "running"), (DONE, "done")];
 
 /// All cases of the call of this number.
 pub fn cases(number: u8) -> Vec<String> {

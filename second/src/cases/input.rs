@@ -1,4 +1,9 @@
-//! What cases of several topics ask of an input: sizes that there are not, and the bytes of a fill.
+//! What cases of several topics ask of an input: sizes that there are not, the bytes of a fill, and states of slots.
+
+use crate::transfers::{DONE, PREPARED, RUNNING};
+
+/// The states of a slot that is not free.
+pub const STATES: [(u8, &str); 3] = [(PREPARED, "prepared"), (RUNNING, "running"), (DONE, "done")];
 
 /// The numbers just beside the element sizes, which 2 refuses.
 pub const BESIDE: [u8; 2] = [0, 5];

@@ -4,6 +4,7 @@
 //! input (`input.rs`), what a call moves (`moved.rs`, `piece.rs`), and the ways of a move (`way.rs`).
 
 pub mod blocks;
+pub mod boundaries;
 mod case;
 pub mod counts;
 pub mod fills;
@@ -34,6 +35,7 @@ const TOPICS: &[Topic] = &[
     (fills::cases, fills::met),
     (records::cases, records::met),
     (refusals::cases, refusals::met),
+    (boundaries::cases, boundaries::met),
     (blocks::cases, blocks::met),
     (ways::cases, ways::met),
 ];

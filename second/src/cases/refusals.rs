@@ -1,6 +1,6 @@
 //! Refusals that their number alone does not tell apart: 8 by a sum that would wrap, and two numbers that apply to one
-//! call, so that the order shows. A long comparison has to meet each. Element sizes, counts, destination offsets, lists
-//! and records have such cases with their others.
+//! call, so that the order shows. A long comparison has to meet each. Element sizes, counts, destination offsets,
+//! boundaries, lists and records have such cases with their others.
 
 use super::case::{case, met_by_status, named, Case};
 use super::number::{
@@ -72,7 +72,7 @@ fn of_sub_tensor((tensor, config, source): (Tensor, SubConfig, u64)) -> Vec<Case
     ]
 }
 
-/// "20, 1 to 13, 21"
+/// "20, 1 to 13, 34, 21"; the pairs with 34 are in `boundaries.rs`.
 fn of_job(job: &Job, status: u8) -> Vec<Case> {
     let by_itself = judge(&job.tensor, &job.config, job.source.length, job.destination.length).status;
     let own_parts_meet = meets(&job.source, &job.destination);
@@ -82,7 +82,7 @@ fn of_job(job: &Job, status: u8) -> Vec<Case> {
     all
 }
 
-/// "Prepare: 17 to 20, 1 to 13, 21, 22."
+/// "Prepare: 17 to 20, 1 to 13, 21, 22", and "34 after 13 and before 21".
 fn of_prepare((table, job): (Table, Job), status: u8) -> Vec<Case> {
     let is_full = table.slot.iter().all(|slot| slot.state != FREE);
     let leaves = judge_job(table.length, &job).status == 20;

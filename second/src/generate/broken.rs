@@ -2,6 +2,7 @@
 
 use super::jobs::lay_out;
 use super::planes::{good, Scale};
+use super::starts::off_boundary;
 use super::values::{any_u32, any_u64, any_u8, telling_fill};
 use super::words::{any_run, any_word};
 use super::work::Work;
@@ -15,7 +16,7 @@ use crate::wire::{bytes_of, whole, Memory, Rest, Wire};
 pub fn break_table(random: &mut Random, table: &mut Table) {
     let one = draw_slot(random, table);
     let other = draw_slot(random, table);
-    match random.below(20) {
+    match random.below(22) {
         0 => table.length = random.pick(&[LIMIT + 1, u64::MAX, 1 << 32, 1 << 63]),
         1 => table.length = table.length.wrapping_add(random.pick(&[1, u64::MAX])),
         2 | 18..=19 => table.slot[one].state = random.between(4, 255) as u8,
@@ -35,6 +36,7 @@ pub fn break_table(random: &mut Random, table: &mut Table) {
         14 => table.slot.swap(one, other),
         15 => table.slot[one] = Slot::default(),
         16 => move_part(random, table, one),
+        20..=21 => put_off(random, &mut table.slot[one].job),
         _ => table.slot[one].job.tensor.rank = any_u8(random),
     }
 }
@@ -119,6 +121,18 @@ fn move_part(random: &mut Random, table: &mut Table, one: usize) {
     }
 }
 
+/// A part off a boundary, or both.
+pub fn put_off(random: &mut Random, job: &mut Job) {
+    let size = job.tensor.element_size;
+    let (source, destination) = random.pick(&[(true, false), (false, true), (true, true)]);
+    if source {
+        job.source.start = off_boundary(random, job.source.start, size);
+    }
+    if destination {
+        job.destination.start = off_boundary(random, job.destination.start, size);
+    }
+}
+
 /// The calls that take a table.
 pub const TABLE_CALLS: [u8; 6] = [0x41, 0x42, 0x43, 0x44, 0x45, 0x51];
 
@@ -190,7 +204,8 @@ fn draw_wide_table(random: &mut Random) -> Table {
         if judged.status != 0 || random.chance(20) {
             continue;
         }
-        next += length;
+        // The next ones begin on a boundary of elements of any size.
+        next = (next + length).next_multiple_of(4);
         *slot = in_any_state(random, job, judged.total);
     }
     table

@@ -3,7 +3,8 @@
 use super::broken::{break_table, in_any_state};
 use super::keeper::{good_length, WRONG_RUNS};
 use super::numbers::start_beside;
-use super::planes::{good, tiny, Scale};
+use super::planes::{few, good, tiny, Scale};
+use super::starts::mostly_on_boundary;
 use super::values::any_u64;
 use super::words::{any_word, bad_run, good_run, with_run};
 use super::work::Work;
@@ -66,10 +67,15 @@ fn put(random: &mut Random, table: &Table, slot: Slot) -> Table {
 }
 
 fn draw_slot(random: &mut Random, length: u64, run: &Part) -> Slot {
-    let drawn = if random.chance(70) { tiny(random) } else { good(random, Scale::Small) };
+    let drawn = match random.below(10) {
+        0..=3 => tiny(random),
+        4..=6 => few(random),
+        _ => good(random, Scale::Small),
+    };
     let mut part = |enough: u64| {
         let part_length = enough + random.pick(&[0, 0, 0, 1, 8]);
-        Part { start: draw_start(random, length, run, part_length), length: part_length }
+        let start = draw_start(random, length, run, part_length);
+        Part { start: mostly_on_boundary(random, start, drawn.tensor.element_size), length: part_length }
     };
     let (source, destination) = (part(drawn.source), part(drawn.destination));
     let job = Job { source, destination, tensor: drawn.tensor, config: drawn.config };

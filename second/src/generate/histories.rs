@@ -6,6 +6,7 @@ use super::moving::draw_at_extent_limit;
 use super::numbers::start_beside;
 use super::planes::{good, tiny, Drawn, Scale};
 use super::spoil::{vary, Lent};
+use super::starts::mostly_on_boundary;
 use super::values::{any_u32, any_u64};
 use super::work::Work;
 use crate::job::{judge_job, Job, Part};
@@ -218,8 +219,8 @@ impl History<'_> {
         job.source.length = drawn.source;
         job.destination.length = drawn.destination;
         for _ in 0..30 {
-            job.source.start = self.work.random.below(length.saturating_sub(drawn.source) + 1);
-            job.destination.start = self.work.random.below(length.saturating_sub(drawn.destination) + 1);
+            job.source.start = self.anywhere(length, drawn.source, drawn.tensor.element_size);
+            job.destination.start = self.anywhere(length, drawn.destination, drawn.tensor.element_size);
             match placed {
                 Some((true, start)) => job.source.start = start,
                 Some((false, start)) => job.destination.start = start,
@@ -232,11 +233,18 @@ impl History<'_> {
         job
     }
 
+    /// Where a part of that length may start in the memory, mostly on a boundary.
+    fn anywhere(&mut self, memory: u64, part: u64, element_size: u8) -> u64 {
+        let start = self.work.random.below(memory.saturating_sub(part) + 1);
+        mostly_on_boundary(&mut self.work.random, start, element_size)
+    }
+
     /// Places the source or the destination so that it meets another slot's part, or just touches it.
     fn at_another(&mut self, drawn: &Drawn, other: Part) -> Job {
         let is_source = self.work.random.chance(50);
         let own = if is_source { drawn.source } else { drawn.destination };
         let start = start_beside(&mut self.work.random, &other, own);
+        let start = mostly_on_boundary(&mut self.work.random, start, drawn.tensor.element_size);
         self.search(drawn, Some((is_source, start)))
     }
 }

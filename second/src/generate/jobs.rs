@@ -4,6 +4,7 @@ use super::moving::{draw_above_extent_limit, draw_at_extent_limit};
 use super::numbers::{draw_numbers, start_beside};
 use super::planes::{good, Drawn, Scale};
 use super::spoil::{vary, Lent};
+use super::starts::{boundary_from, mostly_on_boundary, off_boundary};
 use super::values::any_u64;
 use super::work::{Work, ADVANCE};
 use crate::job::{judge_job as judge, Job, Part};
@@ -11,33 +12,40 @@ use crate::random::Random;
 use crate::transfers::fresh;
 use crate::wire::{Memory, Rest, MEMORY_LIMIT};
 
-/// A job for this move, its two parts side by side, and the length of the memory around them.
+/// A job for this move, its two parts side by side, each on a boundary of its elements, and the length of the memory
+/// around them.
 pub fn lay_out(random: &mut Random, drawn: &Drawn) -> (Job, u64) {
-    let gap = |random: &mut Random| random.pick(&[0, 0, 1, 2, 3]);
-    let first = Part { start: gap(random), length: 0 };
+    let size = drawn.tensor.element_size;
+    let [before, between, behind] = [0; 3].map(|_| random.pick(&[0, 0, 1, 2, 3]));
     let source_first = random.chance(50);
     let (one, two) = if source_first { (drawn.source, drawn.destination) } else { (drawn.destination, drawn.source) };
-    let first = Part { length: one, ..first };
-    let second = Part { start: first.start.saturating_add(one).saturating_add(gap(random)), length: two };
-    let length = second.start.saturating_add(two).saturating_add(gap(random));
+    let first = Part { start: boundary_from(before, size), length: one };
+    let start = first.start.saturating_add(one).saturating_add(between);
+    let second = Part { start: boundary_from(start, size), length: two };
+    let length = second.start.saturating_add(two).saturating_add(behind);
     let (source, destination) = if source_first { (first, second) } else { (second, first) };
     (Job { source, destination, tensor: drawn.tensor, config: drawn.config }, length)
 }
 
-/// Moves a part so that it leaves the memory, meets the other one, is empty, or starts anywhere.
+/// Moves a part so that it leaves the memory, meets the other one, is empty, or starts off a boundary or anywhere.
 pub fn misplace(random: &mut Random, job: &mut Job, length: u64) {
+    let size = job.tensor.element_size;
     let (part, other) =
         if random.chance(50) { (&mut job.source, job.destination) } else { (&mut job.destination, job.source) };
-    match random.below(18) {
+    match random.below(20) {
         0 => part.start = length.saturating_sub(part.length).saturating_add(1),
         1 => part.length = length.saturating_sub(part.start).saturating_add(1),
         2 => *part = Part { start: length, length: 0 },
-        3 | 16..=17 => *part = Part { start: length.saturating_add(1), length: 0 },
+        3 | 18..=19 => *part = Part { start: length.saturating_add(1), length: 0 },
         4 => part.start = any_u64(random),
         5 => part.length = any_u64(random),
         // start + length wraps to a small number
         6 => part.start = 0u64.wrapping_sub(part.length).wrapping_add(random.below(3)),
-        _ => part.start = start_beside(random, &other, part.length),
+        7..=8 => part.start = off_boundary(random, part.start, size),
+        _ => {
+            let start = start_beside(random, &other, part.length);
+            part.start = mostly_on_boundary(random, start, size);
+        }
     }
 }
 

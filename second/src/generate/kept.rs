@@ -1,7 +1,8 @@
 //! Histories in which a keeper says where transfers go: runs are asked for, named in jobs, and given back.
 
 use super::histories::History;
-use super::planes::{good, tiny, Drawn, Scale};
+use super::planes::{few, good, Drawn, Scale};
+use super::starts::mostly_on_boundary;
 use super::words::{any_number, any_run, with_run};
 use super::work::Work;
 use crate::job::{Job, Part};
@@ -15,9 +16,13 @@ struct Kept<'a> {
     runs: Vec<(u32, u32)>,
 }
 
-/// A history over a memory that has some bytes behind its blocks, or none, and at times too short for any.
+/// A history over a memory whose blocks are all on boundaries, or one that has some bytes behind its blocks, or none, and
+/// at times too short for any.
 pub fn history(work: &mut Work) {
-    let length = work.random.pick(&[63, 64, 100, 127, 200, 320, 447, 640, 700, 1_000]);
+    let length = match work.random.below(5) {
+        0..=2 => 256 * work.random.between(1, 4),
+        _ => work.random.pick(&[63, 64, 127, 200, 320, 447, 640, 700, 1_000]),
+    };
     let turns = work.random.between(10, 36);
     let mut kept = Kept { history: History::begin(work, length, Scale::Small), word: 0, runs: Vec::new() };
     for _ in 0..turns {
@@ -58,8 +63,8 @@ impl Kept<'_> {
             return self.request();
         }
         let drawn = self.draw_move();
-        let source = self.place(drawn.source);
-        let destination = self.place(drawn.destination);
+        let source = self.place(drawn.source, drawn.tensor.element_size);
+        let destination = self.place(drawn.destination, drawn.tensor.element_size);
         self.history.prepare_job(Job { source, destination, tensor: drawn.tensor, config: drawn.config });
     }
 
@@ -67,16 +72,20 @@ impl Kept<'_> {
         let random = &mut self.history.work.random;
         match random.below(3) {
             0 => good(random, Scale::Small),
-            _ => tiny(random),
+            _ => few(random),
         }
     }
 
-    /// A part of that length in a granted run, if the run is long enough.
-    fn place(&mut self, length: u64) -> Part {
+    /// A part of that length in a granted run, if the run is long enough: from its first byte on, or from a later one.
+    fn place(&mut self, length: u64, element_size: u8) -> Part {
         let random = &mut self.history.work.random;
         let (first, n) = random.pick(&self.runs);
         let run = bytes_of_run(self.history.table.length, first, n);
-        Part { start: run.start + random.below(run.length.saturating_sub(length) + 1), length }
+        if random.chance(40) {
+            return Part { start: run.start, length };
+        }
+        let start = run.start + random.below(run.length.saturating_sub(length) + 1);
+        Part { start: mostly_on_boundary(random, start, element_size), length }
     }
 
     /// The next thing for a slot that is not free.

@@ -1,5 +1,6 @@
 //! Draws the calls to compare: the same ones for the same seed.
 
+mod boundaries;
 mod broken;
 mod faulty_records;
 mod frames;
@@ -21,6 +22,7 @@ mod refusals;
 mod shows;
 mod sizes;
 mod spoil;
+mod starts;
 mod stretches;
 mod values;
 mod way_planes;
@@ -53,6 +55,8 @@ const KINDS: &[Kind] = &[
     (36, jobs::judge_job),
     (32, jobs::advance),
     (16, jobs::prepare),
+    (32, boundaries::job),
+    (8, boundaries::table),
     (64, moving::move_plane),
     (4, moving::move_sub_tensor),
     (24, moving::at_offset_bound),
@@ -113,8 +117,8 @@ pub fn calls(count: usize, seed: u64) -> Vec<u8> {
 }
 
 /// What is drawn once in a run: two numbers for one call, lines of wrong lengths, the longest lines, the largest numbers,
-/// elements of each size, records and lists spoiled in every way, fills where none may be, moves of each way, and what
-/// the room keeper tells apart.
+/// elements of each size, records and lists spoiled in every way, fills where none may be, moves of each way, what the
+/// room keeper tells apart, and parts on boundaries and off them.
 fn once(work: &mut Work) {
     refusals::every_wrap(work);
     refusals::every_sub_tensor_pair(work);
@@ -147,6 +151,11 @@ fn once(work: &mut Work) {
     keeper::every_wrong_run(work);
     give_backs::every_run(work);
     keeper::every_count(work);
+    boundaries::every_start(work);
+    boundaries::every_prepare(work);
+    boundaries::every_block(work);
+    boundaries::every_slot(work);
+    boundaries::every_far_start(work);
 }
 
 /// Long lines.

@@ -64,6 +64,13 @@ pub fn tiny(random: &mut Random) -> Drawn {
     Drawn::of(tensor, copy(1).config)
 }
 
+/// A copy of at most three elements of any size.
+pub fn few(random: &mut Random) -> Drawn {
+    let drawn = tiny(random);
+    let element_size = random.pick(&ELEMENT_SIZES);
+    Drawn::of(Tensor { element_size, ..drawn.tensor }, drawn.config)
+}
+
 fn draw(random: &mut Random, scale: Scale) -> Drawn {
     let tensor = draw_tensor(random, scale);
     let config = draw_config(random, &tensor, scale);

@@ -39,7 +39,7 @@ fn a_run_that_is_long_enough_meets_everything() {
 }
 
 /// Some of what has to be met.
-const SOME_CASES: [&str; 66] = [
+const SOME_CASES: [&str; 71] = [
     "00 version: made",
     "02 room: 12",
     "03 judge: 12 too large at 0",
@@ -57,7 +57,10 @@ const SOME_CASES: [&str; 66] = [
     "20 move_plane: lines, 128 bytes and tail 13",
     "20 move_plane: short rows, 2-byte permuted",
     "20 move_plane: every second, 1-byte to the source's end",
+    "21 judge_job: on a boundary from byte 2^63 on",
+    "21 judge_job: 3-byte source, 2 past",
     "22 advance: past the end of a slab",
+    "22 advance: 13 and 34",
     "22 advance: padded rows, 4-byte wide behind",
     "22 advance: turned, begins in mid-row",
     "24 sub_part: 15",
@@ -71,6 +74,7 @@ const SOME_CASES: [&str; 66] = [
     "27 plain::advance: pixels taken apart, ends in mid-layer",
     "41 prepare: 22",
     "41 prepare: 21 and 22",
+    "41 prepare: 34 by a 4-byte destination alone, 3 past",
     "41 prepare: ff04",
     "43 step: slot in no state",
     "43 step: begins in mid-row",
@@ -79,6 +83,7 @@ const SOME_CASES: [&str; 66] = [
     "43 step: lines, source behind destination",
     "44 release: 17 and 18",
     "45 poll: running",
+    "45 poll: 18 by a done slot whose source is off a boundary",
     "no call: ff02",
     "rmvshow: 13",
     "rmvshow: version 2 cut after 133 bytes",
@@ -133,6 +138,9 @@ fn a_number_that_a_call_can_not_give_is_named() {
     // "never gives 5 or 13"
     coverage.call(&calls, b"02", &[0x02, 5]);
     coverage.call(&calls, b"0405", &[0x04, 5]);
+    // A move between slices has no parts that start anywhere.
+    coverage.call(&calls, b"20", &[0x20, 34]);
+    coverage.call(&calls, b"26", &[0x26, 34]);
     // The element size is not looked at.
     coverage.call(&calls, b"05", &[0x05, 2]);
     coverage.call(&calls, b"30", &[0xff, 4]);
@@ -150,6 +158,8 @@ fn a_number_that_a_call_can_not_give_is_named() {
         "02 room: 5",
         "04 element_size: 5",
         "05 element_count: 2",
+        "20 move_plane: 34",
+        "26 plain::move_plane: 34",
         "30 record::read: ff04",
         "34 record_at: 2",
         "34 record_at: 25",

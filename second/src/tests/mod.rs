@@ -1,6 +1,8 @@
 //! The examples of the paper and how it is read, with values typed in from the paper or worked out by hand.
 
 mod block_cases;
+mod boundaries;
+mod boundary_cases;
 mod counts;
 mod coverage;
 mod errors;

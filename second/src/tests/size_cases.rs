@@ -78,16 +78,16 @@ fn sub_tensors_from_inside() {
     }
 }
 
-/// Three elements of 3 bytes, with parts that would be long enough for elements of 5.
+/// Three elements of 3 bytes, with parts on boundaries of any size that would be long enough for elements of 5.
 fn job() -> Job {
     let tensor = sized(3, &[3]);
     let part = |start: u64| Part { start, length: 15 };
-    Job { source: part(0), destination: part(15), tensor, config: default(&tensor) }
+    Job { source: part(0), destination: part(16), tensor, config: default(&tensor) }
 }
 
 /// The table of such a transfer, with another element size in its slot.
 fn table(size: u8) -> Table {
-    let mut table = prepare(&fresh(30).table, &job(), 30).table;
+    let mut table = prepare(&fresh(31).table, &job(), 31).table;
     table.slot[0].job.tensor.element_size = size;
     table
 }
@@ -95,9 +95,9 @@ fn table(size: u8) -> Table {
 #[test]
 fn jobs() {
     let with = |size: u8, shape: &[u32]| Job { tensor: sized(size, shape), ..job() };
-    assert_eq!(of_call(0x21, bytes_of(&(30u64, with(5, &[3])))), "2 by 5");
-    assert_eq!(of_call(0x22, bytes_of(&(with(3, &[0]), 0u64, 1u64, Memory(vec![7; 30])))), "3 with 3-byte elements");
-    let prepared = |job: Job| of_call(0x41, bytes_of(&(fresh(30).table, job, Rest(vec![7; 30]))));
+    assert_eq!(of_call(0x21, bytes_of(&(31u64, with(5, &[3])))), "2 by 5");
+    assert_eq!(of_call(0x22, bytes_of(&(with(3, &[0]), 0u64, 1u64, Memory(vec![7; 31])))), "3 with 3-byte elements");
+    let prepared = |job: Job| of_call(0x41, bytes_of(&(fresh(31).table, job, Rest(vec![7; 31]))));
     assert_eq!((prepared(with(0, &[3])), prepared(with(3, &[3]))), ("2 by 0".into(), String::new()));
 }
 
@@ -114,14 +114,14 @@ fn slots() {
     let mut moved = table(5);
     moved.slot[0].moved = 1;
     assert_eq!(poll(moved, 0), "");
-    assert_eq!(of_call(0x41, bytes_of(&(table(5), Job::default(), Rest(vec![7; 30])))), by_5);
-    assert_eq!(of_call(0x42, bytes_of(&(table(2), 0u32, Rest(vec![7; 30])))), "2-byte slot");
+    assert_eq!(of_call(0x41, bytes_of(&(table(5), Job::default(), Rest(vec![7; 31])))), by_5);
+    assert_eq!(of_call(0x42, bytes_of(&(table(2), 0u32, Rest(vec![7; 31])))), "2-byte slot");
 }
 
 #[test]
 fn steps() {
-    let running = start(&table(3), 0, 30).table;
-    let step = |table: Table, budget: u64| of_call(0x43, bytes_of(&(table, 0u32, budget, Memory(vec![7; 30]))));
+    let running = start(&table(3), 0, 31).table;
+    let step = |table: Table, budget: u64| of_call(0x43, bytes_of(&(table, 0u32, budget, Memory(vec![7; 31]))));
     assert_eq!((step(running, 2), step(running, 3)), ("3-byte elements kept".into(), "3-byte elements kept".into()));
     assert_eq!((step(running, 1), step(running, 0), step(table(3), 2)), (String::new(), String::new(), String::new()));
     // One element of padding, then one that is kept.

@@ -93,7 +93,7 @@ fn job(source: u64, destination: u64) -> Job {
 
 #[test]
 fn transfers_move_pixel_by_pixel() {
-    // L, with pixels, from byte 1 on: nothing has to start at a multiple of anything.
+    // L, with pixels, from byte 1 on: "3-byte elements may start anywhere".
     let mut table = prepare(&prepare(&fresh(25).table, &job(1, 13), 25).table, &job(7, 19), 25).table;
     for handle in [0, 1] {
         table = start(&table, handle, 25).table;
@@ -117,9 +117,9 @@ fn a_table_has_slots_of_pixels() {
     let short = Part { start: 0, length: 5 };
     assert_eq!((prepared(job(0, 6)).status, prepared(Job { source: short, ..job(0, 6) }).status), (0, 5));
     assert_eq!(prepared(Job { destination: short, ..job(6, 0) }).status, 13);
-    // Parts that would be long enough for elements of 5 bytes.
+    // Parts on boundaries of any size, and long enough for elements of 5 bytes.
     let part = |start: u64| Part { start, length: 10 };
-    let mut table = prepared(Job { source: part(0), destination: part(10), ..job(0, 6) }).table;
+    let mut table = prepared(Job { source: part(0), destination: part(12), ..job(0, 6) }).table;
     let polled = [1, 2, 3, 4, 5, 0].map(|size| {
         table.slot[0].job.tensor.element_size = size;
         poll(&table, 0).status

@@ -1,0 +1,36 @@
+//! Where parts start: on a boundary of their elements, or beside one.
+
+use crate::cases::boundaries::HELD;
+use crate::random::Random;
+
+/// The first boundary from this byte on, where 64 bits have one. Elements of other sizes may start at the byte itself.
+pub fn boundary_from(start: u64, element_size: u8) -> u64 {
+    if !HELD.contains(&element_size) {
+        return start;
+    }
+    start.checked_next_multiple_of(element_size as u64).unwrap_or(start)
+}
+
+/// The last boundary up to this byte.
+pub fn boundary_up_to(start: u64, element_size: u8) -> u64 {
+    if !HELD.contains(&element_size) {
+        return start;
+    }
+    start - start % element_size as u64
+}
+
+/// Mostly the boundary before or behind this byte, else the byte itself.
+pub fn mostly_on_boundary(random: &mut Random, start: u64, element_size: u8) -> u64 {
+    match random.below(12) {
+        0 => start,
+        1..=5 => boundary_from(start, element_size),
+        _ => boundary_up_to(start, element_size),
+    }
+}
+
+/// A byte off the boundaries, from just behind the one before this byte to just before the next. For elements that may
+/// start anywhere it is any byte near this one.
+pub fn off_boundary(random: &mut Random, start: u64, element_size: u8) -> u64 {
+    let most = if HELD.contains(&element_size) { element_size as u64 - 1 } else { 3 };
+    boundary_up_to(start, element_size).saturating_add(random.between(1, most))
+}
