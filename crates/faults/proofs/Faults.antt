@@ -4,7 +4,7 @@ use native.Mathlib.Nat.{not-suc-le-zero, le-of-suc-le-suc, eq-or-lt-of-le}
 use native.Mathlib.Numerals.{add-one}
 use native.Mathlib.Decide.{ℕ-discrete}
 use native.Mathlib.Omega.{arith}
-use mathlib.Core.Path.{_≡_, refl, sym, ap, ap₂, subst, _∙_}
+use mathlib.Core.Path.{_≡_, refl, sym, ap, ap₂, subst, subst₂, _∙_}
 use mathlib.Core.Logic.{⊎-elim}
 use mathlib.Core.Bool.{Bool, true, false}
 use borrow.Author.Tests.{eq-eqb, ne-eqb}
@@ -59,6 +59,24 @@ if-fault f y x h = simp (ne-eqb (f .status) 0 h)
 
 pub if-none : {A : Type 0} (f : Fault) (y x : A) → f .status ≡ 0 → ifFault f y x ≡ x
 if-none f y x h = simp (eq-eqb (f .status) 0 h)
+
+-- what is so in either case is so; of one value, and of two
+pub by-fault : {A : Type 0} (P : A → Type 0) (f : Fault) {x y : A} → (f .status ≡ 0 → P x) → ((f .status ≡ 0 → ⊥) → P y) → P (ifFault f y x)
+by-fault P f {x} {y} go stop = elim (ℕ-discrete (f .status) 0) [
+  | yes z ↦ subst P (sym (if-none f y x z)) (go z)
+  | no z ↦ subst P (sym (if-fault f y x z)) (stop z)
+]
+
+pub by-fault₂ : {A B : Type 0} (P : A → B → Type 0) (f : Fault) {x y : A} {v w : B} → (f .status ≡ 0 → P x v) → ((f .status ≡ 0 → ⊥) → P y w)
+    → P (ifFault f y x) (ifFault f w v)
+by-fault₂ P f {x} {y} {v} {w} go stop = elim (ℕ-discrete (f .status) 0) [
+  | yes z ↦ subst₂ P (sym (if-none f y x z)) (sym (if-none f w v z)) (go z)
+  | no z ↦ subst₂ P (sym (if-fault f y x z)) (sym (if-fault f w v z)) (stop z)
+]
+
+-- an answer that has number 0 where there is no fault, and the fault's where there is one
+pub number-of : {A : Type 0} (f : Fault) (y x : A) (number : A → ℕ) → number y ≡ f .status → number x ≡ 0 → number (ifFault f y x) ≡ f .status
+number-of f y x number p q = by-fault (λ a. number a ≡ f .status) f (λ z. q ∙ sym z) (λ b. p)
 
 -- ---- one condition
 

@@ -2,11 +2,10 @@
 use Prim.Native.Nat.{ℕ}
 use native.Mathlib.Omega.{arith}
 use mathlib.Core.Path.{_≡_, refl, sym, ap, _∙_}
-use Rattle.faults.proofs.Faults.{if-fault}
+use Rattle.faults.proofs.Faults.{if-fault, number-of}
 use Rattle.faults.proofs.Chains.{exact-overall}
 use Rattle.transfers.specs.declared.Table.{Table}
 use Rattle.transfers.specs.Slots.{zeroPart}
-use Rattle.transfers.proofs.Demand3.{by-fault}
 use Rattle.keeper.specs.declared.Granted.{Granted}
 use Rattle.keeper.specs.declared.GivenBack.{GivenBack}
 use Rattle.keeper.specs.declared.Placed.{Placed}
@@ -17,19 +16,15 @@ use Rattle.keeper.specs.Claims.{ExactKeeper, RefusedKeeper}
 
 pub request-number : (w n : ℕ) → requestOf w n .status ≡ requestFault w n .status
 unfolding requestOf
-request-number w n = by-fault (λ (r : Granted). r .status ≡ requestFault w n .status) (requestFault w n) (λ z. sym z) (λ b. refl)
+request-number w n = number-of (requestFault w n) _ _ (λ (r : Granted). r .status) refl refl
 
 pub back-number : (t : Table) (w first n : ℕ) → giveBackOf t w first n .status ≡ giveBackFault t w first n .status
 unfolding giveBackOf
-back-number t w first n =
-    let f = giveBackFault t w first n in
-    by-fault (λ (r : GivenBack). r .status ≡ f .status) f (λ z. sym z) (λ b. refl)
+back-number t w first n = number-of (giveBackFault t w first n) _ _ (λ (r : GivenBack). r .status) refl refl
 
 part-number : (l first n : ℕ) → partOf l first n .status ≡ partFault l first n .status
 unfolding partOf
-part-number l first n =
-    let f = partFault l first n in
-    by-fault (λ (r : Placed). r .status ≡ f .status) f (λ z. sym z) (λ b. refl)
+part-number l first n = number-of (partFault l first n) _ _ (λ (r : Placed). r .status) refl refl
 
 -- ---- the theorems
 

@@ -10,6 +10,7 @@ use mathlib.Core.List.{List, [], _∷_}
 use borrow.Author.Tests.{eq-eqb, ne-eqb}
 use lib.Dec.{eqb}
 use lib.ListN.{length}
+use Rattle.faults.proofs.Faults.{by-fault}
 use Rattle.parts.specs.declared.Part.{Part}
 use Rattle.parts.specs.Parts.{Has, Apart}
 use Rattle.plane.proofs.Arrays.{same-at}
@@ -25,7 +26,6 @@ use Rattle.transfers.specs.Calls.{freshFault, freshOf, prepareFault, prepareOf,
 use Rattle.transfers.specs.Demand3.{Call, prepare, start, step, release, poll, freshWorld, after}
 use Rattle.transfers.proofs.Fours.{slot-same, slot-other, with-length, lowest-is}
 use Rattle.transfers.proofs.Answers.{called, preparing}
-use Rattle.transfers.proofs.Demand3.{by-fault}
 use Rattle.keeper.specs.Calls.{requestOf, blockBytes, runPart, giveBackOf}
 use Rattle.keeper.specs.Sharing.{Deed, given-back, Holds, InOwn, Owners, Housed, ToolCall, on-table, request, give-back, ask, Tools, freshTools, noteRequest, noteBack, noteOwner, ownersAfter, afterTool, runTools, AllHoused, InOrder, AllInOrder, OrderlyTools}
 use Rattle.keeper.proofs.Granting.{back-run}

@@ -1,6 +1,6 @@
 -- The elements of every transfer stand on boundaries of their size, since its job passes. Assumes nothing.
 use Prim.Native.Nat.{ℕ}
-use mathlib.Core.Path.{_≡_, sym, _∙_}
+use mathlib.Core.Path.{sym, _∙_}
 use mathlib.Core.List.{[], _∷_}
 use Rattle.mover.specs.Claims.{OnBoundaries}
 use Rattle.mover.proofs.Boundaries.{job-on-boundaries}

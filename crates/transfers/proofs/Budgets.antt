@@ -11,6 +11,7 @@ use lib.Dec.{eqb, ltb}
 use lib.ListN.{length}
 use borrow.Author.Tests.{eq-eqb, ne-eqb, eqb-true, ltb-false}
 use Rattle.faults.specs.Faults.{when, _orElse_, ifFault}
+use Rattle.faults.proofs.Faults.{by-fault}
 use Rattle.mover.specs.declared.Job.{Job}
 use Rattle.mover.specs.Within.{totalOf}
 use Rattle.mover.proofs.Laws.{advanced-length}
@@ -30,7 +31,6 @@ use Rattle.transfers.proofs.Sounds.{sound-tells, busy}
 use Rattle.transfers.proofs.Answers.{open-0, called, preparing, call-0}
 use Rattle.transfers.proofs.Steps.{running-left, poll-done}
 use Rattle.transfers.proofs.Keeps.{prepare-keeps, start-keeps, step-keeps, release-keeps}
-use Rattle.transfers.proofs.Demand3.{by-fault}
 
 -- the transfer at h is done, or it is running with at most n elements left
 abbrev AtMost : Slot → ℕ → Type 0

@@ -1,18 +1,16 @@
 -- Demand 3 on the calls' own definitions: each accepted call is one of the crate serial's transitions, on the table as it sees it.
 -- Assumes nothing.
-use mathlib.Core.Path.{_≡_, refl, sym, subst, subst₂}
+use mathlib.Core.Path.{_≡_, refl, sym, subst}
 use Prim.Native.Nat.{ℕ, zero, suc}
-use native.Mathlib.Decide.{ℕ-discrete, decLt}
+use native.Mathlib.Decide.{decLt}
 use native.Mathlib.Omega.{arith}
 use mathlib.Core.Bool.{cond}
 use mathlib.Core.List.{List, [], _∷_}
 use lib.Dec.{eqb}
 use lib.ListN.{length, getD}
 use borrow.Author.Tests.{ne-eqb}
-use Rattle.faults.specs.declared.Fault.{Fault}
-use Rattle.faults.specs.Faults.{ifFault}
 use Rattle.plane.proofs.Arrays.{some-clear}
-use Rattle.faults.proofs.Faults.{if-none, if-fault}
+use Rattle.faults.proofs.Faults.{by-fault, by-fault₂}
 use Rattle.mover.specs.declared.Job.{Job}
 use Rattle.mover.specs.Within.{advancedBy}
 use Rattle.serial.specs.Machine.{Clear, Reached}
@@ -33,20 +31,6 @@ use Rattle.transfers.proofs.View.{view, view-with, view-free, view-take
 use Rattle.transfers.proofs.Midway.{in-place-each}
 
 -- ---- each call
-
--- a fault's two cases
-pub by-fault : {A : Type 0} (P : A → Type 0) (f : Fault) {x y : A} → (f .status ≡ 0 → P x) → ((f .status ≡ 0 → ⊥) → P y) → P (ifFault f y x)
-by-fault P f {x} {y} go stop = elim (ℕ-discrete (f .status) 0) [
-  | yes z ↦ subst P (sym (if-none f y x z)) (go z)
-  | no z ↦ subst P (sym (if-fault f y x z)) (stop z)
-]
-
-by-fault₂ : {A B : Type 0} (P : A → B → Type 0) (f : Fault) {x y : A} {v w : B} → (f .status ≡ 0 → P x v) → ((f .status ≡ 0 → ⊥) → P y w)
-    → P (ifFault f y x) (ifFault f w v)
-by-fault₂ P f {x} {y} {v} {w} go stop = elim (ℕ-discrete (f .status) 0) [
-  | yes z ↦ subst₂ P (sym (if-none f y x z)) (sym (if-none f w v z)) (go z)
-  | no z ↦ subst₂ P (sym (if-fault f y x z)) (sym (if-fault f w v z)) (stop z)
-]
 
 module _ (m₀ : List ℕ) where
   abbrev Shown : Table → List ℕ → Log → Type 0

@@ -1,7 +1,7 @@
 -- Each refusal in its exact case and order, as in plane's file of this name. A refused call hands back the table that it was given,
 -- with zeros besides, and leaves the memory as it was. Assumes nothing.
 use Prim.Native.Nat.{ℕ}
-use native.Mathlib.Decide.{ℕ-discrete, decLt}
+use native.Mathlib.Decide.{decLt}
 use native.Mathlib.Omega.{arith}
 use mathlib.Core.Path.{_≡_, refl, sym, ap, _∙_}
 use mathlib.Core.Bool.{Bool, true, false, cond}
@@ -9,9 +9,8 @@ use mathlib.Core.List.{List}
 use lib.Dec.{eqb}
 use lib.ListN.{length}
 use Rattle.faults.specs.declared.Fault.{Fault}
-use Rattle.faults.specs.Faults.{ifFault}
 use Rattle.faults.specs.Exactness.{Exact}
-use Rattle.faults.proofs.Faults.{if-fault, if-none}
+use Rattle.faults.proofs.Faults.{if-fault, if-none, number-of}
 use Rattle.faults.proofs.Chains.{exact, exact-overall}
 use Rattle.mover.specs.declared.Job.{Job}
 use Rattle.transfers.specs.declared.Slot.{Slot}
@@ -28,14 +27,7 @@ use Rattle.transfers.specs.declared.Poll.the-variants as poll
 
 -- ---- numbers of the answers
 
--- an answer that has number 0 where there is no fault, and the fault's where there is one
-number-of : {A : Type 0} (f : Fault) (y x : A) (number : A → ℕ) → number y ≡ f .status → number x ≡ 0 → number (ifFault f y x) ≡ f .status
-number-of f y x number p q = elim (ℕ-discrete (f .status) 0) [
-  | yes z ↦ ap number (if-none f y x z) ∙ q ∙ sym z
-  | no b ↦ ap number (if-fault f y x b) ∙ p
-]
-
--- and a call that names no dimension
+-- of a call that names no dimension
 call-exact : (t : Table) (n h want : ℕ) {number : ℕ} → number ≡ callFault t n h want .status → Exact (callRules t n h want) number 0
 unfolding callFault
 call-exact t n h want e = exact-overall (callRules t n h want) (omega arith) refl e
