@@ -110,7 +110,7 @@ pub record RunParts : Type 0 where
   pub apart : (l f k g m : ℕ) → ((b : ℕ) → InRun f k b → InRun g m b → ⊥) → Apart (runPart l f k) (runPart l g m)
   -- a byte is one of the run's exactly if its block is
   pub block : (l first n i : ℕ) → 64 ≤ l → Has (runPart l first n) i ↔ InRun first n (i / blockBytes l)
-  -- in a memory whose length is a multiple of 256 it starts at a multiple of 4, so 34 is given for it with no element size
+  -- in a memory whose length is a multiple of 256 it starts at a multiple of 4, so it is off a boundary for no element size
   pub fours : (l first n : ℕ) → l % 256 ≡ 0 → runPart l first n .start % 4 ≡ 0
   pub boundary : (l first n z : ℕ) → l % 256 ≡ 0 → 1 ≤ z → z ≤ 4 → offBoundary z (runPart l first n) ≡ false
 

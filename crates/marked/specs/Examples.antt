@@ -215,8 +215,8 @@ abbrev pub transfer : ℕ → ℕ → ℕ → Job
 transfer n a b = transferOf 1 n a b
 
 -- (2) in elements of two bytes, from byte a on into byte b on, with parts of k and of l bytes
-abbrev pub lentTransfer : ℕ → ℕ → ℕ → ℕ → Job
-lentTransfer a k b l = record {
+abbrev pub transferIn : ℕ → ℕ → ℕ → ℕ → Job
+transferIn a k b l = record {
   source = record { start = a; length = k };
   destination = record { start = b; length = l };
   tensor = compact 1 2 (one 2);
@@ -346,8 +346,7 @@ oddBlocks = 12297829382473034410
 abbrev pub innerBlocks : ℕ
 innerBlocks = 9223372036854775806
 
--- a table for n bytes that has a job in slot 0, in that state, with so many elements moved; and a transfer of two bytes, from byte 2 into
--- byte 8
+-- a table for n bytes that has a job in slot 0, in that state, with so many elements moved
 abbrev pub holding : Job → ℕ → ℕ → ℕ → Table
 holding j n state moved = withSlot (freshTable n) 0 (record { state = state; job = j; moved = moved })
 
@@ -355,6 +354,7 @@ holding j n state moved = withSlot (freshTable n) 0 (record { state = state; job
 abbrev pub unsound : ℕ → Table
 unsound n = holding zeroJob n 4 0
 
+-- one that has a transfer of two bytes, from byte 2 into byte 8
 abbrev pub busy : ℕ → ℕ → ℕ → Table
 busy n state moved = holding (transfer 2 2 8) n state moved
 
@@ -545,7 +545,7 @@ examples =
     besides shows handed-in (unsound 4) (over 5) (start 0 answers (17 ∷ []) ∷ []) (over 5) ∷
     -- ---- parts on element boundaries, in a memory of 16 bytes
     -- (2) in elements of two bytes, from byte 1 into 8, and from 2 into 7: 34. Against `boundary_of_the_source_alone`. From 2 into 8 it is
-    -- taken, and after a step of one element bytes 3 and 4 are in place
+    -- taken, and after a step of one element bytes 3 and 4 are in place. Against `two_bytes_on_four`
     besides shows transfers (upTo 16)
     (prepare (transferOf 2 2 1 8) answers (34 ∷ 0 ∷ 0 ∷ []) ∷
     prepare (transferOf 2 2 2 7) answers (34 ∷ 0 ∷ 0 ∷ []) ∷
@@ -570,14 +570,14 @@ examples =
     (upTo 8 ++ (2 ∷ 3 ∷ 4 ∷ 5 ∷ 6 ∷ 7 ∷ 15 ∷ 16 ∷ [])) ∷
     -- lengths may be anything: five bytes for two elements of two. Against `boundary_of_the_length`
     besides shows transfers (over 16)
-    (prepare (lentTransfer 0 5 8 5) answers (0 ∷ 0 ∷ 0 ∷ []) ∷
+    (prepare (transferIn 0 5 8 5) answers (0 ∷ 0 ∷ 0 ∷ []) ∷
     [])
     (over 16) ∷
     -- a destination of three bytes, which is too short, and a source from byte 1: 13 comes before 34. Against `boundary_before_the_move`.
     -- From byte 1 into 2, where the parts meet: 34 comes before 21. Against `boundary_after_own_parts`. From 0 into 2: 21. From 3 into a
-    -- part that another has: 34, and from 4: 22
+    -- part that another has: 34, which comes before 22. Against `other_slots_before_the_boundary`. From 4: 22
     besides shows transfers (over 16)
-    (prepare (lentTransfer 1 4 8 3) answers (13 ∷ 0 ∷ 0 ∷ []) ∷
+    (prepare (transferIn 1 4 8 3) answers (13 ∷ 0 ∷ 0 ∷ []) ∷
     prepare (transferOf 2 2 1 2) answers (34 ∷ 0 ∷ 0 ∷ []) ∷
     prepare (transferOf 2 2 0 2) answers (21 ∷ 0 ∷ 0 ∷ []) ∷
     prepare (transferOf 2 2 0 8) answers (0 ∷ 0 ∷ 0 ∷ []) ∷
@@ -585,7 +585,7 @@ examples =
     prepare (transferOf 2 2 4 8) answers (22 ∷ 0 ∷ 0 ∷ []) ∷
     [])
     (over 16) ∷
-    -- by itself, a stretch: 34, and nothing changes
+    -- by itself, a stretch: 34, and nothing changes. Against `advance_off_a_boundary`
     besides shows stretch (transferOf 2 2 1 8) 0 2 (over 16) (record { status = 34; dim = 0; count = 0 }) (over 16) ∷
     -- a table with such a slot, prepared, running or done, is not sound: 18. Against `sound_off_a_boundary`. With the source at byte 2 it
     -- is, and is told

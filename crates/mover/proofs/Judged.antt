@@ -3,7 +3,7 @@
 use Prim.Native.Nat.{ℕ, _+_, _-_, _≤_, _<_, min}
 use native.Mathlib.Omega.{arith}
 use mathlib.Core.Path.{_≡_, sym, ap, ap₂, subst, _∙_}
-use mathlib.Core.Bool.{Bool, true, false, _||_}
+use mathlib.Core.Bool.{Bool, true, false}
 use mathlib.Core.List.{List}
 use lib.ListN.{length, drop, length-drop}
 use lib.Seq.{sets, length-take-le}
@@ -27,7 +27,7 @@ use Rattle.mover.specs.declared.Job.{Job}
 use Rattle.mover.specs.declared.plan.Plan.{Plan}
 use Rattle.mover.specs.declared.elements.Origin.the-variants.{Lent}
 use Rattle.mover.specs.Moved.{total, moveMemory}
-use Rattle.mover.specs.Within.{leaves, offBoundary, meets, jobRules, jobFault, totalOf, verdictOf, advancedBy, further, advanceOf, advanceMemory}
+use Rattle.mover.specs.Within.{leaves, offBoundary, offBoundaries, meets, jobRules, jobFault, totalOf, verdictOf, advancedBy, further, advanceOf, advanceMemory}
 use Rattle.mover.specs.Private.Plans.{planOf}
 use Rattle.mover.specs.Private.Elements.{planTotal, movedBy}
 use Rattle.mover.specs.Private.Ready.{Ready}
@@ -98,7 +98,7 @@ module _ (n : ℕ) (j : Job) where
       refuses (j .tensor) (j .config) e (λ z. omega arith) (given 20 0 _ _ (omega arith) (either-second (leaves n (j .source)) (leaves n (j .destination)) h))
 
   module _ (p : leaves n (j .source) ≡ false) (q : leaves n (j .destination) ≡ false) where
-    stays : jobFault n j ≡ (moveFault (j .tensor) (j .config) (j .source .length) (j .destination .length) orElse when 34 0 (off (j .source) || off (j .destination)) orElse when 21 0 (meets (j .source) (j .destination)))
+    stays : jobFault n j ≡ (moveFault (j .tensor) (j .config) (j .source .length) (j .destination .length) orElse when 34 0 (offBoundaries j) orElse when 21 0 (meets (j .source) (j .destination)))
     unfolding jobFault moveFault
     stays = spared 20 0 _ _ (neither (leaves n (j .source)) (leaves n (j .destination)) p q)
 
@@ -113,7 +113,7 @@ module _ (n : ℕ) (j : Job) where
           e ∙ ap (λ (f : Fault). answerOf f (j .tensor) (j .config)) (sym (stays ∙ or-found _ _ (λ z. h (its-status ∙ z))))
 
       module _ (z : a .status ≡ 0) where
-        passes : jobFault n j ≡ (when 34 0 (off (j .source) || off (j .destination)) orElse when 21 0 (meets (j .source) (j .destination)))
+        passes : jobFault n j ≡ (when 34 0 (offBoundaries j) orElse when 21 0 (meets (j .source) (j .destination)))
         passes = stays ∙ or-none _ _ (sym its-status ∙ z)
 
         -- the element size is none that a start can't be divided by

@@ -91,7 +91,7 @@ EmptyLeaves = (n : ℕ) (p : Part) → p .length ≡ 0 → leaves n p ≡ ltb n 
 
 -- ---- Element boundaries
 
--- byte k of a memory is a multiple of the element size z, which is not 3
+-- byte k of a memory is a multiple of the element size z; where z is 3 nothing is said
 abbrev pub Boundary : ℕ → ℕ → Type 0
 Boundary z k = (z ≡ 3 → ⊥) → k % z ≡ 0
 

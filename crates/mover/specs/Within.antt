@@ -23,6 +23,10 @@ leaves n p = ltb n (p .start) || ltb (n - p .start) (p .length)
 abbrev pub offBoundary : ℕ → Part → Bool
 offBoundary z p = not (eqb z 3) && not (eqb (p .start % z) 0)
 
+-- .. of a job: its source part does not, or its destination part
+abbrev pub offBoundaries : Job → Bool
+offBoundaries j = let z = j .tensor .«element_size» in offBoundary z (j .source) || offBoundary z (j .destination)
+
 -- two parts share a byte: the later start lies before the earlier end
 abbrev pub meets : Part → Part → Bool
 meets p q = ltb (max (p .start) (q .start)) (min (p .start + p .length) (q .start + q .length))
@@ -32,7 +36,7 @@ abbrev pub jobRules : ℕ → Job → Rules
 jobRules n j =
     overall 20 (leaves n (j .source) || leaves n (j .destination)) then
     moveRules (j .tensor) (j .config) (j .source .length) (j .destination .length) then
-    overall 34 (offBoundary (j .tensor .«element_size») (j .source) || offBoundary (j .tensor .«element_size») (j .destination)) then
+    overall 34 (offBoundaries j) then
     overall 21 (meets (j .source) (j .destination))
 
 unfoldable pub jobFault : ℕ → Job → Fault

@@ -10,7 +10,7 @@ use crate::tensor::check_element_size;
 use crate::transfers::{sound, Table, FREE};
 use crate::wire::begin;
 
-/// The element sizes of which not every byte is a multiple, but for 3: "3-byte elements may start anywhere".
+/// The element sizes that 34 looks at: every byte is a multiple of 1, and "3-byte elements may start anywhere".
 pub const HELD: [u8; 2] = [2, 4];
 
 /// Some of the numbers before 34 that a job of few elements can be given.
@@ -142,8 +142,9 @@ fn of_far_starts(length: u64, job: &Job, status: u8) -> Vec<Case> {
 fn of_prepare(table: &Table, job: &Job, status: u8) -> Vec<Case> {
     let meets_another = table.slot.iter().any(|slot| slot.state != FREE && break_rule(job, &slot.job));
     let alone = meets_another && !meets(&job.source, &job.destination);
-    let is_34 = judge_job(table.length, job).status == 34;
-    let mut all: Vec<Case> = [17, 18, 19].map(|before| (status == before && is_34, format!("{before} and 34"))).into();
+    let just_34 = judge_job(table.length, job).status == 34;
+    let mut all: Vec<Case> =
+        [17, 18, 19].map(|before| (status == before && just_34, format!("{before} and 34"))).into();
     all.push(case(status == 34 && alone, "34 and 22"));
     all
 }

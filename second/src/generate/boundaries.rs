@@ -1,6 +1,6 @@
 //! Jobs and tables whose parts start on a boundary of their elements, or off it.
 
-use super::broken::{call_one, in_any_state, TABLE_CALLS};
+use super::broken::{call_all, call_one, in_any_state, TABLE_CALLS};
 use super::jobs::{advance_job, prepare_job};
 use super::planes::{few, good, Drawn, Scale};
 use super::spoil::{spoil, Lent};
@@ -119,17 +119,13 @@ pub fn table(work: &mut Work) {
     let slot = in_any_state(&mut work.random, job, total);
     let (table, handle) = with_slot(&mut work.random, length, slot);
     let memory = work.random.bytes(table.length as usize);
-    for number in TABLE_CALLS {
-        if work.random.chance(50) {
-            call_one(work, number, &table, &job, handle, &memory);
-        }
-    }
+    call_all(work, &table, &job, handle, &memory);
 }
 
 /// How many elements a job has, wherever its parts start.
 fn elements_of(job: &Job, length: u64) -> u64 {
     let tensor = Tensor { element_size: 1, ..job.tensor };
-    judge_job(length, &Job { tensor, ..*job }).total.max(1)
+    judge_job(length, &Job { tensor, ..*job }).total
 }
 
 /// A table with one transfer, in any of its slots. Its memory is long enough to have blocks.
@@ -246,7 +242,7 @@ pub fn every_far_start(work: &mut Work) {
         for base in [1 << 32, 1 << 63, u64::MAX - 99] {
             for past in [(0, 0), (1, 0), (0, 1), (2, 2)] {
                 let (job, _) = lay_out_past(&mut work.random, &three(element_size), past);
-                let after = |part: Part| Part { start: part.start + base - base % 4, ..part };
+                let after = |part: Part| Part { start: part.start + base, ..part };
                 let mut job = Job { source: after(job.source), destination: after(job.destination), ..job };
                 let last =
                     if job.source.start < job.destination.start { &mut job.destination } else { &mut job.source };

@@ -122,7 +122,7 @@ fn move_part(random: &mut Random, table: &mut Table, one: usize) {
 }
 
 /// A part off a boundary, or both.
-pub fn put_off(random: &mut Random, job: &mut Job) {
+fn put_off(random: &mut Random, job: &mut Job) {
     let size = job.tensor.element_size;
     let (source, destination) = random.pick(&[(true, false), (false, true), (true, true)]);
     if source {

@@ -3,20 +3,23 @@
 use crate::cases::boundaries::HELD;
 use crate::random::Random;
 
-/// The first boundary from this byte on, where 64 bits have one. Elements of other sizes may start at the byte itself.
-pub fn boundary_from(start: u64, element_size: u8) -> u64 {
-    if !HELD.contains(&element_size) {
-        return start;
+/// How far boundaries are apart. Elements of sizes that are not held to them may start at any byte.
+fn apart(element_size: u8) -> u64 {
+    if HELD.contains(&element_size) {
+        element_size as u64
+    } else {
+        1
     }
-    start.checked_next_multiple_of(element_size as u64).unwrap_or(start)
+}
+
+/// The first boundary from this byte on, where 64 bits have one.
+pub fn boundary_from(start: u64, element_size: u8) -> u64 {
+    start.checked_next_multiple_of(apart(element_size)).unwrap_or(start)
 }
 
 /// The last boundary up to this byte.
-pub fn boundary_up_to(start: u64, element_size: u8) -> u64 {
-    if !HELD.contains(&element_size) {
-        return start;
-    }
-    start - start % element_size as u64
+fn boundary_up_to(start: u64, element_size: u8) -> u64 {
+    start - start % apart(element_size)
 }
 
 /// Mostly the boundary before or behind this byte, else the byte itself.

@@ -1,8 +1,8 @@
 -- `mover::within::answer` answers a job by the first rule that refuses it, else as its move does. Assumes nothing.
+use Prim.Native.Nat.{_<_}
 use mathlib.Core.Path.{_≡_, sym, _∙_}
 use mathlib.Core.Bool.{false}
 use borrow.Author.Needs.{needs}
-use Prim.Native.Nat.{_<_}
 use Rattle.mover.specs.Within.{leaves, offBoundary}
 use Rattle.mover.proofs.Judged.{source-leaves, destination-leaves, move-refused, some-size, source-off, destination-off, parts-meet, job-given}
 use Rattle.mover.proofs.within.answer.Statement.{statement}
