@@ -5,12 +5,10 @@ use native.Mathlib.Nat.{add-mul, mul-assoc, mul-le-mul, mul-mod-left, mod-one, l
 use native.Mathlib.Decide.{ℕ-discrete, decLt}
 use native.Mathlib.Omega.{arith}
 use mathlib.Core.Path.{_≡_, sym, ap, _∙_}
-use mathlib.Core.Bool.{false, not}
-use borrow.Author.Tests.{eq-eqb}
-use lib.Dec.{eqb}
-use Rattle.faults.proofs.Bools.{not-second}
+use mathlib.Core.Bool.{false}
 use Rattle.parts.specs.Parts.{Has, Apart}
 use Rattle.mover.specs.Within.{offBoundary}
+use Rattle.mover.proofs.Boundaries.{not-off}
 use Rattle.keeper.specs.Calls.{blockBytes, runPart}
 use Rattle.keeper.specs.Claims.{InRun, RunParts}
 
@@ -66,11 +64,7 @@ every-size s z e l m h = elim (ℕ-discrete z 1) [
 ]
 
 boundary : (l first n z : ℕ) → l % 256 ≡ 0 → 1 ≤ z → z ≤ 4 → offBoundary z (runPart l first n) ≡ false
-boundary l first n z e p q = elim (ℕ-discrete z 3) [
-  | yes h ↦ simp (eq-eqb z 3 h)
-  | no h ↦ let s = runPart l first n .start in
-      not-second (not (eqb z 3)) _ (ap not (eq-eqb (s % z) 0 (every-size s z (fours l first n e) p q h)))
-]
+boundary l first n z e p q = not-off z (runPart l first n) (every-size (runPart l first n .start) z (fours l first n e) p q)
 
 pub run-parts : RunParts
 run-parts = record {

@@ -1,24 +1,49 @@
--- Every element of a job that passes stands on a boundary of its size: the parts start on one, and all places count elements. Assumes
--- nothing.
-use Prim.Native.Nat.{ℕ, _+_, _*_, _%_}
+-- Every element of a job that passes stands on a boundary of its size: the parts start on one, and all places count elements. Of a job
+-- that 34 refuses, one does not. Assumes nothing.
+use Prim.Native.Nat.{ℕ, _+_, _*_, _%_, _<_}
 use native.Mathlib.Nat.{add-mul-mod-self-right}
+use native.Mathlib.Decide.{ℕ-discrete}
 use native.Mathlib.Omega.{arith}
-use mathlib.Core.Path.{_≡_, ap, _∙_}
-use mathlib.Core.Bool.{false, not, _&&_}
-use borrow.Author.Tests.{eqb-true, ne-eqb, not-false}
+use mathlib.Core.Path.{_≡_, refl, sym, ap, _∙_}
+use mathlib.Core.Logic.{inl, inr}
+use mathlib.Core.Bool.{true, false, not, _&&_, _||_, true≢false}
+use borrow.Author.Tests.{eqb-true, eq-eqb, ne-eqb, not-false}
 use lib.Dec.{eqb}
-use Rattle.faults.proofs.Bools.{either-clear}
-use Rattle.faults.proofs.Chains.{unbroken}
+use Rattle.faults.specs.Faults.{overall}
+use Rattle.faults.specs.Exactness.{Given}
+use Rattle.faults.proofs.Bools.{either-clear, neither, not-second}
+use Rattle.faults.proofs.Chains.{unbroken, unbroken-accepts, exact-fault, never-given}
+use Rattle.plane.specs.Arrays.{at}
+use Rattle.plane.specs.Good.{GoodMove}
+use Rattle.plane.specs.Moves.{moveRules, moveFault}
 use Rattle.plane.specs.Helpers.{subByte}
+use Rattle.plane.proofs.Good.{move-good}
+use Rattle.plane.proofs.Rules.{count-positive}
 use Rattle.parts.specs.declared.Part.{Part}
-use Rattle.mover.specs.Within.{offBoundary, jobRules, jobFault}
-use Rattle.mover.specs.Claims.{Boundary, JobOnBoundaries, SubOnBoundary}
+use Rattle.mover.specs.declared.Job.{Job}
+use Rattle.mover.specs.Element.{dimOf}
+use Rattle.mover.specs.Within.{leaves, offBoundary, offBoundaries, meets, jobRules, jobFault}
+use Rattle.mover.specs.Demand2.{IsCoordinate, KeptAt}
+use Rattle.mover.specs.Claims.{Boundary, OnBoundaries, JobOnBoundaries, JobOffBoundaries, SubOnBoundary}
+use Rattle.mover.proofs.Making.{extent-is}
 
--- the part's start, and every element from there on
+-- ---- a part, and what stands k elements behind its start
+
 on-boundary : (z : ℕ) (p : Part) → offBoundary z p ≡ false → (k : ℕ) → Boundary z (p .start + k * z)
 on-boundary z p e k h =
     let w : not (eqb (p .start % z) 0) ≡ false = rw (ne-eqb z 3 h) at e in
     add-mul-mod-self-right (p .start) k z ∙ eqb-true (p .start % z) 0 (not-false (eqb (p .start % z) 0) w)
+
+pub not-off : (z : ℕ) (p : Part) → Boundary z (p .start) → offBoundary z p ≡ false
+not-off z p b = elim (ℕ-discrete z 3) [
+  | yes h ↦ simp (eq-eqb z 3 h)
+  | no h ↦ not-second (not (eqb z 3)) _ (ap not (eq-eqb (p .start % z) 0 (b h)))
+]
+
+behind-not-off : (z : ℕ) (p : Part) (k : ℕ) → Boundary z (p .start + k * z) → offBoundary z p ≡ false
+behind-not-off z p k b = not-off z p (λ h. sym (add-mul-mod-self-right (p .start) k z) ∙ b h)
+
+-- ---- a job that passes
 
 pub job-on-boundaries : JobOnBoundaries
 unfolding jobFault
@@ -29,6 +54,42 @@ job-on-boundaries n j z =
       destination = λ x k. on-boundary s (j .destination) (w .1) _;
       source = λ x k kept. on-boundary s (j .source) (w .0) _;
     }
+
+-- ---- a job that 34 refuses
+
+module _ (n : ℕ) (j : Job) where
+  -- the move between its parts is accepted, and a part is off
+  given-34 : (d : ℕ) → Given (jobRules n j) 34 d → GoodMove (j .tensor) (j .config) (j .source .length) (j .destination .length) × (offBoundaries j ≡ true)
+  unfolding moveFault
+  given-34 d (inl g) = absurd (never-given (overall 20 (leaves n (j .source) || leaves n (j .destination))) 34 d refl g)
+  given-34 d (inr (u, inl g)) = absurd (never-given (moveRules (j .tensor) (j .config) (j .source .length) (j .destination .length)) 34 d refl g)
+  given-34 d (inr (u, inr (v, inl g))) = (move-good (j .tensor) (j .config) (j .source .length) (j .destination .length) (unbroken-accepts (moveRules _ _ _ _) v), g .1)
+  given-34 d (inr (u, inr (v, inr g))) = absurd (never-given (overall 21 (meets (j .source) (j .destination))) 34 d refl (g .1))
+
+module _ (j : Job) (g : GoodMove (j .tensor) (j .config) (j .source .length) (j .destination .length)) where
+  -- the first element that is kept
+  abbrev first : ℕ → ℕ
+  first i = at (j .config .pre) (dimOf (j .config) i)
+
+  first-kept : (i : ℕ) → i < j .tensor .rank → KeptAt (j .tensor) (j .config) first i
+  first-kept i h = (omega arith, omega (arith, count-positive (g .config) (dimOf (j .config) i) (g .config .perm i h)))
+
+  first-is : IsCoordinate (j .tensor) (j .config) first
+  first-is i h = omega (arith, extent-is (j .config) (g .source) i h, count-positive (g .config) (dimOf (j .config) i) (g .config .perm i h))
+
+  not-off-boundaries : OnBoundaries j → offBoundaries j ≡ false
+  not-off-boundaries on =
+      neither _ _
+      (behind-not-off (j .tensor .«element_size») (j .source) _ (on .source first first-is first-kept))
+      (behind-not-off (j .tensor .«element_size») (j .destination) _ (on .destination first first-is))
+
+pub job-off-boundaries : JobOffBoundaries
+unfolding jobFault
+job-off-boundaries n j e on =
+    let w = given-34 n j _ (exact-fault (jobRules n j) (omega arith) .gives 34 _ (omega arith) .0 (e, refl)) in
+    true≢false (sym (w .1) ∙ not-off-boundaries j (w .0) on)
+
+-- ---- a sub-tensor
 
 pub sub-on-boundary : SubOnBoundary
 unfolding subByte

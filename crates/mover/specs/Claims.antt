@@ -107,6 +107,10 @@ pub record OnBoundaries (j : Job) : Type 0 where
 abbrev pub JobOnBoundaries : Type 0
 JobOnBoundaries = (n : ℕ) (j : Job) → jobFault n j .status ≡ 0 → OnBoundaries j
 
+-- and of none that 34 refuses
+abbrev pub JobOffBoundaries : Type 0
+JobOffBoundaries = (n : ℕ) (j : Job) → jobFault n j .status ≡ 34 → OnBoundaries j → ⊥
+
 -- a part that starts at a sub-tensor of a plane is off a boundary just if the plane's own part is
 abbrev pub SubOnBoundary : Type 0
 SubOnBoundary =
