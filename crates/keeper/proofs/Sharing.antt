@@ -10,16 +10,16 @@ use mathlib.Core.List.{List, [], _∷_}
 use borrow.Author.Tests.{eq-eqb, ne-eqb, eqb-true, le-ltb, not-false}
 use lib.Dec.{eqb}
 use lib.ListN.{length}
-use Rattle.faults.specs.Faults.{overall, _then_}
+use Rattle.faults.specs.Faults.{overall}
 use Rattle.faults.specs.Exactness.{Given, Unbroken}
 use Rattle.faults.proofs.Bools.{neither}
 use Rattle.faults.proofs.Chains.{never-given}
 use Rattle.parts.specs.declared.Part.{Part}
 use Rattle.parts.specs.Parts.{Has}
 use Rattle.plane.proofs.Arrays.{some-none}
-use Rattle.plane.specs.Moves.{moveRules}
 use Rattle.mover.specs.declared.Job.{Job}
-use Rattle.mover.specs.Within.{leaves, offBoundaries, meets, jobRules}
+use Rattle.mover.specs.Within.{leaves, meets, jobRules}
+use Rattle.mover.proofs.Exact.{given-20}
 use Rattle.mover.proofs.Meeting.{meets-shared, leaves-end}
 use Rattle.transfers.specs.declared.Table.{Table}
 use Rattle.transfers.specs.Slots.{slotAt, breaks, clashes, tableSound, lowestFree}
@@ -179,8 +179,7 @@ module _
     never-20 : Given (prepareRules t n j) 20 d → ⊥
     never-20 (inl g) = never-given (openRules t n) 20 d refl g
     never-20 (inr (u, inl g)) = never-given (overall 19 (eqb (lowestFree t) 4)) 20 d refl g
-    never-20 (inr (u, inr (v, inl (inl g)))) = true≢false (sym (g .1) ∙ fits (long u))
-    never-20 (inr (u, inr (v, inl (inr g)))) = never-given (moveRules (j .tensor) (j .config) (j .source .length) (j .destination .length) then overall 34 (offBoundaries j) then overall 21 (meets (j .source) (j .destination))) 20 d refl (g .1)
+    never-20 (inr (u, inr (v, inl g))) = true≢false (sym (given-20 n j d g) ∙ fits (long u))
     never-20 (inr (u, inr (v, inr g))) = never-given (overall 22 (clashes t j 4)) 20 d refl (g .1)
 
     never-22 : Given (prepareRules t n j) 22 d → ⊥

@@ -5,26 +5,22 @@ use native.Mathlib.Nat.{add-mul-mod-self-right}
 use native.Mathlib.Decide.{ℕ-discrete}
 use native.Mathlib.Omega.{arith}
 use mathlib.Core.Path.{_≡_, refl, sym, ap, _∙_}
-use mathlib.Core.Logic.{inl, inr}
-use mathlib.Core.Bool.{true, false, not, _&&_, _||_, true≢false}
+use mathlib.Core.Bool.{false, not, _&&_, true≢false}
 use borrow.Author.Tests.{eqb-true, eq-eqb, ne-eqb, not-false}
 use lib.Dec.{eqb}
-use Rattle.faults.specs.Faults.{overall}
-use Rattle.faults.specs.Exactness.{Given}
 use Rattle.faults.proofs.Bools.{either-clear, neither, not-second}
-use Rattle.faults.proofs.Chains.{unbroken, unbroken-accepts, exact-fault, never-given}
+use Rattle.faults.proofs.Chains.{unbroken, exact-fault}
 use Rattle.plane.specs.Arrays.{at}
 use Rattle.plane.specs.Good.{GoodMove}
-use Rattle.plane.specs.Moves.{moveRules, moveFault}
 use Rattle.plane.specs.Helpers.{subByte}
-use Rattle.plane.proofs.Good.{move-good}
 use Rattle.plane.proofs.Rules.{count-positive}
 use Rattle.parts.specs.declared.Part.{Part}
 use Rattle.mover.specs.declared.Job.{Job}
 use Rattle.mover.specs.Element.{dimOf}
-use Rattle.mover.specs.Within.{leaves, offBoundary, offBoundaries, meets, jobRules, jobFault}
+use Rattle.mover.specs.Within.{offBoundary, offBoundaries, jobRules, jobFault}
 use Rattle.mover.specs.Demand2.{IsCoordinate, KeptAt}
 use Rattle.mover.specs.Claims.{Boundary, OnBoundaries, JobOnBoundaries, JobOffBoundaries, SubOnBoundary}
+use Rattle.mover.proofs.Exact.{given-34}
 use Rattle.mover.proofs.Making.{extent-is}
 
 -- ---- a part, and what stands k elements behind its start
@@ -56,15 +52,6 @@ job-on-boundaries n j z =
     }
 
 -- ---- a job that 34 refuses
-
-module _ (n : ℕ) (j : Job) where
-  -- the move between its parts is accepted, and a part is off
-  given-34 : (d : ℕ) → Given (jobRules n j) 34 d → GoodMove (j .tensor) (j .config) (j .source .length) (j .destination .length) × (offBoundaries j ≡ true)
-  unfolding moveFault
-  given-34 d (inl g) = absurd (never-given (overall 20 (leaves n (j .source) || leaves n (j .destination))) 34 d refl g)
-  given-34 d (inr (u, inl g)) = absurd (never-given (moveRules (j .tensor) (j .config) (j .source .length) (j .destination .length)) 34 d refl g)
-  given-34 d (inr (u, inr (v, inl g))) = (move-good (j .tensor) (j .config) (j .source .length) (j .destination .length) (unbroken-accepts (moveRules _ _ _ _) v), g .1)
-  given-34 d (inr (u, inr (v, inr g))) = absurd (never-given (overall 21 (meets (j .source) (j .destination))) 34 d refl (g .1))
 
 module _ (j : Job) (g : GoodMove (j .tensor) (j .config) (j .source .length) (j .destination .length)) where
   -- the first element that is kept
