@@ -545,7 +545,7 @@ examples =
     besides shows handed-in (unsound 4) (over 5) (start 0 answers (17 ∷ []) ∷ []) (over 5) ∷
     -- ---- parts on element boundaries, in a memory of 16 bytes
     -- (2) in elements of two bytes, from byte 1 into 8, and from 2 into 7: 34. Against `boundary_of_the_source_alone`. From 2 into 8 it is
-    -- taken, and after a step of one element bytes 3 and 4 are in place. Against `two_bytes_on_four`
+    -- taken, and after a step of one element its two bytes, 3 4, are in place. Against `two_bytes_on_four`
     besides shows transfers (upTo 16)
     (prepare (transferOf 2 2 1 8) answers (34 ∷ 0 ∷ 0 ∷ []) ∷
     prepare (transferOf 2 2 2 7) answers (34 ∷ 0 ∷ 0 ∷ []) ∷
@@ -588,7 +588,7 @@ examples =
     -- by itself, a stretch: 34, and nothing changes. Against `advance_off_a_boundary`
     besides shows stretch (transferOf 2 2 1 8) 0 2 (over 16) (record { status = 34; dim = 0; count = 0 }) (over 16) ∷
     -- a table with such a slot, prepared, running or done, is not sound: 18. Against `sound_off_a_boundary`. With the source at byte 2 it
-    -- is, and is told
+    -- is sound, and a poll tells of the transfer
     besides shows handed-in (holding (transferOf 2 2 1 8) 16 1 0) (over 16) (start 0 answers (18 ∷ []) ∷ []) (over 16) ∷
     besides shows handed-in (holding (transferOf 2 2 1 8) 16 2 1) (over 16) (step 0 1 answers (18 ∷ 0 ∷ []) ∷ []) (over 16) ∷
     besides shows handed-in (holding (transferOf 2 2 1 8) 16 3 2) (over 16) (release 0 answers (18 ∷ []) ∷ []) (over 16) ∷

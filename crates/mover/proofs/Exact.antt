@@ -40,6 +40,7 @@ advance-unchanged j from budget m h = if-fault (jobFault (length m) j) m (advanc
 -- ---- what single numbers of a job tell
 
 module _ (n : ℕ) (j : Job) (d : ℕ) where
+  -- a part leaves the memory
   pub given-20 : Given (jobRules n j) 20 d → (leaves n (j .source) || leaves n (j .destination)) ≡ true
   given-20 (inl g) = g .1
   given-20 (inr g) =

@@ -116,7 +116,7 @@ module _ (n : ℕ) (j : Job) where
         passes : jobFault n j ≡ (when 34 0 (offBoundaries j) orElse when 21 0 (meets (j .source) (j .destination)))
         passes = stays ∙ or-none _ _ (sym its-status ∙ z)
 
-        -- the element size is none that a start can't be divided by
+        -- the element size is not 0, so a start can be divided by it
         pub some-size : 0 < j .tensor .«element_size»
         some-size =
             element-small (j .tensor .«element_size») (judged-move (j .tensor) (j .config) (j .source .length) (j .destination .length) e z .source .element) .0
