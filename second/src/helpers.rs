@@ -1,7 +1,8 @@
 //! The helpers: element size, element count, sub-tensor.
 
 use crate::tensor::{
-    check_rank, check_shapes, check_tensor, narrow, refuse, refuse_lowest, span, Fault, Tensor, ELEMENT_SIZES,
+    above_lowest, check_rank, check_shapes, check_tensor, refuse, refuse_lowest, span, with_signs, Fault, Tensor,
+    ELEMENT_SIZES,
 };
 use crate::wire::wire_struct;
 
@@ -88,17 +89,32 @@ fn point(tensor: &Tensor, config: &SubConfig, source: u64) -> Result<(Tensor, u6
     if units < rank - config.rank as usize {
         return refuse(15, 0);
     }
-    let mut byte = 0;
-    for d in 0..rank {
-        byte += config.offset[d] as u64 * resolved[d] * tensor.element_size as u64;
+    let stride = with_signs(tensor, &resolved);
+    let byte = lowest_element(tensor, config, &stride) * tensor.element_size as u64;
+    Ok((without_units(tensor, config, &stride.map(narrow)), byte))
+}
+
+/// "A sub-tensor starts at its own lowest element": in each dimension at its first coordinate or at its last, whichever
+/// lies lower.
+fn lowest_element(tensor: &Tensor, config: &SubConfig, stride: &[i64; 4]) -> u64 {
+    let mut place = 0;
+    for d in 0..tensor.rank as usize {
+        let at = |x: u64| above_lowest(tensor.shape[d] as u64, stride[d], x);
+        let (first, count) = (config.offset[d] as u64, config.size[d] as u64);
+        place += at(first).min(at(first + count - 1));
     }
-    Ok((without_units(tensor, config, &narrow(&resolved)), byte))
+    place
+}
+
+/// For a resolved stride, which its limit keeps within 32 bits.
+fn narrow(stride: i64) -> i32 {
+    i32::try_from(stride).expect("a limit keeps this within 32 bits")
 }
 
 /// "Output shape is the sizes; output strides are the resolved input strides; unit dimensions, with their strides, are
-/// removed from the first on until the rank is reached; entries past it are 0."
-fn without_units(tensor: &Tensor, config: &SubConfig, resolved: &[u32; 4]) -> Tensor {
-    let mut left: Vec<(u32, u32)> = Vec::new();
+/// removed from the first on until the rank is reached; entries past it are 0." "A sub-tensor ... keeps the signs."
+fn without_units(tensor: &Tensor, config: &SubConfig, resolved: &[i32; 4]) -> Tensor {
+    let mut left: Vec<(u32, i32)> = Vec::new();
     for d in 0..tensor.rank as usize {
         left.push((config.size[d], resolved[d]));
     }

@@ -1,6 +1,9 @@
 //! The move: what the paper says under "The move", and the order of its numbers ("Move: 1 to 13").
 
-use crate::tensor::{check_tensor, narrow, refuse, refuse_lowest, resolve_strides, span, Fault, Tensor, EXTENT_LIMIT};
+use crate::tensor::{
+    above_lowest, check_tensor, narrow, refuse, refuse_lowest, resolve_strides, span, wide, with_signs, Fault, Tensor,
+    EXTENT_LIMIT,
+};
 use crate::wire::wire_struct;
 
 wire_struct! {
@@ -34,7 +37,9 @@ wire_struct! {
 pub struct Plan {
     pub rank: usize,
     pub element_size: usize,
-    pub source_stride: [u64; 4],
+    /// Shapes and resolved strides of the source; those that count down are negative.
+    pub shape: [u64; 4],
+    pub source_stride: [i64; 4],
     pub span: u64,
     /// Kept counts, by source dimension.
     pub count: [u64; 4],
@@ -49,9 +54,9 @@ pub type Lengths = Option<(u64, u64)>;
 
 /// The numbers 1 to 13 in their order; without lengths, neither 5 nor 13.
 pub fn plan(tensor: &Tensor, config: &Config, lengths: Lengths) -> Result<Plan, Fault> {
-    let source_stride = check_tensor(tensor)?;
+    let resolved = check_tensor(tensor)?;
     let rank = tensor.rank as usize;
-    let span = span(tensor, &source_stride);
+    let (shape, source_stride, span) = (wide(&tensor.shape), with_signs(tensor, &resolved), span(tensor, &resolved));
     // 5: "source shorter than the span"
     if lengths.is_some_and(|(source, _)| source < span) {
         return refuse(5, 0);
@@ -69,7 +74,7 @@ pub fn plan(tensor: &Tensor, config: &Config, lengths: Lengths) -> Result<Plan, 
     if lengths.is_some_and(|(_, destination)| destination < need) {
         return refuse(13, 0);
     }
-    Ok(Plan { rank, element_size, source_stride, span, count, extent, stride, need })
+    Ok(Plan { rank, element_size, shape, source_stride, span, count, extent, stride, need })
 }
 
 /// 6: "permutation entry at or above the rank, or equal to an earlier one", the destination dimension being named.
@@ -206,7 +211,8 @@ pub fn coordinates(plan: &Plan) -> Vec<[u64; 4]> {
 
 /// "At destination coordinate c, source dimension s = perm[i] has k = c[i] - pre[s]. If every k is from 0 to
 /// count-1, the element is the source's at offset + k x step in each dimension"; else it is padding, and "demands 2 and
-/// 3 read fill for zero". The element's number in the source, or nothing for padding.
+/// 3 read fill for zero". The element's place in the source, counted from its lowest one, or nothing for padding. Where
+/// a dimension counts down, it does so from the end of the whole shape.
 pub fn source_place(plan: &Plan, config: &Config, c: &[u64; 4]) -> Option<u64> {
     let mut place = 0;
     for i in 0..plan.rank {
@@ -216,7 +222,7 @@ pub fn source_place(plan: &Plan, config: &Config, c: &[u64; 4]) -> Option<u64> {
             return None;
         }
         let coordinate = config.offset[s] as u64 + k as u64 * config.step[s] as u64;
-        place += coordinate * plan.source_stride[s];
+        place += above_lowest(plan.shape[s], plan.source_stride[s], coordinate);
     }
     Some(place)
 }

@@ -24,8 +24,9 @@ struct Descent<'a> {
 struct Spot {
     /// Whether every k so far is from 0 to count-1.
     is_kept: bool,
-    /// The place in the source, in elements, as far as it is kept.
-    from: u64,
+    /// The place in the source, in elements, as far as it is kept. A dimension without a choice yet stands at its
+    /// coordinate 0.
+    from: i64,
     /// The place in the destination, in elements.
     to: u64,
 }
@@ -58,7 +59,7 @@ impl Descent<'_> {
         match c.checked_sub(config.pre[s] as u64) {
             // "the element is the source's at offset + k x step in each dimension", if every other k is kept too
             Some(k) if k < plan.count[s] => {
-                let coordinate = config.offset[s] as u64 + k * config.step[s] as u64;
+                let coordinate = (config.offset[s] as u64 + k * config.step[s] as u64) as i64;
                 Spot { is_kept: spot.is_kept, from: spot.from + coordinate * plan.source_stride[s], to }
             }
             // All that lies farther in is padding, and no place of the source is worked out for it.
@@ -85,11 +86,18 @@ impl Descent<'_> {
     }
 }
 
+/// Where the element at coordinate 0 in every dimension lies, "the lowest element that the tensor touches" being at
+/// byte 0: a dimension that counts down has all its others below this one.
+fn first_place(plan: &Plan) -> i64 {
+    let below = |s: usize| (plan.shape[s] as i64 - 1) * plan.source_stride[s].min(0);
+    -(0..plan.rank).map(below).sum::<i64>()
+}
+
 /// Moves the elements from number `from` on, `budget` of them or what is left, and tells how many. No coordinate is
-/// chosen at the start: nothing is padding yet, and both places are 0.
+/// chosen at the start: nothing is padding yet.
 fn go_through(plan: &Plan, config: &Config, source: &[u8], destination: &mut [u8], from: u64, budget: u64) -> u64 {
     let mut descent = Descent { plan, config, source, destination, before: from, budget, moved: 0 };
-    descent.go_down(plan.rank, Spot { is_kept: true, from: 0, to: 0 });
+    descent.go_down(plan.rank, Spot { is_kept: true, from: first_place(plan), to: 0 });
     descent.moved
 }
 

@@ -154,7 +154,7 @@ pub fn has_unused_byte(fill: u32, element_size: u8) -> bool {
 pub fn has_entry(tensor: &Tensor, config: &Config, d: usize) -> bool {
     let wide = [
         tensor.shape[d],
-        tensor.stride[d],
+        stride_to_word(tensor.stride[d]),
         config.offset[d],
         config.size[d],
         config.step[d],
@@ -171,7 +171,7 @@ pub fn unpack(bytes: &[u8]) -> (Tensor, Config) {
         rank: bytes[at::RANK],
         element_size: bytes[at::ELEMENT_SIZE],
         shape: numbers(bytes, at::SHAPE),
-        stride: numbers(bytes, at::STRIDE),
+        stride: numbers(bytes, at::STRIDE).map(word_to_stride),
     };
     let config = Config {
         offset: numbers(bytes, at::OFFSET),
@@ -209,7 +209,7 @@ pub fn pack_as(version: u16, tensor: &Tensor, config: &Config) -> Vec<u8> {
     bytes[at::RANK] = tensor.rank;
     bytes[at::ELEMENT_SIZE] = tensor.element_size;
     put_numbers(&mut bytes, at::SHAPE, &tensor.shape);
-    put_numbers(&mut bytes, at::STRIDE, &tensor.stride);
+    put_numbers(&mut bytes, at::STRIDE, &tensor.stride.map(stride_to_word));
     put_numbers(&mut bytes, at::OFFSET, &config.offset);
     put_numbers(&mut bytes, at::SIZE, &config.size);
     put_numbers(&mut bytes, at::STEP, &config.step);
@@ -222,6 +222,17 @@ pub fn pack_as(version: u16, tensor: &Tensor, config: &Config) -> Vec<u8> {
         put(&mut bytes, at::FILL, &config.fill.to_le_bytes());
     }
     bytes
+}
+
+/// "the bytes of the record stay, and words that 4 refused now mean negative strides": a word of 2^31 and above is the
+/// number 2^32 below it, in two's complement.
+fn word_to_stride(word: u32) -> i32 {
+    word as i32
+}
+
+/// The word that reads as this stride.
+fn stride_to_word(stride: i32) -> u32 {
+    stride as u32
 }
 
 /// Four 32-bit numbers, little endian, entry 0 first.

@@ -3,9 +3,10 @@
 use crate::wire::wire_struct;
 
 wire_struct! {
-    /// "A tensor record has a rank, an element size in bytes, and four shapes and four strides, in elements."
+    /// "A tensor record has a rank, an element size in bytes, and four shapes and four strides, in elements." "Source
+    /// strides become signed 32-bit numbers."
     #[derive(Copy)]
-    Tensor { rank: u8, element_size: u8, shape: [u32; 4], stride: [u32; 4] }
+    Tensor { rank: u8, element_size: u8, shape: [u32; 4], stride: [i32; 4] }
 }
 
 wire_struct! {
@@ -15,7 +16,7 @@ wire_struct! {
 }
 
 wire_struct! {
-    /// What a tensor record comes to by itself.
+    /// What a tensor record comes to by itself. CALLS: "sizes of the resolved strides".
     #[derive(Copy)]
     Source { status: u8, dimension: u8, stride: [u32; 4], span: u64 }
 }
@@ -88,15 +89,33 @@ pub fn resolve_strides(status: u8, rank: usize, shape: &[u64; 4], stride: &[u32;
     Ok(resolved)
 }
 
-/// The numbers 1 to 4 of a tensor record; the resolved strides if there is none.
+/// The numbers 1 to 4 of a tensor record; the sizes of the resolved strides if there is none. "The sizes of the strides,
+/// signs dropped, follow 01's rule"; that of -2,147,483,648 is above the limit.
 pub fn check_tensor(tensor: &Tensor) -> Result<[u64; 4], Fault> {
     let rank = check_rank(tensor.rank)?;
     check_element_size(tensor.element_size)?;
     check_shapes(tensor, rank)?;
-    resolve_strides(4, rank, &wide(&tensor.shape), &tensor.stride)
+    resolve_strides(4, rank, &wide(&tensor.shape), &tensor.stride.map(i32::unsigned_abs))
 }
 
-/// "Span in bytes: (1 + sum of (shape-1) x stride) x element size." For a tensor that passed 1 to 4.
+/// The resolved strides of these sizes with the signs of the written ones: "a stride of 0 resolves to a positive one".
+pub fn with_signs(tensor: &Tensor, resolved: &[u64; 4]) -> [i64; 4] {
+    let mut signed = [0; 4];
+    for d in 0..4 {
+        signed[d] = resolved[d] as i64 * if tensor.stride[d] < 0 { -1 } else { 1 };
+    }
+    signed
+}
+
+/// How many elements a coordinate lies above the lowest one that its dimension has: "A negative dimension counts down:
+/// its coordinate x lies (shape - 1 - x) x size of the stride up from there." Any other counts up.
+pub fn above_lowest(shape: u64, stride: i64, x: u64) -> u64 {
+    let strides = if stride < 0 { shape - 1 - x } else { x };
+    strides * stride.unsigned_abs()
+}
+
+/// "Span in bytes: (1 + sum of (shape-1) x stride) x element size", by sizes: "spans don't change". For a tensor that
+/// passed 1 to 4.
 pub fn span(tensor: &Tensor, resolved: &[u64; 4]) -> u64 {
     let mut elements = 1;
     for d in 0..tensor.rank as usize {

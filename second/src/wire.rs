@@ -75,7 +75,8 @@ macro_rules! wire_number {
     )* };
 }
 
-wire_number!(u8, u16, u32, u64);
+// Signed ones are in two's complement.
+wire_number!(u8, u16, u32, u64, i32);
 
 /// Four entries, entry 0 first.
 impl<T: Wire> Wire for [T; 4] {

@@ -16,7 +16,17 @@ fn compact(rank: u8, element_size: u8, shape: [u32; 4]) -> Tensor {
         rank,
         element_size,
         shape,
-        stride: [0u32; 4],
+        stride: [0i32; 4],
+    }
+}
+
+// A plane of single bytes and rank 2, with its strides.
+fn strided(shape: [u32; 4], stride: [i32; 4]) -> Tensor {
+    Tensor {
+        rank: 2,
+        element_size: 1,
+        shape,
+        stride,
     }
 }
 
@@ -33,6 +43,17 @@ fn print(name: &[u8], number: u64) {
 
 fn print_entry(name: &[u8], x: u32) {
     print(name, x as u64);
+}
+
+// A stride, with its sign.
+fn print_stride(name: &[u8], s: i32) {
+    if s < 0 {
+        io::write_all(STDOUT_FILENO, name);
+        io::write_all(STDOUT_FILENO, b" -");
+        io::print_decimal(STDOUT_FILENO, (-1 - s) as u32 as u64 + 1);
+        return;
+    }
+    print_entry(name, s as u32);
 }
 
 fn end_line() {
@@ -223,24 +244,51 @@ fn stretches() {
     tell(b"stretch", rest.status as u64, rest.count, &mem);
 }
 
-// K: a row of a plane as a tensor of its own. A copy of it reads the source from its byte on.
-fn sub() {
+// Two elements of the second row of (3,4) as a tensor of their own. A copy of it reads the source from its byte on.
+fn row_of(name: &[u8], t: Tensor) {
     let twelve = TWELVE;
-    let t = compact(2, 1, [3, 4, 0, 0]);
     let row = SubConfig {
         offset: [1, 2, 0, 0],
         size: [1, 2, 0, 0],
         rank: 1,
     };
     let k = mover::sub_tensor(t, row, &twelve);
-    print(b"K", k.status as u64);
+    print(name, k.status as u64);
     let tensor = k.tensor;
     print_entry(b" shape", tensor.shape[0]);
-    print_entry(b" stride", tensor.stride[0]);
+    print_stride(b" stride", tensor.stride[0]);
     print(b" byte", k.byte);
     end_line();
     let part = mover::sub_part(t, row, &twelve);
-    run(b"K", tensor, copy_of(1), part, &mut [0u8; 2]);
+    run(name, tensor, copy_of(1), part, &mut [0u8; 2]);
+}
+
+// K: a sub-tensor.
+fn sub() {
+    row_of(b"K", compact(2, 1, [3, 4, 0, 0]));
+}
+
+// Rows read right to left, rows from the last one on, both, and a quarter turn clockwise; and K of a plane whose both dimensions count
+// down.
+fn mirror() {
+    let twelve = TWELVE;
+    let copy = copy_of(2);
+    let shape = [2, 3, 0, 0];
+    let from_the_right = strided(shape, [0, -1, 0, 0]);
+    let upside_down = strided(shape, [-3, 0, 0, 0]);
+    let both = strided(shape, [-3, -1, 0, 0]);
+    run(
+        b"mirrored",
+        from_the_right,
+        copy,
+        &twelve[..6],
+        &mut [0u8; 6],
+    );
+    run(b"mirrored", upside_down, copy, &twelve[..6], &mut [0u8; 6]);
+    run(b"mirrored", both, copy, &twelve[..6], &mut [0u8; 6]);
+    let turn = copy.with_perm([1, 0, 0, 0]);
+    run(b"rotated", upside_down, turn, &twelve[..6], &mut [0u8; 6]);
+    row_of(b"mirrored", strided([3, 4, 0, 0], [-4, -1, 0, 0]));
 }
 
 // What the paper only runs: the count of (2,4,8) from 1; sizes 65,280 and 65,281 with 255 of padding before. And the largest count.
@@ -328,6 +376,7 @@ fn main() {
     plainly();
     stretches();
     sub();
+    mirror();
     run_only();
     two_at_once();
     boundaries();

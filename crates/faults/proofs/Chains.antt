@@ -37,7 +37,7 @@ given-positive (fromLast num n bad) k d p g = rw (g .0) p
 given-positive (r then s) k d p (inl g) = given-positive r k d (p .0) g
 given-positive (r then s) k d p (inr g) = given-positive s k d (p .1) (g .1)
 
-given-fault : (rs : Rules) (k d : ℕ) → Positive rs → Given rs k d → firstFault rs ≡ fault k d
+pub given-fault : (rs : Rules) (k d : ℕ) → Positive rs → Given rs k d → firstFault rs ≡ fault k d
 unfolding lowest outward
 given-fault (overall num bad) k d p (e, b, z) = when-bad num 0 bad b ∙ ap₂ fault (sym e) (sym z)
 given-fault (fromFirst num n bad) k d p (e, l, b, h) =

@@ -3,15 +3,17 @@ use Prim.Native.Nat.{ℕ, _+_, _-_, _≤_, _<_}
 use native.Mathlib.Nat.{le-trans}
 use native.Mathlib.Decide.{ℕ-discrete, decLt}
 use native.Mathlib.Omega.{arith}
-use mathlib.Core.Path.{_≡_, refl, sym, subst, _∙_}
+use mathlib.Core.Path.{_≡_, refl, sym, ap, subst, _∙_}
 use mathlib.Core.Logic.{_⊎_, ⊎-elim, inl, inr}
 use mathlib.Core.Bool.{cond}
 use mathlib.Core.List.{List}
 use borrow.Author.Tests.{eq-eqb, ne-eqb}
 use lib.Dec.{eqb}
-use lib.ListN.{length}
+use lib.IntN.{pos}
+use lib.ListN.{length, List·getD-map}
 use Rattle.plane.specs.declared.Tensor.{Tensor}
 use Rattle.plane.specs.Arrays.{at, zeros}
+use Rattle.plane.specs.Signs.{isDown}
 use Rattle.plane.specs.Planes.{shapeAt, strideAt}
 use Rattle.plane.proofs.Arrays.{array-at, zeros-at}
 use Rattle.plane.proofs.Falling.{strides-at}
@@ -19,7 +21,7 @@ use Rattle.plane.specs.Good.{FromTo, GoodSource}
 use Rattle.plane.proofs.Good.{source-good, source-clear}
 use Rattle.mover.specs.Demand2.{Accepted}
 use Rattle.slices.proofs.Compact.{resolved-inner}
-use Rattle.joins.specs.Claims.{IsIn, setConfig, Settable, IsSet, joinedOf, behind, Joinable, IsJoined, afterFirst, afterBoth, JoinedPlane, JoinedCoordinates, CompactFalls, JoinedTaken}
+use Rattle.joins.specs.Claims.{IsIn, CountsUp, setConfig, Settable, IsSet, joinedOf, behind, Joinable, IsJoined, afterFirst, afterBoth, JoinedPlane, JoinedCoordinates, CompactFalls, JoinedTaken}
 use Rattle.joins.proofs.Elements.{byte-same, element-within}
 use Rattle.joins.proofs.Setting.{set-into, set-inside}
 
@@ -59,6 +61,10 @@ module _ {a b : Tensor} {d : ℕ} {stride srcA srcB dst : List ℕ} (p : Joinabl
     | no e ↦ f i h e
   ]
 
+  -- no stride of it is below 0
+  counts-up : CountsUp w
+  counts-up i h = ap isDown (List·getD-map pos stride i 0)
+
   -- ---- a is set in from coordinate 0 on, and then b behind it
 
   first-settable : Settable w a zeros srcA dst
@@ -67,6 +73,7 @@ module _ {a b : Tensor} {d : ℕ} {stride srcA srcB dst : List ℕ} (p : Joinabl
     element = refl;
     source = p .first;
     strides = p .strides;
+    up = counts-up;
     fits = each (λ i. at zeros i + shapeAt a i ≤ shapeAt w i)
         (omega (arith, zeros-at d, shape-along))
         (λ i h n. omega (arith, zeros-at i, shape-aside i h n));
@@ -86,6 +93,7 @@ module _ {a b : Tensor} {d : ℕ} {stride srcA srcB dst : List ℕ} (p : Joinabl
     element = p .element;
     source = p .second;
     strides = p .strides;
+    up = counts-up;
     fits = each (λ i. at (behind a d) i + shapeAt b i ≤ shapeAt w i)
         (omega (arith, behind-along, shape-along))
         (λ i h n. omega (arith, behind-aside i h n, shape-aside i h n, p .shape i h n));

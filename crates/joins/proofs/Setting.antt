@@ -5,12 +5,13 @@ use native.Mathlib.Nat.{mul-comm, le-trans, mul-le-mul, mul-le-mul-right}
 use native.Mathlib.Omega.{arith}
 use mathlib.Core.Path.{_≡_, sym, ap, ap₂, _∙_}
 use mathlib.Core.Logic.{_⊎_, ⊎-elim, inl, inr}
+use mathlib.Core.Bool.{Bool}
 use mathlib.Core.List.{List}
 use lib.ListN.{length, getD}
 use Rattle.plane.specs.declared.Tensor.{Tensor}
 use Rattle.plane.specs.declared.Config.{Config}
 use Rattle.plane.specs.Arrays.{at, sum}
-use Rattle.plane.specs.Planes.{shapeAt, strideAt, resolved, srcStrides, sourceAt, span}
+use Rattle.plane.specs.Planes.{shapeAt, strideAt, up, resolved, srcStrides, sourceAt, span}
 use Rattle.plane.specs.Moves.{dstExtents, dstStrides, need}
 use Rattle.plane.specs.Settings.{withDstOffset, withDstStride}
 use Rattle.ready_made.specs.ReadyMade.{defaults, cutTo, madeFor}
@@ -120,7 +121,7 @@ module _ {w t : Tensor} {o src dst : List ℕ} (p : Settable w t o src dst) wher
   unfolding need span
   need-most =
       let f : ℕ → ℕ = λ i. (at (c .«dst_offset») i + at (dstExtents t c) i - 1) * at (dstStrides t c) i in
-      let g : ℕ → ℕ = λ i. sourceAt w i (shapeAt w i - 1) in
+      let g : ℕ → ℕ = λ i. (shapeAt w i - 1) * at (srcStrides w) i in
       let l = sum-least (t .rank) f g
       (λ i h. rw (stride-at i h) (mul-le-mul-right (at (srcStrides w) i) (omega (arith, offset-at i h, extent-at i h, p .fits i (there i h))))) in
       let e = ap (λ (n : ℕ). sum n g) (p .rank) in
@@ -145,7 +146,10 @@ module _ {w t : Tensor} {o src dst : List ℕ} (p : Settable w t o src dst) wher
   unfolding place
   byte-here x =
       ap₂ (λ (a b : ℕ). a * b)
-      (sum-same (t .rank) _ _ (λ i h. ap₂ (λ (a b : ℕ). (a + x i) * b) (offset-at i h) (stride-at i h)) ∙
+      (sum-same (t .rank) _ _
+      (λ i h.
+      ap₂ (λ (a b : ℕ). (a + x i) * b) (offset-at i h) (stride-at i h) ∙
+      ap (λ (b : Bool). up b (shapeAt w i) (at o i + x i) * at (srcStrides w) i) (sym (p .up i (there i h)))) ∙
       ap (λ (n : ℕ). sum n (λ i. sourceAt w i (at o i + x i))) (p .rank))
       (p .element)
 

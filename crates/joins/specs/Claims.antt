@@ -3,15 +3,16 @@
 -- any plane. Its shape may be above 65,535, since a joined plane may be.
 use Prim.Native.Nat.{ℕ, _+_, _-_, _≤_, _<_}
 use mathlib.Core.Path.{_≡_}
-use mathlib.Core.Bool.{cond}
+use mathlib.Core.Bool.{false, cond}
 use mathlib.Core.Logic.{_⊎_, _↔_}
-use mathlib.Core.List.{List}
+use mathlib.Core.List.{List, map}
 use lib.Dec.{eqb}
+use lib.IntN.{pos}
 use lib.ListN.{length, getD}
 use Rattle.plane.specs.declared.Tensor.{Tensor}
 use Rattle.plane.specs.declared.Config.{Config}
 use Rattle.plane.specs.Arrays.{at, array, zeros}
-use Rattle.plane.specs.Planes.{shapeAt, strideAt, srcStrides, span, sourceFault}
+use Rattle.plane.specs.Planes.{shapeAt, strideAt, downAt, srcStrides, span, sourceFault}
 use Rattle.plane.specs.Good.{GoodStrides}
 use Rattle.ready_made.specs.ReadyMade.{concatenateOf}
 use Rattle.mover.specs.Moved.{moveMemory}
@@ -31,6 +32,10 @@ Misses t y k = (k < elementByte t y) ⊎ (elementByte t y + t .«element_size» 
 -- 4 does not refuse its strides
 abbrev pub Falls : Tensor → Type 0
 Falls t = GoodStrides (t .rank) (shapeAt t) (strideAt t)
+
+-- none of its dimensions counts down
+abbrev pub CountsUp : Tensor → Type 0
+CountsUp t = (i : ℕ) → i < t .rank → downAt t i ≡ false
 
 -- 1 to 5 do not refuse it with the source src
 abbrev pub TakenFrom : Tensor → List ℕ → Type 0
@@ -58,6 +63,8 @@ pub record Settable (w t : Tensor) (o src dst : List ℕ) : Type 0 where
   pub element : t .«element_size» ≡ w .«element_size»
   pub source : TakenFrom t src
   pub strides : Falls w
+  -- a destination counts up in every dimension, so w is a plane that does; t may count down
+  pub up : CountsUp w
   -- t lies in w, and no offset is too large
   pub fits : (i : ℕ) → i < w .rank → at o i + shapeAt t i ≤ shapeAt w i
   pub limit : (i : ℕ) → i < w .rank → at o i ≤ 65535
@@ -85,13 +92,13 @@ SetInto =
 
 -- ---- two planes a and b joined along dimension d
 
--- the joined plane: along d both shapes together. Its strides are those asked for, 0 for compact ones
+-- the joined plane: along d both shapes together. Its strides are those asked for, 0 for compact ones; none of them counts down
 abbrev pub joinedOf : Tensor → Tensor → ℕ → List ℕ → Tensor
 joinedOf a b d stride = record {
   rank = a .rank;
   «element_size» = a .«element_size»;
   shape = array (λ i. shapeAt a i + cond (eqb i d) (shapeAt b i) 0);
-  stride = stride;
+  stride = map pos stride;
 }
 
 -- b starts where a ends: along d at a's shape, which is its extent, since all else is default

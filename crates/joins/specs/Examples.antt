@@ -5,13 +5,13 @@ use mathlib.Core.Path.{_≡_}
 use mathlib.Core.List.{List, [], _∷_}
 use lib.ListN.{replicate}
 use Rattle.plane.specs.declared.Tensor.{Tensor}
-use Rattle.plane.specs.Arrays.{zeros}
+use Rattle.plane.specs.Signs.{zerosZ}
 use Rattle.mover.specs.Moved.{moveMemory}
 use Rattle.joins.specs.Claims.{setConfig, Settable, Joinable, afterBoth}
 
 -- a plane of bytes with all strides 0: rank, shape
 abbrev pub bytePlane : ℕ → List ℕ → Tensor
-bytePlane n shape = record { rank = n; «element_size» = 1; shape = shape; stride = zeros }
+bytePlane n shape = record { rank = n; «element_size» = 1; shape = shape; stride = zerosZ }
 
 -- ---- 2 x 2 set into the right half of two rows of four
 

@@ -7,6 +7,7 @@ use lib.Dec.{eqb}
 use mathlib.Core.Logic.{inl, inr}
 use mathlib.Core.List.{List, [], _∷_}
 use Rattle.faults.specs.Faults.{when, _orElse_, first, lowest, outward}
+use Rattle.plane.specs.Signs.{sizes}
 use Rattle.plane.specs.Arrays.{firstsOr, sum, product, howMany, some, every}
 use Rattle.plane.proofs.Arrays.{same-at}
 use Rattle.plane.specs.Planes.{inner, resolved, badStrideAt, span, sourceFault}
@@ -62,7 +63,7 @@ the-first (suc (suc (suc zero))) b = absurd (b .1 refl)
 the-first (suc (suc (suc (suc h)))) b = absurd (omega (arith, b .0))
 
 pub tools-met : ToolsMet
-unfolding when _orElse_ lowest first outward sourceFault configFault dstFault moveFault span need sum product howMany some every firstsOr badStrideAt badDstOffsetAt resolved inner extent count dstExtents total jobFault withSlot lowestFree breaks clashes isZeroTensor isZeroConfig isZeroJob movedRight slotSound soundAt tableSound freshFault freshOf openFault prepareFault prepareOf freshWorld notePrepare after wordOf lowestOf withRun withoutRun requestFault requestOf runPart uses inUse tableFault giveBackFault giveBackOf freshTools noteRequest noteBack noteOwner afterTool runTools
+unfolding sizes when _orElse_ lowest first outward sourceFault configFault dstFault moveFault span need sum product howMany some every firstsOr badStrideAt badDstOffsetAt resolved inner extent count dstExtents total jobFault withSlot lowestFree breaks clashes isZeroTensor isZeroConfig isZeroJob movedRight slotSound soundAt tableSound freshFault freshOf openFault prepareFault prepareOf freshWorld notePrepare after wordOf lowestOf withRun withoutRun requestFault requestOf runPart uses inUse tableFault giveBackFault giveBackOf freshTools noteRequest noteBack noteOwner afterTool runTools
 tools-met = record {
   in-order = (
     tt,

@@ -3,7 +3,7 @@ use Prim.Native.Nat.{ℕ}
 use mathlib.Core.Path.{_≡_}
 use mathlib.Core.List.{List, [], _∷_}
 use lib.ListN.{replicate}
-use Rattle.plane.specs.Arrays.{zeros}
+use Rattle.plane.specs.Signs.{zerosZ}
 use Rattle.plane.specs.Settings.{zeroConfig, withStep}
 use Rattle.mover.specs.declared.Job.{Job}
 use Rattle.transfers.specs.Slots.{slotAt}
@@ -16,7 +16,7 @@ abbrev pub byteJob : ℕ → ℕ → Job
 byteJob a b = record {
   source = record { start = a; length = 1 };
   destination = record { start = b; length = 1 };
-  tensor = record { rank = 1; «element_size» = 1; shape = 1 ∷ 0 ∷ 0 ∷ 0 ∷ []; stride = zeros };
+  tensor = record { rank = 1; «element_size» = 1; shape = 1 ∷ 0 ∷ 0 ∷ 0 ∷ []; stride = zerosZ };
   config = withStep zeroConfig (1 ∷ 0 ∷ 0 ∷ 0 ∷ []);
 }
 

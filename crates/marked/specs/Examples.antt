@@ -3,8 +3,9 @@
 -- would come out otherwise: one of the faults that the comparison with the second program has to find.
 use Prim.Native.Nat.{ℕ, zero, suc, _*_}
 use mathlib.Core.Path.{_≡_}
-use mathlib.Core.List.{List, [], _∷_, _++_}
-use lib.ListN.{length, take, set, replicate}
+use mathlib.Core.List.{List, [], _∷_, _++_, map}
+use lib.IntN.{ℤ, pos, negℤ}
+use lib.ListN.{length, take, drop, set, replicate}
 use Rattle.plane.specs.declared.Tensor.{Tensor}
 use Rattle.plane.specs.declared.Config.{Config}
 use Rattle.plane.specs.declared.Answer.{Answer}
@@ -12,7 +13,7 @@ use Rattle.plane.specs.declared.RoomAnswer.{RoomAnswer}
 use Rattle.plane.specs.declared.Count.{Count}
 use Rattle.plane.specs.declared.SubConfig.{SubConfig}
 use Rattle.plane.specs.declared.SubTensor.{SubTensor}
-use Rattle.plane.specs.Arrays.{zeros}
+use Rattle.plane.specs.Signs.{zerosZ}
 use Rattle.faults.specs.declared.Fault.{Fault}
 use Rattle.faults.specs.Faults.{none, fault}
 use Rattle.plane.specs.Moves.{refused, judgeOf, roomOf}
@@ -196,7 +197,20 @@ alike a = a ∷ a ∷ a ∷ a ∷ []
 
 -- a plane with all strides 0: rank, element size, shape
 abbrev pub compact : ℕ → ℕ → List ℕ → Tensor
-compact n size shape = record { rank = n; «element_size» = size; shape = shape; stride = zeros }
+compact n size shape = record { rank = n; «element_size» = size; shape = shape; stride = zerosZ }
+
+-- a plane with its strides: -n is `minus n`, and strides past the rank are -9
+abbrev pub strided : ℕ → ℕ → List ℕ → List ℤ → Tensor
+strided n size shape stride = record { rank = n; «element_size» = size; shape = shape; stride = stride }
+
+abbrev pub minus : ℕ → ℤ
+minus n = negℤ (pos n)
+
+abbrev pub stride1 : ℤ → List ℤ
+stride1 a = a ∷ minus 9 ∷ minus 9 ∷ minus 9 ∷ []
+
+abbrev pub stride2 : ℤ → ℤ → List ℤ
+stride2 a b = a ∷ b ∷ minus 9 ∷ minus 9 ∷ []
 
 -- a sub-tensor's offsets, sizes and rank
 abbrev pub cut : List ℕ → List ℕ → ℕ → SubConfig
@@ -234,6 +248,15 @@ thinTransfer = record {
   destination = record { start = 10; length = 10 };
   tensor = compact 2 1 (two 2 5);
   config = thinConfig;
+}
+
+-- (2,3) with its rows read right to left, in bytes: from byte 0 on, to byte 6 on
+abbrev pub mirroredTransfer : Job
+mirroredTransfer = record {
+  source = record { start = 0; length = 6 };
+  destination = record { start = 6; length = 6 };
+  tensor = strided 2 1 (two 2 3) (stride2 (pos 0) (minus 1));
+  config = defaults;
 }
 
 -- D between two parts of one memory: from byte 0 on, to byte 2 on
@@ -288,7 +311,14 @@ turnRecord =
     (82 ∷ 77 ∷ 86 ∷ 1 ∷ 0 ∷ 2 ∷ 1 ∷ 2 ∷ 0 ∷ 0 ∷ 0 ∷ 3 ∷ []) ++ replicate 59 0 ++
     (1 ∷ 0 ∷ 0 ∷ 0 ∷ 1 ∷ []) ++ replicate 43 0 ++ (1 ∷ []) ++ replicate 11 0
 
--- the same with 2 for its version
+-- A's plane with strides (-3,-1), and its record: their words stand from byte 23 on
+abbrev pub mirroredTensor : Tensor
+mirroredTensor = strided 2 1 (2 ∷ 3 ∷ 0 ∷ 0 ∷ []) (minus 3 ∷ minus 1 ∷ pos 0 ∷ pos 0 ∷ [])
+
+abbrev pub mirroredRecord : List ℕ
+mirroredRecord = take 23 turnRecord ++ (253 ∷ 255 ∷ 255 ∷ 255 ∷ 255 ∷ 255 ∷ 255 ∷ 255 ∷ []) ++ drop 31 turnRecord
+
+-- A's record with 2 for its version
 abbrev pub versionTwo : List ℕ
 versionTwo = set turnRecord 3 2
 
@@ -313,10 +343,12 @@ abbrev pub acceptedMove : ℕ → ℕ → List ℕ → List ℕ → ℕ → Answ
 acceptedMove n size extent stride need =
     record { status = 0; dim = 0; rank = n; «element_size» = size; extent = extent; stride = stride; need = need }
 
--- an accepted sub-tensor: rank, element size, shape, strides, byte
+-- an accepted sub-tensor: rank, element size, shape, strides, byte; and one whose strides are all positive
+abbrev pub signedSub : ℕ → ℕ → List ℕ → List ℤ → ℕ → SubTensor
+signedSub n size shape stride byte = record { status = 0; dim = 0; tensor = strided n size shape stride; byte = byte }
+
 abbrev pub acceptedSub : ℕ → ℕ → List ℕ → List ℕ → ℕ → SubTensor
-acceptedSub n size shape stride byte =
-    record { status = 0; dim = 0; tensor = record { rank = n; «element_size» = size; shape = shape; stride = stride }; byte = byte }
+acceptedSub n size shape stride byte = signedSub n size shape (map pos stride) byte
 
 -- a request granted: the first block, the word after; and refused: the word as it was
 abbrev pub grant : ℕ → ℕ → Granted
@@ -450,12 +482,81 @@ examples =
     -- a sub-tensor of rank 0, with no unit dimension to remove: 14 comes before 15. Against `units_before_the_rank`
     besides shows sub (compact 2 1 (two 3 4)) (cut (two 1 1) (two 2 2) 0) (upTo 12) (noSub (fault 14 0)) [] ∷
     -- (1,2) with strides (0, 2147483647): what 0 stands for is itself too large, 4 at dimension 0
-    besides shows room (record { rank = 2; «element_size» = 1; shape = two 1 2; stride = two 0 2147483647 }) defaults
+    besides shows room (strided 2 1 (two 1 2) (stride2 (pos 0) (pos 2147483647))) defaults
     (record { answer = refused (fault 4 0); span = 0 }) ∷
     -- a sub-tensor of (3,4) keeps the resolved stride 4 of the whole plane: 0 would be resolved again, from its own shape, to 2. Against
     -- `zero_stride_in_sub_tensor`
     besides shows sub (compact 2 1 (two 3 4)) (cut (two 1 1) (two 2 2) 2) (upTo 12)
     (acceptedSub 2 1 (2 ∷ 2 ∷ 0 ∷ 0 ∷ []) (4 ∷ 1 ∷ 0 ∷ 0 ∷ []) 5) (6 ∷ 7 ∷ 8 ∷ 9 ∷ 10 ∷ 11 ∷ 12 ∷ []) ∷
+    -- ---- strides below 0: a dimension that counts down
+    -- (3) 1 2 3 by strides 1, 0 and -1: 1 2 3, 1 2 3 and 3 2 1. Against `sign_of_a_stride_dropped`, `words_from_2_to_the_31_refused`,
+    -- `plain_sign_dropped`
+    besides shows move (strided 1 1 (one 3) (stride1 (pos 1))) defaults (upTo 3) (over 3)
+    (acceptedMove 1 1 (3 ∷ 0 ∷ 0 ∷ 0 ∷ []) (1 ∷ 0 ∷ 0 ∷ 0 ∷ []) 3) (1 ∷ 2 ∷ 3 ∷ []) ∷
+    besides shows move (strided 1 1 (one 3) (stride1 (pos 0))) defaults (upTo 3) (over 3)
+    (acceptedMove 1 1 (3 ∷ 0 ∷ 0 ∷ 0 ∷ []) (1 ∷ 0 ∷ 0 ∷ 0 ∷ []) 3) (1 ∷ 2 ∷ 3 ∷ []) ∷
+    besides shows move (strided 1 1 (one 3) (stride1 (minus 1))) defaults (upTo 3) (over 3)
+    (acceptedMove 1 1 (3 ∷ 0 ∷ 0 ∷ 0 ∷ []) (1 ∷ 0 ∷ 0 ∷ 0 ∷ []) 3) (3 ∷ 2 ∷ 1 ∷ []) ∷
+    -- (2,3) 1..6 with its rows read right to left, strides (0,-1): the 0 is 3 and counts up, so 3 2 1 6 5 4. Against
+    -- `zero_stride_takes_the_sign_farther_in`
+    besides shows move (strided 2 1 (two 2 3) (stride2 (pos 0) (minus 1))) defaults (upTo 6) (over 6)
+    (acceptedMove 2 1 (2 ∷ 3 ∷ 0 ∷ 0 ∷ []) (3 ∷ 1 ∷ 0 ∷ 0 ∷ []) 6) (3 ∷ 2 ∷ 1 ∷ 6 ∷ 5 ∷ 4 ∷ []) ∷
+    -- upside down, strides (-3,0): the 0 is 1 and counts up, so 4 5 6 1 2 3. Against `zero_stride_takes_the_sign_farther_out`
+    besides shows move (strided 2 1 (two 2 3) (stride2 (minus 3) (pos 0))) defaults (upTo 6) (over 6)
+    (acceptedMove 2 1 (2 ∷ 3 ∷ 0 ∷ 0 ∷ []) (3 ∷ 1 ∷ 0 ∷ 0 ∷ []) 6) (4 ∷ 5 ∷ 6 ∷ 1 ∷ 2 ∷ 3 ∷ []) ∷
+    -- both: 6 5 4 3 2 1. Upside down with rows and columns exchanged, a quarter turn clockwise: 4 1, 5 2, 6 3
+    besides shows move (strided 2 1 (two 2 3) (stride2 (minus 3) (minus 1))) defaults (upTo 6) (over 6)
+    (acceptedMove 2 1 (2 ∷ 3 ∷ 0 ∷ 0 ∷ []) (3 ∷ 1 ∷ 0 ∷ 0 ∷ []) 6) (6 ∷ 5 ∷ 4 ∷ 3 ∷ 2 ∷ 1 ∷ []) ∷
+    besides shows move (strided 2 1 (two 2 3) (stride2 (minus 3) (pos 0))) (withPerm defaults (two 1 0)) (upTo 6) (over 6)
+    (acceptedMove 2 1 (3 ∷ 2 ∷ 0 ∷ 0 ∷ []) (2 ∷ 1 ∷ 0 ∷ 0 ∷ []) 6) (4 ∷ 1 ∷ 5 ∷ 2 ∷ 6 ∷ 3 ∷ []) ∷
+    -- (5) 1..5 by stride -1 reads 5 4 3 2 1. Of it offset 1 and size 2 keep 4 3, whose end is not the plane's; offset 1 with step 2 keeps
+    -- 4 2, and all of it with step 3 keeps 5 2. Against `mirrored_from_the_kept_end`, `steps_from_the_lowest_element`
+    besides shows move (strided 1 1 (one 5) (stride1 (minus 1))) (withSize (withOffset defaults (one 1)) (one 2)) (upTo 5) (over 2)
+    (acceptedMove 1 1 (2 ∷ 0 ∷ 0 ∷ 0 ∷ []) (1 ∷ 0 ∷ 0 ∷ 0 ∷ []) 2) (4 ∷ 3 ∷ []) ∷
+    besides shows move (strided 1 1 (one 5) (stride1 (minus 1))) (withStep (withOffset defaults (one 1)) (one 2)) (upTo 5) (over 2)
+    (acceptedMove 1 1 (2 ∷ 0 ∷ 0 ∷ 0 ∷ []) (1 ∷ 0 ∷ 0 ∷ 0 ∷ []) 2) (4 ∷ 2 ∷ []) ∷
+    besides shows move (strided 1 1 (one 5) (stride1 (minus 1))) (withStep defaults (one 3)) (upTo 5) (over 2)
+    (acceptedMove 1 1 (2 ∷ 0 ∷ 0 ∷ 0 ∷ []) (1 ∷ 0 ∷ 0 ∷ 0 ∷ []) 2) (5 ∷ 2 ∷ []) ∷
+    -- (2) 5 6 by stride -1 with a padded element before it: 0 6 5. Elements of two bytes keep theirs in order: 3 4 1 2
+    besides shows move (strided 1 1 (one 2) (stride1 (minus 1))) (withPre defaults (one 1)) (5 ∷ 6 ∷ []) (over 3)
+    (acceptedMove 1 1 (3 ∷ 0 ∷ 0 ∷ 0 ∷ []) (1 ∷ 0 ∷ 0 ∷ 0 ∷ []) 3) (0 ∷ 6 ∷ 5 ∷ []) ∷
+    besides shows move (strided 1 2 (one 2) (stride1 (minus 1))) defaults (upTo 4) (over 4)
+    (acceptedMove 1 2 (2 ∷ 0 ∷ 0 ∷ 0 ∷ []) (1 ∷ 0 ∷ 0 ∷ 0 ∷ []) 4) (3 ∷ 4 ∷ 1 ∷ 2 ∷ []) ∷
+    -- (3) by stride -2 spans five bytes, as by stride 2: 5 3 1, and four bytes are too few. Against `span_of_what_counts_up`
+    besides shows move (strided 1 1 (one 3) (stride1 (minus 2))) defaults (upTo 5) (over 3)
+    (acceptedMove 1 1 (3 ∷ 0 ∷ 0 ∷ 0 ∷ []) (1 ∷ 0 ∷ 0 ∷ 0 ∷ []) 3) (5 ∷ 3 ∷ 1 ∷ []) ∷
+    besides shows move (strided 1 1 (one 3) (stride1 (minus 2))) defaults (upTo 4) (over 3) (refused (fault 5 0)) (over 3) ∷
+    -- K of (3,4) by strides (-4,-1): at (1,2) stand 6 5, whose lowest is 5, in byte 4. Copied from there by its stride -1 it is 6 5. Against
+    -- `sub_tensor_starts_at_its_first_coordinate`, `sub_tensor_drops_the_signs`
+    besides shows sub (strided 2 1 (two 3 4) (stride2 (minus 4) (minus 1))) (cut (two 1 2) (two 1 2) 1) (upTo 12)
+    (signedSub 1 1 (2 ∷ 0 ∷ 0 ∷ 0 ∷ []) (minus 1 ∷ pos 0 ∷ pos 0 ∷ pos 0 ∷ []) 4) (5 ∷ 6 ∷ 7 ∷ 8 ∷ 9 ∷ 10 ∷ 11 ∷ 12 ∷ []) ∷
+    besides shows move (strided 1 1 (2 ∷ 0 ∷ 0 ∷ 0 ∷ []) (minus 1 ∷ pos 0 ∷ pos 0 ∷ pos 0 ∷ [])) defaults (5 ∷ 6 ∷ 7 ∷ 8 ∷ []) (over 2)
+    (acceptedMove 1 1 (2 ∷ 0 ∷ 0 ∷ 0 ∷ []) (1 ∷ 0 ∷ 0 ∷ 0 ∷ []) 2) (6 ∷ 5 ∷ []) ∷
+    -- a unit dimension that stays keeps its sign, and a 0 beside it is resolved to a positive stride: (1,3) by (-7,0), all of it. Against
+    -- `sub_tensor_drops_the_sign_of_a_unit`
+    besides shows sub (strided 2 1 (two 1 3) (stride2 (minus 7) (pos 0))) (cut (two 0 0) (two 1 3) 2) (upTo 3)
+    (signedSub 2 1 (1 ∷ 3 ∷ 0 ∷ 0 ∷ []) (minus 7 ∷ pos 1 ∷ pos 0 ∷ pos 0 ∷ []) 0) (1 ∷ 2 ∷ 3 ∷ []) ∷
+    -- the ends of the range, in the first dimension: the largest stride is taken for any shape, counting up or down, and spans
+    -- 1 + 65,534 x 2,147,483,647 bytes; the least is 4, also for one element. Against `least_stride_accepted`
+    besides shows room (strided 1 1 (one 65535) (stride1 (pos 2147483647))) defaults
+    (record { answer = acceptedMove 1 1 (65535 ∷ 0 ∷ 0 ∷ 0 ∷ []) (1 ∷ 0 ∷ 0 ∷ 0 ∷ []) 65535; span = 140733193322499 }) ∷
+    besides shows room (strided 1 1 (one 65535) (stride1 (minus 2147483647))) defaults
+    (record { answer = acceptedMove 1 1 (65535 ∷ 0 ∷ 0 ∷ 0 ∷ []) (1 ∷ 0 ∷ 0 ∷ 0 ∷ []) 65535; span = 140733193322499 }) ∷
+    besides shows move (strided 1 1 (one 65535) (stride1 (minus 2147483647))) defaults (upTo 3) (over 3) (refused (fault 5 0)) (over 3) ∷
+    besides shows room (strided 1 1 (one 65535) (stride1 (minus 2147483648))) defaults (record { answer = refused (fault 4 0); span = 0 }) ∷
+    besides shows room (strided 1 1 (one 1) (stride1 (minus 2147483648))) defaults (record { answer = refused (fault 4 0); span = 0 }) ∷
+    -- further in: of shape 1 it leaves the 0 before it the same size; of shape 2 what is before it is 4
+    besides shows room (strided 2 1 (two 2 1) (stride2 (pos 0) (minus 2147483647))) defaults
+    (record { answer = acceptedMove 2 1 (2 ∷ 1 ∷ 0 ∷ 0 ∷ []) (1 ∷ 1 ∷ 0 ∷ 0 ∷ []) 2; span = 2147483648 }) ∷
+    besides shows room (strided 2 1 (two 2 2) (stride2 (minus 2147483647) (minus 2147483647))) defaults
+    (record { answer = refused (fault 4 0); span = 0 }) ∷
+    -- a size below its inner product is 4 whatever the sign: (2,3) by (-2,-1)
+    besides shows room (strided 2 1 (two 2 3) (stride2 (minus 2) (minus 1))) defaults (record { answer = refused (fault 4 0); span = 0 }) ∷
+    -- (2,3) 1..6 right to left as a transfer, in two steps of four and two: midway 3 2 1 6 are in place, and the rest is untouched
+    besides shows stretch mirroredTransfer 0 4 (upTo 6 ++ over 6)
+    (record { status = 0; dim = 0; count = 4 }) (upTo 6 ++ (3 ∷ 2 ∷ 1 ∷ 6 ∷ 99 ∷ 99 ∷ [])) ∷
+    besides shows stretch mirroredTransfer 4 4 (upTo 6 ++ (3 ∷ 2 ∷ 1 ∷ 6 ∷ 99 ∷ 99 ∷ []))
+    (record { status = 0; dim = 0; count = 2 }) (upTo 6 ++ (3 ∷ 2 ∷ 1 ∷ 6 ∷ 5 ∷ 4 ∷ [])) ∷
     -- ---- planes joined, and what 12 refuses
     -- (2,2) 1..4, then 5..8, into (2,4) by strides (4,1), offsets (0,0) and (0,2), over eight 9s: 1 2 5 6 3 4 7 8
     besides shows move (compact 2 1 (two 2 2)) (withDstStride (withDstOffset defaults (two 0 0)) (two 4 1)) (upTo 4)
@@ -666,6 +767,13 @@ examples =
     -- permutation entry 3 and post entry 2 are not 0: 28 names the lower dimension, and nothing changes. Against
     -- `tail_names_the_highest`
     besides shows write turnTensor (withPost (withPerm turnConfig (1 ∷ 0 ∷ 0 ∷ 7 ∷ [])) (0 ∷ 0 ∷ 5 ∷ 0 ∷ [])) (over 131)
+    (fault 28 2) (over 131) ∷
+    -- A's record with strides (-3,-1), both ways: -3 is fd ff ff ff, which are 253 255 255 255, and -1 is ff ff ff ff. Against
+    -- `record_words_as_sign_and_size`
+    besides shows write mirroredTensor turnConfig (over 131) none mirroredRecord ∷
+    besides shows read mirroredRecord (reading mirroredTensor turnConfig) ∷
+    -- and with a stride of -1 past its rank: 28 at dimension 2. Against `negative_entry_past_the_rank`
+    besides shows write (strided 2 1 (2 ∷ 3 ∷ 0 ∷ 0 ∷ []) (minus 3 ∷ minus 1 ∷ minus 1 ∷ pos 0 ∷ [])) turnConfig (over 131)
     (fault 28 2) (over 131) ∷
     -- ---- records of version 2: 135 bytes, of which the last four are the fill
     -- A with a fill of 128, both ways

@@ -1,20 +1,21 @@
--- Places by adding, as 64 bits count, and spots: one stride further, and where the sums fit. Assumes nothing.
+-- Places by adding, as 64 bits count, and spots: one stride further, and where the sums fit; jumps up and down. Assumes nothing.
 use mathlib.Core.Path.{_≡_, sym, ap, _∙_}
-use mathlib.Core.Bool.{cond, true, _&&_}
+use mathlib.Core.Bool.{Bool, cond, true, false, _&&_}
 use Prim.Native.Nat.{ℕ, zero, suc, _+_, _-_, _*_, _%_, _^_, _≤_, _<_}
 use native.Mathlib.Numerals.{add-one}
-use native.Mathlib.Nat.{zero-mul, suc-mul, sub-zero, zero-sub, zero-min, one-mul, add-zero, add-assoc, add-mul, mod-lt, mod-add-mod, mod-eq-of-lt, min-eq-left, min-le-right}
+use native.Mathlib.Nat.{zero-mul, suc-mul, zero-sub, zero-min, one-mul, add-zero, add-assoc, add-mul, mul-add, mul-le-mul-right, mod-lt, mod-add-mod, mod-eq-of-lt, min-eq-left, min-le-right}
 use native.Mathlib.Decide.{decLt}
 use native.Mathlib.Omega.{arith}
-use borrow.Author.Tests.{lt-ltb, le-ltb}
+use borrow.Author.Tests.{lt-ltb, le-ltb, leb-true, leb-false, le-leb, lt-leb}
 use lib.Dec.{ltb}
 use Rattle.mover.specs.declared.plan.Axis.{Axis}
 use Rattle.mover.specs.declared.plan.Plan.{Plan}
 use Rattle.mover.specs.declared.spots.Spot.{Spot}
 use Rattle.mover.specs.Private.Elements.{planKept, summed, placeOf, homeOf}
 use Rattle.mover.specs.Private.Adding.{along, jumpsOf, spotAt, onwardOf, firstSpot}
-use Rattle.mover.specs.Private.Ready.{homeEnd, placeEnd, InExtents}
-use Rattle.mover.proofs.Places.{all-kept-of, summed-most, place-most}
+use Rattle.mover.specs.Private.Plans.{jumpBy, goesDown, jumpLength}
+use Rattle.mover.specs.Private.Ready.{reachOf, placeEnd, InExtents}
+use Rattle.mover.proofs.Places.{all-kept-of, place-most}
 
 module _ (a j : ℕ) where
   pub along-fits : (k : ℕ) → along a j k < 2 ^ 64
@@ -39,13 +40,42 @@ pub along-is : (a j k : ℕ) → a + k * j < 2 ^ 64 → along a j k ≡ a + k * 
 unfolding along
 along-is a j k h = mod-eq-of-lt h
 
--- a jump down, as a source has that counts down: one add serves both directions
-pub along-down : (a j k : ℕ) → a < 2 ^ 64 → j ≤ 2 ^ 64 → k * j ≤ a → along a (2 ^ 64 - j) k ≡ a - k * j
-along-down a j zero fa fj h = rw (zero-mul j, sub-zero a) (along-none a (2 ^ 64 - j) fa)
-along-down a j (suc k) fa fj h =
-    let m : suc k * j ≡ k * j + j = suc-mul k j in
-    let e = along-down a j k fa fj (omega arith) in
-    ap (along a (2 ^ 64 - j)) (sym (add-one k)) ∙ sym (along-next a (2 ^ 64 - j) k) ∙ rw (e, m) (omega arith)
+-- ---- jumps up and down
+
+-- k jumps down, and k times their length up: as many rounds of 64 bits
+pub rounds : (k j : ℕ) → j ≤ 2 ^ 64 → k * j + k * (2 ^ 64 - j) ≡ k * 2 ^ 64
+rounds k j h = let e : j + (2 ^ 64 - j) ≡ 2 ^ 64 = omega arith in sym (mul-add k j (2 ^ 64 - j)) ∙ ap (λ (y : ℕ). k * y) e
+
+module _ (j : ℕ) where
+  pub length-up : goesDown j ≡ false → jumpLength j ≡ j
+  length-up e = rw e
+
+  pub length-down : goesDown j ≡ true → jumpLength j ≡ 2 ^ 64 - j
+  length-down e = rw e
+
+-- n bytes up or down, as a jump: its length is n
+module _ (n : ℕ) (some : 0 < n) (few : n < 2 ^ 63) where
+  pub jump-length : (down : Bool) → jumpLength (jumpBy down n) ≡ n
+  jump-length true = let e : (2 ^ 64 - n) % 2 ^ 64 ≡ 2 ^ 64 - n = mod-eq-of-lt (omega arith) in rw (e, le-leb (2 ^ 63) (2 ^ 64 - n) (omega arith)) (omega arith)
+  jump-length false = rw (lt-leb (2 ^ 63) n few)
+
+-- a jump is a number of 64 bits
+pub jump-fits-64 : (n : ℕ) (down : Bool) → n < 2 ^ 64 → jumpBy down n < 2 ^ 64
+jump-fits-64 n true h = mod-lt (2 ^ 64 - n) (omega arith)
+jump-fits-64 n false h = h
+
+-- where a jump down ends, as a difference
+module _ (a j n : ℕ) (fj : j < 2 ^ 64) where
+  pub after-up : goesDown j ≡ false → (a + n * jumpLength j) % 2 ^ 64 ≡ along a j n
+  unfolding along
+  after-up e = rw (length-up j e)
+
+  pub after-down : goesDown j ≡ true → {r : ℕ} → r < 2 ^ 64 → (r + n * jumpLength j) % 2 ^ 64 ≡ a → r ≡ along a j n
+  unfolding along
+  after-down e f w =
+      let k = rounds n j (omega arith) in
+      let v = rw (length-down j e) at w in
+      omega arith
 
 -- ---- the spot at a coordinate
 
@@ -104,7 +134,7 @@ module _ (p : Plan) (c0 c1 c2 : ℕ) {slab layer row : Spot} (e0 : slab ≡ spot
   unfolding spotAt along placeOf summed
   row-place c3 = rw (e2, e1, e0) (simp mod-add-mod (ap (λ (y : ℕ). y % 2 ^ 64) (omega arith)))
 
-  pub row-home : (c3 : ℕ) → planKept p c0 c1 c2 c3 ≡ true → along (row .at) (p .d3 .jump) (c3 - p .d3 .pre) ≡ homeOf p c0 c1 c2 c3 % 2 ^ 64
+  pub row-home : (c3 : ℕ) → planKept p c0 c1 c2 c3 ≡ true → along (row .at) (p .d3 .jump) (c3 - p .d3 .pre) ≡ homeOf p c0 c1 c2 c3
   unfolding spotAt along homeOf summed
   row-home c3 h =
       let k = all-kept-of p c0 c1 c2 c3 h in
@@ -113,27 +143,34 @@ module _ (p : Plan) (c0 c1 c2 : ℕ) {slab layer row : Spot} (e0 : slab ≡ spot
 
 -- ---- where a step begins: no part of the sums is larger than the whole, which fits
 
-module _ (s : Spot) (x : Axis) (c : ℕ) (t : s .to + c * x .stride < 2 ^ 64) (a : s .at + jumpsOf x c * x .jump < 2 ^ 64) where
-  pub spot-made : record { to = s .to + c * x .stride; at = s .at + jumpsOf x c * x .jump } ≡ spotAt s x c
+module _ (s : Spot) (x : Axis) (c : ℕ) (t : s .to + c * x .stride < 2 ^ 64) where
+  pub spot-made : {a : ℕ} → a ≡ along (s .at) (x .jump) (jumpsOf x c) → record { to = s .to + c * x .stride; at = a } ≡ spotAt s x c
   unfolding spotAt along
-  spot-made =
+  spot-made e =
       let u = sym (mod-eq-of-lt t) in
-      let v = sym (mod-eq-of-lt a) in
-      λ i. record { to = u i; at = v i }
+      λ i. record { to = u i; at = e i }
 
-  pub spot-is : {r : Spot} → r ≡ spotAt s x c → (r .to ≡ s .to + c * x .stride) × (r .at ≡ s .at + jumpsOf x c * x .jump)
-  spot-is e = let m = e ∙ sym spot-made in (ap (λ (y : Spot). y .to) m, ap (λ (y : Spot). y .at) m)
+  pub spot-to : {r : Spot} → r ≡ spotAt s x c → r .to ≡ s .to + c * x .stride
+  unfolding spotAt along
+  spot-to e = ap (λ (y : Spot). y .to) e ∙ mod-eq-of-lt t
+
+-- the source goes no further than from the first kept coordinate to the last
+pub jumps-fit : (x : Axis) (c : ℕ) → (x .count - 1) * jumpLength (x .jump) < 2 ^ 64 → jumpsOf x c * jumpLength (x .jump) < 2 ^ 64
+unfolding jumpsOf
+jumps-fit x c h = let m = mul-le-mul-right (jumpLength (x .jump)) (min-le-right (c - x .pre) (x .count - 1)) in omega arith
+
+-- in each dimension that fits
+pub record Reaches (p : Plan) : Type 0 where
+  pub far0 : (p .d0 .count - 1) * jumpLength (p .d0 .jump) < 2 ^ 64
+  pub far1 : (p .d1 .count - 1) * jumpLength (p .d1 .jump) < 2 ^ 64
+  pub far2 : (p .d2 .count - 1) * jumpLength (p .d2 .jump) < 2 ^ 64
+  pub far3 : (p .d3 .count - 1) * jumpLength (p .d3 .jump) < 2 ^ 64
+
+pub reaches : (p : Plan) → reachOf p < 2 ^ 64 → Reaches p
+unfolding reachOf summed
+reaches p h = record { far0 = omega arith; far1 = omega arith; far2 = omega arith; far3 = omega arith }
 
 module _ (p : Plan) {c0 c1 c2 c3 : ℕ} (w : InExtents p c0 c1 c2 c3) where
   pub begin-to : placeEnd p < 2 ^ 64 → p .base + c0 * p .d0 .stride + c1 * p .d1 .stride + c2 * p .d2 .stride + c3 * p .d3 .stride < 2 ^ 64
   unfolding placeOf summed
   begin-to h = let m = place-most p c0 c1 c2 c3 w in omega arith
-
-  pub begin-at : homeEnd p < 2 ^ 64
-      → p .home + jumpsOf (p .d0) c0 * p .d0 .jump + jumpsOf (p .d1) c1 * p .d1 .jump + jumpsOf (p .d2) c2 * p .d2 .jump + jumpsOf (p .d3) c3 * p .d3 .jump < 2 ^ 64
-  unfolding homeEnd summed jumpsOf
-  begin-at h =
-      let m = summed-most (p .home) (p .d0 .jump) (p .d1 .jump) (p .d2 .jump) (p .d3 .jump)
-      (min-le-right (c0 - p .d0 .pre) (p .d0 .count - 1)) (min-le-right (c1 - p .d1 .pre) (p .d1 .count - 1))
-      (min-le-right (c2 - p .d2 .pre) (p .d2 .count - 1)) (min-le-right (c3 - p .d3 .pre) (p .d3 .count - 1)) in
-      omega arith

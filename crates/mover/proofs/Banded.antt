@@ -18,10 +18,11 @@ use Rattle.mover.specs.Private.Elements.{sourceBytes, axisKept, planKept
 use Rattle.mover.specs.Private.Adding.{along, jumpsOf, spotAt, firstSpot}
 use Rattle.mover.specs.Private.Patches.{rowsStored}
 use Rattle.mover.specs.Private.Bands.{bandPlace, bandHome, bandBytes, bandMoved, BandAt, Banded, behindRows}
-use Rattle.mover.specs.Private.Ready.{homeEnd, placeEnd, placeBy, Rising, Ready, InExtents}
-use Rattle.mover.proofs.Bytes.{source-long, pick-same}
-use Rattle.mover.proofs.Places.{place-least, place-most, home-least, home-most, all-kept-of, apart-part}
-use Rattle.mover.proofs.Adding.{along-none, along-on, jumps-kept, spot-fits, spot-is, begin-to, begin-at, row-place, row-home}
+use Rattle.mover.specs.Private.Plans.{jumpLength}
+use Rattle.mover.specs.Private.Ready.{placeEnd, placeBy, Rising, Ready, InExtents}
+use Rattle.mover.proofs.Bytes.{pick-same}
+use Rattle.mover.proofs.Places.{place-least, place-most, all-kept-of, apart-part}
+use Rattle.mover.proofs.Adding.{along-none, along-on, jumps-kept, spot-fits, spot-to, reaches, begin-to, row-place, row-home}
 use Rattle.mover.proofs.ByNumber.{moved-add, numberOf, number-lt, source-same}
 use Rattle.mover.proofs.Crossing.{along-cross}
 use Rattle.mover.proofs.Turns.{run-moved, At, carry, at-was-ready}
@@ -61,7 +62,7 @@ module _ (p : Plan) (c0 c1 c2 : ℕ) {slab layer row : Spot} (e0 : slab ≡ spot
   band-place : (i j : ℕ) → bandPlace p row i j ≡ placeOf p c0 c1 (c2 + i) j % 2 ^ 64
   band-place i j = ap (λ (y : ℕ). along y (p .d3 .stride) j) (row-starts i) ∙ row-place p c0 c1 (c2 + i) e0 e1 refl j
 
-  band-home : (i j : ℕ) → planKept p c0 c1 (c2 + 0) j ≡ true → planKept p c0 c1 (c2 + i) j ≡ true → bandHome p row i j ≡ homeOf p c0 c1 (c2 + i) j % 2 ^ 64
+  band-home : (i j : ℕ) → planKept p c0 c1 (c2 + 0) j ≡ true → planKept p c0 c1 (c2 + i) j ≡ true → bandHome p row i j ≡ homeOf p c0 c1 (c2 + i) j
   unfolding spotAt
   band-home i j g h =
       let z = all-kept-of p c0 c1 (c2 + 0) j g .k2 in
@@ -75,15 +76,13 @@ module _ (p : Plan) (c0 c1 c2 : ℕ) {slab layer row : Spot} (e0 : slab ≡ spot
       ∙ ap (λ (y : ℕ). along y (p .d3 .jump) (j - p .d3 .pre)) (along-on (layer .at) (p .d2 .jump) (jumpsOf (p .d2) c2) i ∙ ap (along (layer .at) (p .d2 .jump)) n)
       ∙ row-home p c0 c1 (c2 + i) e0 e1 refl j h)
 
-  -- where the layer starts, as plain sums
-  layer-is : {m : ℕ} → InExtents p c0 c1 m 0 → homeEnd p < 2 ^ 64 → placeEnd p < 2 ^ 64
-      → (layer .to + m * p .d2 .stride < 2 ^ 64) × (layer .at + jumpsOf (p .d2) m * p .d2 .jump < 2 ^ 64)
-  layer-is {m} w fh fp =
-      let t = begin-to p w fp in
-      let a = begin-at p w fh in
-      let s0 = spot-is (firstSpot p) (p .d0) c0 (omega arith) (omega arith) e0 in
-      let s1 = spot-is slab (p .d1) c1 (omega arith) (omega arith) e1 in
-      (omega arith, omega arith)
+  -- where a row of the layer starts, as a plain sum
+  layer-to : {m : ℕ} → InExtents p c0 c1 m 0 → placeEnd p < 2 ^ 64 → layer .to + m * p .d2 .stride < 2 ^ 64
+  layer-to {m} w f =
+      let t = begin-to p w f in
+      let s0 = spot-to (firstSpot p) (p .d0) c0 (omega arith) e0 in
+      let s1 = spot-to slab (p .d1) c1 (omega arith) e1 in
+      omega arith
 
 -- elements of a layer share no byte: of two, that with the smaller number ends before the other begins
 module _ (p : Plan) {q c0 c1 c2 c3 : ℕ} (e : numberOf p c0 c1 c2 c3 ≡ q) (w : InExtents p c0 c1 c2 c3) where
@@ -146,7 +145,6 @@ module _ {o : Origin} {p : Plan} {s d₀ : List ℕ} {from budget : ℕ} {d : Li
   its-home : (i j : ℕ) → i < b .rows → (b .kept && axisKept (p .d3) j) ≡ true → bandHome p (u .row) i j ≡ homeOf p c0 c1 (c2 + i) j
   its-home i j hi k =
       band-home p c0 c1 c2 (a .slab) (a .layer) (a .row) i j (its-kept 0 j some ∙ k) (its-kept i j hi ∙ k)
-      ∙ mod-eq-of-lt (omega (arith, home-most p c0 c1 (c2 + i) j (its-kept i j hi ∙ k), r .span, source-long o s d))
 
   -- what it asks
   pub band-asks : Banded o p s d (u .row) b
@@ -154,10 +152,10 @@ module _ {o : Origin} {p : Plan} {s d₀ : List ℕ} {from budget : ℕ} {d : Li
     sized = r .sized;
     axis = r .axes .in3;
     places = λ i j hi hj. rw (its-place i j hi hj) (omega (arith, place-most p c0 c1 (c2 + i) j (its-within i j hi hj), r .need));
-    homes = λ i j hi k. rw (its-home i j hi k) (omega (arith, home-most p c0 c1 (c2 + i) j (its-kept i j hi ∙ k), r .span));
+    homes = λ i j hi k. rw (its-home i j hi k) (r .span c0 c1 (c2 + i) j (its-kept i j hi ∙ k));
     parted = λ i j m n hi k hm hn.
         rw (its-home i j hi k, its-place m n hm hn)
-        (apart-part o (r .apart) (home-least p c0 c1 (c2 + i) j) (home-most p c0 c1 (c2 + i) j (its-kept i j hi ∙ k))
+        (apart-part o (r .apart c0 c1 (c2 + i) j (its-kept i j hi ∙ k)) (omega arith) (omega arith)
         (place-least p c0 c1 (c2 + m) n) (place-most p c0 c1 (c2 + m) n (its-within m n hm hn)));
     off = λ i j m n hi hm hj hn ne.
         rw (its-place i j hi hj, its-place m n hm hn)
@@ -173,11 +171,13 @@ module _ {o : Origin} {p : Plan} {s d₀ : List ℕ} {from budget : ℕ} {d : Li
       ∙ rw (its-kept i j hi) (pick-same (b .kept && axisKept (p .d3) j) (padding (p .size) (p .pad)) (λ t. rw (its-home i j hi t)))
 
   -- the spots behind it
-  pub band-behind : homeEnd p < 2 ^ 64 → placeEnd p < 2 ^ 64
-      → (u .layer .to + (c2 + b .rows - 1) * p .d2 .stride < 2 ^ 64) × (u .layer .at + jumpsOf (p .d2) (c2 + b .rows - 1) * p .d2 .jump < 2 ^ 64)
-  band-behind fh fp =
-      layer-is p c0 c1 c2 (a .slab) (a .layer) (a .row)
-      (record { in0 = h0; in1 = h1; in2 = omega (arith, l .within); in3 = omega (arith, r .axes .in3 .some, r .axes .in3 .within) }) fh fp
+  pub band-behind : placeEnd p < 2 ^ 64
+      → (u .layer .to + (c2 + b .rows - 1) * p .d2 .stride < 2 ^ 64) × ((p .d2 .count - 1) * jumpLength (p .d2 .jump) < 2 ^ 64)
+  band-behind f = (
+    layer-to p c0 c1 c2 (a .slab) (a .layer) (a .row)
+        (record { in0 = h0; in1 = h1; in2 = omega (arith, l .within); in3 = omega (arith, r .axes .in3 .some, r .axes .in3 .within) }) f,
+    reaches p (r .reach) .far2,
+  )
 
   pub band-turn : {d' : List ℕ} {v : Spots} → d' ≡ bandMoved o p s d (u .row) b → v ≡ behindRows u (p .d2) (c2 + b .rows)
       → At o p s d₀ from budget d' c0 c1 (c2 + b .rows) c3 (left - b .elements) v

@@ -14,7 +14,7 @@ use Rattle.mover.specs.declared.elements.Origin.the-variants.{Lent, Insi
 use Rattle.mover.specs.Private.Elements.{sourceBytes, planKept, placeOf, homeOf, padding, planBytes, putAt, co0, co1, co2, co3, putNumber, planTotal, movedBy}
 use Rattle.mover.specs.Private.Ready.{placeEnd, GoodAxes, Ready, InExtents}
 use Rattle.mover.proofs.Bytes.{getD-sets-out, length-take-most, length-cond, pick-same, bytes-same}
-use Rattle.mover.proofs.Places.{place-least, place-most, home-least, home-most, axis-some}
+use Rattle.mover.proofs.Places.{place-least, place-most, axis-some}
 
 -- ---- movedBy
 
@@ -137,9 +137,7 @@ source-same Lent p s d from n c0 c1 c2 c3 r m = refl
 source-same Inside p s d from n c0 c1 c2 c3 r m =
     pick-same (planKept p c0 c1 c2 c3) (padding (p .size) (p .pad))
     (λ t.
-    let a = home-least p c0 c1 c2 c3 in
-    let b = home-most p c0 c1 c2 c3 t in
     bytes-same (movedBy p d from n d) d (homeOf p c0 c1 c2 c3) (p .size) (length-moved p d from n d)
     (λ k u v.
     moved-out p d (r .axes) from n d k m
-    (⊎-elim (λ x. inl (omega arith)) (λ y. inr (omega arith)) (r .apart))))
+    (⊎-elim (λ x. inl (omega arith)) (λ y. inr (omega arith)) (r .apart c0 c1 c2 c3 t))))

@@ -2,9 +2,9 @@
 -- nothing.
 use mathlib.Core.Path.{_≡_, refl, sym, ap, _∙_}
 use mathlib.Core.Logic.{⊎-elim}
-use mathlib.Core.Bool.{true, _&&_, and-assoc, and-true}
+use mathlib.Core.Bool.{Bool, true, false, not, _&&_, Bool·beq, and-assoc, and-true, true≢false}
 use mathlib.Core.List.{List}
-use Prim.Native.Nat.{ℕ, zero, suc, _+_, _-_, _*_, _^_, _≤_, _<_, min}
+use Prim.Native.Nat.{ℕ, zero, suc, _+_, _-_, _*_, _%_, _^_, _≤_, _<_, min}
 use native.Mathlib.Nat.{zero-add, zero-mul, add-mul, mul-assoc, mul-comm, mul-one, one-mul, suc-mul, mul-pos, mul-le-mul-left, mul-le-mul-right, min-le-right}
 use native.Mathlib.Decide.{decLt}
 use native.Mathlib.Omega.{arith}
@@ -15,14 +15,16 @@ use lib.ListN.{take, drop}
 use Rattle.mover.specs.declared.plan.Axis.{Axis}
 use Rattle.mover.specs.declared.plan.Plan.{Plan}
 use Rattle.mover.specs.declared.elements.Origin.{Origin}
-use Rattle.mover.specs.Private.Plans.{lone}
+use Rattle.mover.specs.Private.Plans.{lone, goesDown, jumpLength}
 use Rattle.mover.specs.Private.Elements.{axisKept, planKept, summed, placeOf, homeOf, padding, planBytes, planTotal, co0, co1, co2, co3, putAt, putNumber, movedBy, sourceBytes, movedFrom}
-use Rattle.mover.specs.Private.Ready.{homeEnd, placeEnd, GoodAxis, GoodAxes, placeBy, InExtents, Ready}
-use Rattle.mover.specs.Private.Folding.{Follows, Joins, asOne, bytesBy, Foldable, Folds}
+use Rattle.mover.specs.Private.Ready.{reachOf, placeEnd, GoodAxis, GoodAxes, placeBy, InExtents, Ready}
+use Rattle.mover.specs.Private.Runs.{BytesApart}
+use Rattle.mover.specs.Private.Folding.{Follows, Joins, asOne, keptBy, homeBy, Foldable, Folds}
 use Rattle.mover.proofs.Bytes.{pick-same}
 use Rattle.mover.proofs.Keeping.{range-test}
-use Rattle.mover.proofs.Places.{all-kept-of, axis-some}
-use Rattle.mover.proofs.ByNumber.{numberOf, coords, spread-good, within-good}
+use Rattle.mover.proofs.Places.{all-kept-of, kept-in, axis-some}
+use Rattle.mover.proofs.ByNumber.{numberOf, number-lt, coords, spread-good, within-good}
+use Rattle.mover.proofs.Adding.{rounds, length-up, length-down}
 
 -- ---- two axes as one
 
@@ -62,14 +64,37 @@ module _ (p a e b : ℕ) (l : b < e) where
         ])
   ]
 
+-- two answers that are not told apart
+pub same-way : (a b : Bool) → not (Bool·beq a b) ≡ false → a ≡ b
+same-way true true e = refl
+same-way true false e = absurd (true≢false e)
+same-way false true e = absurd (true≢false e)
+same-way false false e = refl
+
+-- an outer jump that is e inner ones, in the same direction: k of them come to the same as k e inner ones
+turned : (m k n e i j : ℕ) → i < 2 ^ 64 → j < 2 ^ 64 → goesDown i ≡ goesDown j → jumpLength i ≡ e * jumpLength j
+    → (m + (k * i + n)) % 2 ^ 64 ≡ (m + (k * (e * j) + n)) % 2 ^ 64
+turned m k n e i j fi fj w l = by (goesDown j) refl
+  where
+    by : (down : Bool) → goesDown j ≡ down → (m + (k * i + n)) % 2 ^ 64 ≡ (m + (k * (e * j) + n)) % 2 ^ 64
+    by false g = let q : i ≡ e * j = sym (length-up i (w ∙ g)) ∙ l ∙ ap (λ (y : ℕ). e * y) (length-up j g) in rw q
+    by true g =
+        let q : 2 ^ 64 - i ≡ e * (2 ^ 64 - j) = sym (length-down i (w ∙ g)) ∙ l ∙ ap (λ (y : ℕ). e * y) (length-down j g) in
+        let a = rounds k i (omega arith) in
+        let b = rounds (k * e) j (omega arith) in
+        let c : k * (2 ^ 64 - i) ≡ k * e * (2 ^ 64 - j) = ap (λ (y : ℕ). k * y) q ∙ sym (mul-assoc k e (2 ^ 64 - j)) in
+        let d = mul-assoc k e j in
+        omega arith
+
 -- z is x and y as one: the coordinates a of x and b of y are its coordinate a x (extent of y) + b
 record Both (x y z : Axis) : Type 0 where
   pub good : GoodAxis z
   pub extent : z .extent ≡ x .extent * y .extent
   pub kept : (a b : ℕ) → b < y .extent → axisKept z (a * y .extent + b) ≡ (axisKept x a && axisKept y b)
   pub stride : (a b : ℕ) → b < y .extent → (a * y .extent + b) * z .stride ≡ a * x .stride + b * y .stride
-  pub jump : (a b : ℕ) → b < y .extent → x .pre ≤ a → (a * y .extent + b - z .pre) * z .jump ≡ (a - x .pre) * x .jump + (b - y .pre) * y .jump
-  pub reach : (z .count - 1) * z .jump ≡ (x .count - 1) * x .jump + (y .count - 1) * y .jump
+  pub jump : (a b : ℕ) → b < y .extent → x .pre ≤ a → (m : ℕ)
+      → (m + (a * y .extent + b - z .pre) * z .jump) % 2 ^ 64 ≡ (m + ((a - x .pre) * x .jump + (b - y .pre) * y .jump)) % 2 ^ 64
+  pub reach : (z .count - 1) * jumpLength (z .jump) ≡ (x .count - 1) * jumpLength (x .jump) + (y .count - 1) * jumpLength (y .jump)
   pub last : (z .extent - 1) * z .stride ≡ (x .extent - 1) * x .stride + (y .extent - 1) * y .stride
 
 module _ {x y : Axis} (u : GoodAxis x) (v : GoodAxis y) where
@@ -87,7 +112,9 @@ module _ {x y : Axis} (u : GoodAxis x) (v : GoodAxis y) where
         extent = rw (h, mul-one);
         kept = λ a b l. rw (alone a (y .extent) b h l, all-kept (omega arith) b l, and-true);
         stride = λ a b l. let z : b ≡ 0 = omega arith in rw (alone a (y .extent) b h l, z) (omega arith);
-        jump = λ a b l m. let z : b - y .pre ≡ 0 = omega arith in rw (alone a (y .extent) b h l, z) (omega arith);
+        jump = λ a b l g m.
+            let z : b - y .pre ≡ 0 = omega arith in
+            rw (alone a (y .extent) b h l, z) (ap (λ (k : ℕ). k % 2 ^ 64) (omega arith));
         reach = let z : y .count - 1 ≡ 0 = omega arith in rw z (omega arith);
         last = let z : y .extent - 1 ≡ 0 = omega arith in rw z (omega arith);
       }
@@ -106,14 +133,16 @@ module _ {x y : Axis} (u : GoodAxis x) (v : GoodAxis y) where
         good = record {
           some = mul-pos (u .some) some;
           within = omega (arith, add-mul (x .pre) (x .count) e, mul-le-mul-right e (u .within));
+          fits = v .fits;
         };
         extent = refl;
         kept = λ a b l. range-scaled (x .pre) a e b l (x .count) ∙ sym (ap (λ t. axisKept x a && t) (all-kept all b l) ∙ and-true _);
         stride = λ a b l. rw (f .stride, add-mul (a * e) b (y .stride), mul-assoc a e (y .stride));
-        jump = λ a b l m.
+        jump = λ a b l g m.
             let z : b - y .pre ≡ b = omega arith in
-            rw (f .jump, past-scaled (x .pre) a e b l m, z, add-mul ((a - x .pre) * e) b (y .jump), mul-assoc (a - x .pre) e (y .jump));
-        reach = rw (f .jump, all) (last-scaled (x .count) e (y .jump) (u .some) some);
+            rw (past-scaled (x .pre) a e b l g, z, add-mul ((a - x .pre) * e) b (y .jump), mul-assoc (a - x .pre) e (y .jump))
+            (sym (turned m (a - x .pre) (b * y .jump) e (x .jump) (y .jump) (u .fits) (v .fits) (f .way) (f .jump)));
+        reach = rw (f .jump, all) (last-scaled (x .count) e (jumpLength (y .jump)) (u .some) some);
         last = rw (f .stride) (last-scaled (x .extent) e (y .stride) (axis-some u) some);
       }
 
@@ -148,20 +177,24 @@ module _ {p r : Plan} (g : GoodAxes p) (q : ℕ) {k0 k1 k2 k3 : ℕ} (t : Twin p
       let c = coords r (t .number ∙ spread-good p g q .back) (t .within) in
       rw (c .at0, c .at1, c .at2, c .at3) (t .place)
 
-  twin-bytes : r .size ≡ p .size → r .pad ≡ p .pad → (s : List ℕ) → bytesBy r s q ≡ bytesBy p s q
-  unfolding bytesBy planBytes homeOf
-  twin-bytes es ep s =
+  twin-kept : keptBy r q ≡ keptBy p q
+  unfolding keptBy
+  twin-kept =
       let c = coords r (t .number ∙ spread-good p g q .back) (t .within) in
-      rw (c .at0, c .at1, c .at2, c .at3, t .kept, es, ep)
-      (pick-same (planKept p (co0 p q) (co1 p q) (co2 p q) (co3 p q)) (padding (p .size) (p .pad))
-      (λ h. ap (λ (n : ℕ). take (p .size) (drop n s)) (t .home h)))
+      rw (c .at0, c .at1, c .at2, c .at3) (t .kept)
+
+  twin-home : keptBy p q ≡ true → homeBy r q ≡ homeBy p q
+  unfolding keptBy homeBy
+  twin-home k =
+      let c = coords r (t .number ∙ spread-good p g q .back) (t .within) in
+      rw (c .at0, c .at1, c .at2, c .at3) (t .home k)
 
 -- an outer number, and two coordinates as one
 nest : (a e f b c : ℕ) → a * (e * f) + (b * f + c) ≡ (a * e + b) * f + c
 nest a e f b c = rw (add-mul (a * e) b f, mul-assoc a e f) (omega arith)
 
 lone-good : GoodAxis lone
-lone-good = record { some = omega arith; within = omega arith }
+lone-good = record { some = omega arith; within = omega arith; fits = omega arith }
 
 module _ (p : Plan) (a b c d z : Axis) (g : GoodAxes (withAxes p a b c d)) where
   abbrev old : Plan
@@ -176,20 +209,21 @@ module _ (p : Plan) (a b c d z : Axis) (g : GoodAxes (withAxes p a b c d)) where
       within = record { in0 = omega arith; in1 = rw (w .extent) (digits-lt (i .in0) (i .in1)); in2 = i .in2; in3 = i .in3 };
       place = omega (arith, w .stride c0 c1 (i .in1));
       kept = rw (w .kept c0 c1 (i .in1));
-      home = λ h. omega (arith, w .jump c0 c1 (i .in1) (all-kept-of old c0 c1 c2 c3 h .k0 .past));
+      home = λ h. omega (arith, w .jump c0 c1 (i .in1) (all-kept-of old c0 c1 c2 c3 h .k0 .past) (p .home + ((c2 - c .pre) * c .jump + (c3 - d .pre) * d .jump)));
     }
 
     first-folds : Folds old (withAxes p lone z c d)
-    unfolding planTotal homeEnd placeEnd summed
+    unfolding planTotal reachOf placeEnd summed
     first-folds = record {
       axes = record { in0 = lone-good; in1 = w .good; in2 = g .in2; in3 = g .in3 };
       total = rw (w .extent, one-mul);
       size = refl;
-      home = refl;
+      pad = refl;
       base = refl;
       place = λ q l. twin-place g q (first-twin (within-good old g q l));
-      bytes = λ s q l. twin-bytes g q (first-twin (within-good old g q l)) refl refl s;
-      «home_end» = omega (arith, w .reach);
+      kept = λ q l. twin-kept g q (first-twin (within-good old g q l));
+      home = λ q l. twin-home g q (first-twin (within-good old g q l));
+      reach = omega (arith, w .reach);
       «place_end» = omega (arith, w .last);
     }
 
@@ -202,20 +236,21 @@ module _ (p : Plan) (a b c d z : Axis) (g : GoodAxes (withAxes p a b c d)) where
       within = record { in0 = omega arith; in1 = i .in0; in2 = rw (w .extent) (digits-lt (i .in1) (i .in2)); in3 = i .in3 };
       place = omega (arith, w .stride c1 c2 (i .in2));
       kept = rw (w .kept c1 c2 (i .in2), and-assoc (axisKept a c0) (axisKept b c1) (axisKept c c2));
-      home = λ h. omega (arith, w .jump c1 c2 (i .in2) (all-kept-of old c0 c1 c2 c3 h .k1 .past));
+      home = λ h. omega (arith, w .jump c1 c2 (i .in2) (all-kept-of old c0 c1 c2 c3 h .k1 .past) (p .home + ((c0 - a .pre) * a .jump + (c3 - d .pre) * d .jump)));
     }
 
     middle-folds : Folds old (withAxes p lone a z d)
-    unfolding planTotal homeEnd placeEnd summed
+    unfolding planTotal reachOf placeEnd summed
     middle-folds = record {
       axes = record { in0 = lone-good; in1 = g .in0; in2 = w .good; in3 = g .in3 };
       total = rw (w .extent, one-mul, mul-assoc (a .extent) (b .extent) (c .extent));
       size = refl;
-      home = refl;
+      pad = refl;
       base = refl;
       place = λ q l. twin-place g q (middle-twin (within-good old g q l));
-      bytes = λ s q l. twin-bytes g q (middle-twin (within-good old g q l)) refl refl s;
-      «home_end» = omega (arith, w .reach);
+      kept = λ q l. twin-kept g q (middle-twin (within-good old g q l));
+      home = λ q l. twin-home g q (middle-twin (within-good old g q l));
+      reach = omega (arith, w .reach);
       «place_end» = omega (arith, w .last);
     }
 
@@ -228,20 +263,21 @@ module _ (p : Plan) (a b c d z : Axis) (g : GoodAxes (withAxes p a b c d)) where
       within = record { in0 = omega arith; in1 = i .in0; in2 = i .in1; in3 = rw (w .extent) (digits-lt (i .in2) (i .in3)) };
       place = omega (arith, w .stride c2 c3 (i .in3));
       kept = rw (w .kept c2 c3 (i .in3), and-assoc (axisKept a c0 && axisKept b c1) (axisKept c c2) (axisKept d c3));
-      home = λ h. omega (arith, w .jump c2 c3 (i .in3) (all-kept-of old c0 c1 c2 c3 h .k2 .past));
+      home = λ h. omega (arith, w .jump c2 c3 (i .in3) (all-kept-of old c0 c1 c2 c3 h .k2 .past) (p .home + ((c0 - a .pre) * a .jump + (c1 - b .pre) * b .jump)));
     }
 
     last-folds : Folds old (withAxes p lone a b z)
-    unfolding planTotal homeEnd placeEnd summed
+    unfolding planTotal reachOf placeEnd summed
     last-folds = record {
       axes = record { in0 = lone-good; in1 = g .in0; in2 = g .in1; in3 = w .good };
       total = rw (w .extent, one-mul, mul-assoc (a .extent * b .extent) (c .extent) (d .extent));
       size = refl;
-      home = refl;
+      pad = refl;
       base = refl;
       place = λ q l. twin-place g q (last-twin (within-good old g q l));
-      bytes = λ s q l. twin-bytes g q (last-twin (within-good old g q l)) refl refl s;
-      «home_end» = omega (arith, w .reach);
+      kept = λ q l. twin-kept g q (last-twin (within-good old g q l));
+      home = λ q l. twin-home g q (last-twin (within-good old g q l));
+      reach = omega (arith, w .reach);
       «place_end» = omega (arith, w .last);
     }
 
@@ -252,11 +288,12 @@ folds-same g = record {
   axes = g;
   total = refl;
   size = refl;
-  home = refl;
+  pad = refl;
   base = refl;
   place = λ q l. refl;
-  bytes = λ s q l. refl;
-  «home_end» = refl;
+  kept = λ q l. refl;
+  home = λ q l k. refl;
+  reach = refl;
   «place_end» = refl;
 }
 
@@ -265,11 +302,12 @@ folds-then f h = let e = f .total in record {
   axes = h .axes;
   total = h .total ∙ f .total;
   size = h .size ∙ f .size;
-  home = h .home ∙ f .home;
+  pad = h .pad ∙ f .pad;
   base = h .base ∙ f .base;
   place = λ q l. h .place q (omega arith) ∙ f .place q l;
-  bytes = λ s q l. h .bytes s q (omega arith) ∙ f .bytes s q l;
-  «home_end» = h .«home_end» ∙ f .«home_end»;
+  kept = λ q l. h .kept q (omega arith) ∙ f .kept q l;
+  home = λ q l k. h .home q (omega arith) (f .kept q l ∙ k) ∙ f .home q l k;
+  reach = h .reach ∙ f .reach;
   «place_end» = h .«place_end» ∙ f .«place_end»;
 }
 
@@ -356,6 +394,22 @@ module _ {p : Plan} {a b c d : Axis} (k : Foldable p) (f : Folds p (withAxes p a
 pub ready-foldable : {o : Origin} {p : Plan} {s d : List ℕ} → Ready o p s d → Foldable p
 ready-foldable r = record { axes = r .axes; few = r .few }
 
+-- what is kept of the folded plan is kept of the plan, and its source element is the same
+folded-home : {o : Origin} {p r : Plan} {s d : List ℕ} → Folds p r → Ready o p s d → (c0 c1 c2 c3 : ℕ) → planKept r c0 c1 c2 c3 ≡ true
+    → let q = numberOf r c0 c1 c2 c3 in (planKept p (co0 p q) (co1 p q) (co2 p q) (co3 p q) ≡ true) × (homeOf r c0 c1 c2 c3 ≡ homeOf p (co0 p q) (co1 p q) (co2 p q) (co3 p q))
+unfolding keptBy homeBy
+folded-home {o} {p} {r} f w c0 c1 c2 c3 k =
+    let i = kept-in r c0 c1 c2 c3 (f .axes) k in
+    let q = numberOf r c0 c1 c2 c3 in
+    let l : q < planTotal p = omega (arith, number-lt r i, f .total) in
+    let e = coords r {q = q} refl i in
+    let g : keptBy r q ≡ true = rw (e .at0, e .at1, e .at2, e .at3) k in
+    let h : keptBy p q ≡ true = sym (f .kept q l) ∙ g in
+    (h, sym (rw (e .at0, e .at1, e .at2, e .at3) at (sym (f .home q l h))))
+
+apart-same : (o : Origin) {a a' z z' b b' e e' : ℕ} → a ≡ a' → z ≡ z' → b ≡ b' → e ≡ e' → BytesApart o a' (a' + z') b' e' → BytesApart o a (a + z) b e
+apart-same o p q r s h = rw (p, q, r, s) h
+
 -- and so folded it is ready too
 pub folds-ready : {o : Origin} {p r : Plan} {s d : List ℕ} → Folds p r → Ready o p s d → Ready o r s d
 folds-ready {o} {p} {r} f w =
@@ -368,21 +422,31 @@ folds-ready {o} {p} {r} f w =
       rising = λ a b l m.
           let k : b < planTotal p = omega arith in
           rw (f .place a (omega arith), f .place b k, z) (w .rising a b l k);
-      span = rw (f .«home_end») (w .span);
+      reach = rw (f .reach) (w .reach);
       need = rw (f .«place_end») (w .need);
-      apart = rw (f .«home_end», f .«place_end», f .home, f .base) (w .apart);
+      span = λ c0 c1 c2 c3 k. let n = folded-home f w c0 c1 c2 c3 k in rw (n .1, z) (w .span _ _ _ _ (n .0));
+      apart = λ c0 c1 c2 c3 k. let n = folded-home f w c0 c1 c2 c3 k in apart-same o (n .1) z (f .base) (f .«place_end») (w .apart _ _ _ _ (n .0));
     }
 
 pub folds-from : {p r : Plan} → Folds p r → {from : ℕ} → from < planTotal p → from < planTotal r
 folds-from f l = rw (f .total) l
 
+-- an element has the same bytes
+folds-bytes : {p r : Plan} → Folds p r → (s : List ℕ) (q : ℕ) → q < planTotal p
+    → planBytes r s (co0 r q) (co1 r q) (co2 r q) (co3 r q) ≡ planBytes p s (co0 p q) (co1 p q) (co2 p q) (co3 p q)
+unfolding planBytes keptBy homeBy homeOf
+folds-bytes {p} {r} f s q l =
+    rw (f .kept q l, f .size, f .pad)
+    (pick-same (planKept p (co0 p q) (co1 p q) (co2 p q) (co3 p q)) (padding (p .size) (p .pad))
+    (λ h. ap (λ (n : ℕ). take (p .size) (drop n s)) (f .home q l h)))
+
 -- the same elements are written
 pub folds-moved : {p r : Plan} → Folds p r → (s : List ℕ) (from n : ℕ) (d : List ℕ) → from + n ≤ planTotal p → movedBy r s from n d ≡ movedBy p s from n d
-unfolding movedBy putNumber putAt placeBy bytesBy
+unfolding movedBy putNumber putAt placeBy
 folds-moved f s from zero d h = refl
 folds-moved {p} f s from (suc n) d h =
     let l : from + n < planTotal p = omega arith in
-    rw (folds-moved f s from n d (omega arith), f .place (from + n) l, f .bytes s (from + n) l)
+    rw (folds-moved f s from n d (omega arith), f .place (from + n) l, folds-bytes f s (from + n) l)
 
 -- what a stretch of the folded plan leaves is what the same stretch of the plan does
 pub folds-written : (o : Origin) {p r : Plan} (f : Folds p r) (s d : List ℕ) (from budget : ℕ) {n : ℕ} {e : List ℕ} → from < planTotal p

@@ -7,7 +7,7 @@ use lib.Dec.{leb, ltb}
 use Rattle.plane.specs.declared.Tensor.{Tensor}
 use Rattle.plane.specs.declared.Config.{Config}
 use Rattle.plane.specs.Arrays.{at}
-use Rattle.plane.specs.Planes.{srcStrides}
+use Rattle.plane.specs.Planes.{sourceAt}
 use Rattle.plane.specs.Moves.{dstStrides}
 use Rattle.faults.proofs.Bools.{both-first, both-second}
 use Rattle.plane.proofs.Arrays.{sum-same}
@@ -31,4 +31,4 @@ module _ (t : Tensor) (c : Config) (x y : ℕ → ℕ) (e : (i : ℕ) → i < t 
   unfolding sourcePlace
   source-same =
       sum-same (t .rank) _ _
-      (λ i h. ap (λ (a : ℕ). (at (c .offset) (dimOf c i) + kOf c i a * at (c .step) (dimOf c i)) * at (srcStrides t) (dimOf c i)) (e i h))
+      (λ i h. ap (λ (a : ℕ). sourceAt t (dimOf c i) (at (c .offset) (dimOf c i) + kOf c i a * at (c .step) (dimOf c i))) (e i h))

@@ -12,9 +12,9 @@ use Rattle.mover.specs.declared.plan.Axis.{Axis}
 use Rattle.mover.specs.declared.plan.Plan.{Plan}
 use Rattle.mover.specs.declared.elements.Origin.{Origin}
 use Rattle.mover.specs.declared.elements.Origin.the-variants.{Lent, Inside}
-use Rattle.mover.specs.Private.Elements.{axisKept, planKept, summed, placeOf, homeOf, sourceBytes}
+use Rattle.mover.specs.Private.Elements.{axisKept, planKept, summed, placeOf, sourceBytes}
 use Rattle.mover.specs.Private.Runs.{BytesApart}
-use Rattle.mover.specs.Private.Ready.{homeEnd, placeEnd, GoodAxis, Ready, InExtents}
+use Rattle.mover.specs.Private.Ready.{placeEnd, GoodAxis, GoodAxes, Ready, InExtents}
 use Rattle.mover.proofs.Keeping.{test-range}
 
 -- a place grows with each of its counts
@@ -70,6 +70,17 @@ module _ (p : Plan) (c0 c1 c2 c3 : ℕ) where
         k3 = kept-of (p .d3) c3 (both-second (b0 && b1 && b2) b3 h);
       }
 
+  -- what is kept lies in the extents
+  pub kept-in : GoodAxes p → planKept p c0 c1 c2 c3 ≡ true → InExtents p c0 c1 c2 c3
+  kept-in g h =
+      let k = all-kept-of h in
+      record {
+        in0 = omega (arith, k .k0 .past, k .k0 .most, g .in0 .some, g .in0 .within);
+        in1 = omega (arith, k .k1 .past, k .k1 .most, g .in1 .some, g .in1 .within);
+        in2 = omega (arith, k .k2 .past, k .k2 .most, g .in2 .some, g .in2 .within);
+        in3 = omega (arith, k .k3 .past, k .k3 .most, g .in3 .some, g .in3 .within);
+      }
+
   pub place-least : p .base ≤ placeOf p c0 c1 c2 c3
   unfolding placeOf
   place-least = summed-least (p .base) c0 (p .d0 .stride) c1 (p .d1 .stride) c2 (p .d2 .stride) c3 (p .d3 .stride)
@@ -82,22 +93,6 @@ module _ (p : Plan) (c0 c1 c2 c3 : ℕ) where
       let h2 : c2 ≤ p .d2 .extent - 1 = omega (arith, w .in2) in
       let h3 : c3 ≤ p .d3 .extent - 1 = omega (arith, w .in3) in
       omega (arith, summed-most (p .base) (p .d0 .stride) (p .d1 .stride) (p .d2 .stride) (p .d3 .stride) h0 h1 h2 h3)
-
-  pub home-least : p .home ≤ homeOf p c0 c1 c2 c3
-  unfolding homeOf
-  home-least =
-      summed-least (p .home)
-      (c0 - p .d0 .pre) (p .d0 .jump) (c1 - p .d1 .pre) (p .d1 .jump) (c2 - p .d2 .pre) (p .d2 .jump) (c3 - p .d3 .pre) (p .d3 .jump)
-
-  pub home-most : planKept p c0 c1 c2 c3 ≡ true → homeOf p c0 c1 c2 c3 + p .size ≤ homeEnd p
-  unfolding homeOf homeEnd
-  home-most h =
-      let k = all-kept-of h in
-      omega (
-        arith,
-        summed-most (p .home) (p .d0 .jump) (p .d1 .jump) (p .d2 .jump) (p .d3 .jump)
-            (k .k0 .most) (k .k1 .most) (k .k2 .most) (k .k3 .most),
-      )
 
 -- what lies within bytes that are apart is apart
 pub apart-part : (o : Origin) {a a' b b' x x' y y' : ℕ} → BytesApart o a a' b b' → a ≤ x → x' ≤ a' → b ≤ y → y' ≤ b' → BytesApart o x x' y y'
@@ -117,7 +112,8 @@ still-ready o p s d e h r =
       axes = r .axes;
       few = r .few;
       rising = r .rising;
-      span = still-held o s d e h (r .span);
+      reach = r .reach;
       need = rw h (r .need);
+      span = λ c0 c1 c2 c3 k. still-held o s d e h (r .span c0 c1 c2 c3 k);
       apart = r .apart;
     }

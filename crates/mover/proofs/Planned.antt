@@ -1,38 +1,44 @@
 -- The plan of an accepted move has four coordinates: the paper's, with zeros in front for the dimensions that the rank lacks. So the
 -- engine's fold over the plan is the paper's. Assumes nothing.
 use Prim.Native.Nat.{ℕ, zero, suc, _+_, _-_, _*_, _/_, _%_, _^_, _≤_, _<_}
-use native.Mathlib.Nat.{add-mul, mul-assoc, mul-comm, one-mul, div-one, mod-one, mod-eq-of-lt, div-div-eq-div-mul, not-suc-le-zero, le-of-suc-le-suc}
+use native.Mathlib.Nat.{add-mul, mul-assoc, mul-comm, mul-pos, mul-le-mul, one-mul, div-one, mod-one, mod-lt, mod-eq-of-lt, div-div-eq-div-mul, not-suc-le-zero, le-of-suc-le-suc}
 use native.Mathlib.Decide.{decLt}
 use native.Mathlib.Omega.{arith}
 use mathlib.Core.Path.{_≡_, refl, sym, ap, _∙_}
-use mathlib.Core.Bool.{cond}
+use mathlib.Core.Bool.{Bool, true, false, cond}
 use mathlib.Core.List.{List}
 use borrow.Author.Tests.{lt-ltb, le-ltb}
 use lib.Dec.{ltb}
-use lib.ListN.{length}
+use lib.ListN.{length, take, drop}
 use Rattle.plane.specs.declared.Tensor.{Tensor}
 use Rattle.plane.specs.declared.Config.{Config}
 use Rattle.plane.specs.Arrays.{at, sum, product, every}
 use Rattle.plane.specs.Numbers.{little}
-use Rattle.plane.specs.Planes.{srcStrides, span}
+use Rattle.plane.specs.Planes.{shapeAt, strideAt, downAt, up, srcStrides, span}
 use Rattle.plane.specs.Moves.{count, dstStrides, need}
 use Rattle.plane.specs.Good.{GoodSource, GoodConfig, GoodDst}
 use Rattle.plane.proofs.Rules.{count-positive, dst-extent}
 use Rattle.plane.proofs.Numbers.{take-little}
-use Rattle.plane.proofs.Bounds.{element-small, product-most}
+use Rattle.plane.proofs.Arrays.{sum-same, every-each}
+use Rattle.plane.proofs.Falling.{strides-within}
+use Rattle.plane.proofs.Bounds.{element-small, product-most, span-fits}
 use Rattle.mover.specs.declared.elements.Origin.the-variants.{Lent}
 use Rattle.mover.specs.declared.plan.Axis.{Axis}
 use Rattle.mover.specs.declared.plan.Plan.{Plan}
 use Rattle.mover.specs.Element.{dimOf, kOf, isKept, areKept, sourcePlace, place, padded, element}
 use Rattle.mover.specs.Moved.{extentAt, total, perStep, coordOf, stored, moved}
-use Rattle.mover.specs.Private.Plans.{axisOf, lone, planOf}
+use Rattle.mover.specs.Private.Plans.{jumpBy, jumpLength, axisOf, lone, planOf}
 use Rattle.mover.specs.Private.Elements.{axisKept, planKept, summed, placeOf, homeOf, padding, planBytes, putAt, planTotal, co0, co1, co2, co3, putNumber, movedBy}
-use Rattle.mover.specs.Private.Ready.{homeEnd, placeEnd, GoodAxis, placeBy, Rising, Ready}
+use Rattle.mover.specs.Private.Ready.{reachOf, placeEnd, GoodAxis, GoodAxes, placeBy, Rising, Ready}
 use Rattle.mover.proofs.Numbers.{digit}
-use Rattle.mover.proofs.Sums.{sum-bytes}
-use Rattle.mover.proofs.Fitting.{home-fits, place-fits}
+use Rattle.mover.proofs.Sums.{sum-bytes, sum-turned, sum-scaled}
+use Rattle.mover.proofs.Fitting.{kept-within, home-fits, reach-fits, place-fits}
 use Rattle.mover.proofs.Making.{extent-is}
-use Rattle.mover.proofs.ByNumber.{spread-within}
+use Rattle.mover.proofs.ByNumber.{spread-within, numberOf, number-lt, coords}
+use Rattle.mover.proofs.Bytes.{pick-same}
+use Rattle.mover.proofs.Keeping.{test-range}
+use Rattle.mover.proofs.Places.{kept-in}
+use Rattle.mover.proofs.Adding.{rounds, jump-length, jump-fits-64}
 use Rattle.mover.proofs.Spacing.{bytes-rise}
 
 -- ---- a plan of n axes, widened to four
@@ -64,9 +70,9 @@ widened z pad h b x n = record {
 record Widened (z : ℕ) (pad : List ℕ) (h b : ℕ) (x : ℕ → Axis) (n : ℕ) : Type 0 where
   pub all : planTotal (widened z pad h b x n) ≡ product n (λ i. x i .extent)
   pub place : (c : ℕ → ℕ) → placeOf (widened z pad h b x n) (wide n 0 c 0) (wide n 0 c 1) (wide n 0 c 2) (wide n 0 c 3) ≡ b + sum n (λ i. c i * x i .stride)
-  pub home : (c : ℕ → ℕ) → homeOf (widened z pad h b x n) (wide n 0 c 0) (wide n 0 c 1) (wide n 0 c 2) (wide n 0 c 3) ≡ h + sum n (λ i. (c i - x i .pre) * x i .jump)
+  pub home : (c : ℕ → ℕ) → homeOf (widened z pad h b x n) (wide n 0 c 0) (wide n 0 c 1) (wide n 0 c 2) (wide n 0 c 3) ≡ (h + sum n (λ i. (c i - x i .pre) * x i .jump)) % 2 ^ 64
   pub kept : (c : ℕ → ℕ) → planKept (widened z pad h b x n) (wide n 0 c 0) (wide n 0 c 1) (wide n 0 c 2) (wide n 0 c 3) ≡ every n (λ i. axisKept (x i) (c i))
-  pub home-end : homeEnd (widened z pad h b x n) ≡ h + sum n (λ i. (x i .count - 1) * x i .jump) + z
+  pub reach : reachOf (widened z pad h b x n) ≡ sum n (λ i. (x i .count - 1) * jumpLength (x i .jump))
   pub place-end : placeEnd (widened z pad h b x n) ≡ b + sum n (λ i. (x i .extent - 1) * x i .stride) + z
 
 by-rank : (P : ℕ → Type 0) → P 1 → P 2 → P 3 → P 4 → (n : ℕ) → 1 ≤ n → n ≤ 4 → P n
@@ -84,7 +90,7 @@ by-three q a b c =
 
 module _ (z : ℕ) (pad : List ℕ) (h b : ℕ) (x : ℕ → Axis) where
   widens : (n : ℕ) → 1 ≤ n → n ≤ 4 → Widened z pad h b x n
-  unfolding planTotal product placeOf homeOf summed sum planKept axisKept every homeEnd placeEnd
+  unfolding planTotal product placeOf homeOf summed sum planKept axisKept every reachOf placeEnd
   widens =
       by-rank (λ n. Widened z pad h b x n)
       (record {
@@ -92,7 +98,7 @@ module _ (z : ℕ) (pad : List ℕ) (h b : ℕ) (x : ℕ → Axis) where
         place = λ c. omega arith;
         home = λ c. omega arith;
         kept = λ c. refl;
-        home-end = omega arith;
+        reach = omega arith;
         place-end = omega arith;
       })
       (record {
@@ -100,7 +106,7 @@ module _ (z : ℕ) (pad : List ℕ) (h b : ℕ) (x : ℕ → Axis) where
         place = λ c. omega arith;
         home = λ c. omega arith;
         kept = λ c. refl;
-        home-end = omega arith;
+        reach = omega arith;
         place-end = omega arith;
       })
       (record {
@@ -108,7 +114,7 @@ module _ (z : ℕ) (pad : List ℕ) (h b : ℕ) (x : ℕ → Axis) where
         place = λ c. omega arith;
         home = λ c. omega arith;
         kept = λ c. refl;
-        home-end = omega arith;
+        reach = omega arith;
         place-end = omega arith;
       })
       (record {
@@ -116,7 +122,7 @@ module _ (z : ℕ) (pad : List ℕ) (h b : ℕ) (x : ℕ → Axis) where
         place = λ c. omega arith;
         home = λ c. omega arith;
         kept = λ c. refl;
-        home-end = omega arith;
+        reach = omega arith;
         place-end = omega arith;
       })
 
@@ -161,12 +167,24 @@ pub record Planned (t : Tensor) (c : Config) (q : ℕ) : Type 0 where
   pub at2 : co2 (planOf t c) q ≡ front t (coordOf t c q) 2
   pub at3 : co3 (planOf t c) q ≡ front t (coordOf t c q) 3
 
--- the offset and k coordinates further, in bytes; and k steps further
+-- the offset and k coordinates further, in bytes; and k steps further, up
 further : (o k s z : ℕ) → o * s * z + k * (s * z) ≡ (o + k) * s * z
 further o k s z = rw (add-mul o k s, add-mul (o * s) (k * s) z, mul-assoc k s z)
 
 step-joined : (o k m s z : ℕ) → o * s * z + k * (m * s * z) ≡ (o + k * m) * s * z
 step-joined o k m s z = rw (add-mul o (k * m) s, add-mul (o * s) (k * m * s) z, mul-assoc k m s, mul-assoc k (m * s) z)
+
+-- or either way, by a jump over m s z bytes, where the coordinate is one of the shape
+module _ (shape o k m s z : ℕ) (some : 0 < m * s * z) (few : m * s * z < 2 ^ 63) (h : o + k * m ≤ shape - 1) where
+  stepped : (down : Bool) (a : ℕ) → (a + (up down shape o * s * z + k * jumpBy down (m * s * z))) % 2 ^ 64 ≡ (a + up down shape (o + k * m) * s * z) % 2 ^ 64
+  stepped false a = rw (step-joined o k m s z)
+  stepped true a =
+      let n = m * s * z in
+      let j : (2 ^ 64 - n) % 2 ^ 64 ≡ 2 ^ 64 - n = mod-eq-of-lt (omega arith) in
+      let e : shape - 1 - o ≡ shape - 1 - (o + k * m) + k * m = omega arith in
+      let r = rounds k n (omega arith) in
+      let w = step-joined (shape - 1 - (o + k * m)) k m s z in
+      rw (j, e) (omega arith)
 
 module _ {t : Tensor} (c : Config) (g : GoodSource t) where
   its : (z : ℕ) (pad : List ℕ) (h b : ℕ) → Widened z pad h b (axisOf t c) (t .rank)
@@ -189,19 +207,53 @@ module _ {t : Tensor} (c : Config) (g : GoodSource t) where
     unfolding planOf place
     planned-place = its _ _ _ _ .place x ∙ sum-bytes (t .rank) _ _ _ (t .«element_size») (λ i _. further (at (c .«dst_offset») i) (x i) (at (dstStrides t c) i) (t .«element_size»))
 
-    pub planned-home : homeOf (planOf t c) (front t x 0) (front t x 1) (front t x 2) (front t x 3) ≡ sourcePlace t c x * t .«element_size»
-    unfolding planOf sourcePlace
-    planned-home = its _ _ _ _ .home x ∙ sum-bytes (t .rank) _ _ _ (t .«element_size») (λ i _. step-joined (at (c .offset) (dimOf c i)) (kOf c i (x i)) (at (c .step) (dimOf c i)) (at (srcStrides t) (dimOf c i)) (t .«element_size»))
-
     pub planned-kept : planKept (planOf t c) (front t x 0) (front t x 1) (front t x 2) (front t x 3) ≡ areKept t c x
     unfolding planOf areKept isKept axisKept
     planned-kept = its _ _ _ _ .kept x
 
-    pub planned-bytes : (src : List ℕ) → planBytes (planOf t c) src (front t x 0) (front t x 1) (front t x 2) (front t x 3) ≡ element t c src x
-    unfolding planBytes element
-    planned-bytes src = rw (planned-kept, planned-home, planned-size, planned-pad)
-
   module _ (k : GoodConfig t c) where
+    -- the bytes that the source's jumps go over
+    abbrev over : ℕ → ℕ
+    over i = at (c .step) (dimOf c i) * at (srcStrides t) (dimOf c i) * t .«element_size»
+
+    over-some : (i : ℕ) → i < t .rank → 0 < over i
+    over-some i h =
+        let w = strides-within (t .rank) (shapeAt t) (strideAt t) (g .rank .1) (λ d l. g .shape d l .0) (g .strides) (dimOf c i) (k .perm i h) in
+        mul-pos (mul-pos (k .step (dimOf c i) (k .perm i h) .0) (w .0)) (element-small (t .«element_size») (g .element) .0)
+
+    over-few : (i : ℕ) → i < t .rank → over i < 2 ^ 63
+    over-few i h =
+        let w = strides-within (t .rank) (shapeAt t) (strideAt t) (g .rank .1) (λ d l. g .shape d l .0) (g .strides) (dimOf c i) (k .perm i h) in
+        let m = mul-le-mul (mul-le-mul (k .step (dimOf c i) (k .perm i h) .1) (w .1)) (element-small (t .«element_size») (g .element) .1) in
+        omega arith
+
+    -- where the source element of a kept one stands
+    module _ (x : ℕ → ℕ) (h : areKept t c x ≡ true) where
+      kept-most : (i : ℕ) → i < t .rank → kOf c i (x i) ≤ count t c (dimOf c i) - 1
+      unfolding areKept isKept
+      kept-most i l = let r = test-range (at (c .pre) (dimOf c i)) (x i) (count t c (dimOf c i)) (every-each (λ i. isKept t c i (x i)) (t .rank) h i l) in omega (arith, r .1)
+
+      planned-fits : sourcePlace t c x * t .«element_size» + t .«element_size» ≤ span t
+      unfolding sourcePlace
+      planned-fits = let w = home-fits k (λ i. kOf c i (x i)) kept-most in omega (arith, rw (add-mul, one-mul) at w)
+
+      planned-home : homeOf (planOf t c) (front t x 0) (front t x 1) (front t x 2) (front t x 3) ≡ sourcePlace t c x * t .«element_size»
+      unfolding planOf sourcePlace
+      planned-home =
+          its _ _ _ _ .home x
+          ∙ sum-turned (t .rank) _ _ _ (t .«element_size»)
+          (λ i l m.
+          let d = dimOf c i in
+          stepped (shapeAt t d) (at (c .offset) d) (kOf c i (x i)) (at (c .step) d) (at (srcStrides t) d) (t .«element_size») (over-some i l) (over-few i l)
+          (kept-within k d (kOf c i (x i)) (k .perm i l) (kept-most i l)) (downAt t d) m)
+          ∙ mod-eq-of-lt (omega (arith, planned-fits, span-fits t g))
+
+    pub planned-bytes : (x : ℕ → ℕ) (src : List ℕ) → planBytes (planOf t c) src (front t x 0) (front t x 1) (front t x 2) (front t x 3) ≡ element t c src x
+    unfolding planBytes element planOf
+    planned-bytes x src =
+        rw (planned-kept x, planned-size, planned-pad)
+        (pick-same (areKept t c x) (padded t c) (λ h. ap (λ (n : ℕ). take (t .«element_size») (drop n src)) (planned-home x h)))
+
     pub planned-coords : (q : ℕ) → q < total t c → Planned t c q
     unfolding planOf coordOf perStep total
     planned-coords q l =
@@ -223,13 +275,17 @@ module _ {t : Tensor} (c : Config) (g : GoodSource t) where
 
     -- ---- what the engine asks of an accepted move
 
-    pub planned-homeEnd : homeEnd (planOf t c) ≤ span t
+    planned-reach : reachOf (planOf t c) < 2 ^ 64
     unfolding planOf
-    planned-homeEnd =
+    planned-reach =
         let l : ℕ → ℕ = λ i. count t c (dimOf c i) - 1 in
-        let e : homeEnd (planOf t c) ≡ (1 + sum (t .rank) (λ i. (at (c .offset) (dimOf c i) + l i * at (c .step) (dimOf c i)) * at (srcStrides t) (dimOf c i))) * t .«element_size» =
-        its _ _ _ _ .home-end ∙ ended _ (t .«element_size») (sum-bytes (t .rank) _ _ _ (t .«element_size») (λ i _. step-joined (at (c .offset) (dimOf c i)) (l i) (at (c .step) (dimOf c i)) (at (srcStrides t) (dimOf c i)) (t .«element_size»))) in
-        rw e (home-fits k l (λ i h. omega arith))
+        let z = t .«element_size» in
+        let e : reachOf (planOf t c) ≡ sum (t .rank) (λ i. l i * at (c .step) (dimOf c i) * at (srcStrides t) (dimOf c i)) * z =
+        its _ _ _ _ .reach
+        ∙ sum-same (t .rank) _ _ (λ i h. ap (λ (n : ℕ). l i * n) (jump-length (over i) (over-some i h) (over-few i h) (downAt t (dimOf c i))))
+        ∙ sym (sum-scaled (t .rank) _ _ z (λ i h. rw (mul-assoc (l i) (at (c .step) (dimOf c i)) (at (srcStrides t) (dimOf c i)), mul-assoc (l i) (at (c .step) (dimOf c i) * at (srcStrides t) (dimOf c i)) z))) in
+        let w = reach-fits k in
+        omega (arith, rw (add-mul, one-mul) at w, span-fits t g)
 
     pub planned-placeEnd : placeEnd (planOf t c) ≤ need t c
     unfolding planOf place
@@ -261,19 +317,49 @@ module _ {t : Tensor} (c : Config) (g : GoodSource t) where
         let b = planned-placeBy r (omega arith) in
         omega (arith, bytes-rise g k p q r l (omega arith))
 
+    planned-axes : GoodAxes (planOf t c)
+    unfolding planOf
+    planned-axes =
+        record { in0 = good 0 (omega arith); in1 = good 1 (omega arith); in2 = good 2 (omega arith); in3 = good 3 (omega arith) }
+      where
+        good : (j : ℕ) → j < 4 → GoodAxis (wide (t .rank) lone (axisOf t c) j)
+        good j h =
+            wide-each GoodAxis (t .rank) lone (axisOf t c) j (g .rank .1) h (record { some = omega arith; within = omega arith; fits = omega arith })
+            (λ i l. record {
+              some = count-positive k (dimOf c i) (k .perm i l);
+              within = omega (arith, extent-is c g i l);
+              fits = jump-fits-64 (over i) (downAt t (dimOf c i)) (omega (arith, over-few i l));
+            })
+
+    -- a source element that is kept lies in the span
+    planned-span : (c0 c1 c2 c3 : ℕ) → planKept (planOf t c) c0 c1 c2 c3 ≡ true → homeOf (planOf t c) c0 c1 c2 c3 + planOf t c .size ≤ span t
+    planned-span c0 c1 c2 c3 h =
+        let p = planOf t c in
+        let i = kept-in p c0 c1 c2 c3 planned-axes h in
+        let q = numberOf p c0 c1 c2 c3 in
+        let l : q < total t c = omega (arith, number-lt p i, planned-total) in
+        let e = coords p {q = q} refl i in
+        let n = planned-coords q l in
+        let x = coordOf t c q in
+        let e0 : c0 ≡ front t x 0 = sym (e .at0) ∙ n .at0 in
+        let e1 : c1 ≡ front t x 1 = sym (e .at1) ∙ n .at1 in
+        let e2 : c2 ≡ front t x 2 = sym (e .at2) ∙ n .at2 in
+        let e3 : c3 ≡ front t x 3 = sym (e .at3) ∙ n .at3 in
+        let kept : areKept t c x ≡ true = sym ((λ y. planKept p (e0 y) (e1 y) (e2 y) (e3 y)) ∙ planned-kept x) ∙ h in
+        let home : homeOf p c0 c1 c2 c3 ≡ sourcePlace t c x * t .«element_size» = (λ y. homeOf p (e0 y) (e1 y) (e2 y) (e3 y)) ∙ planned-home x kept in
+        omega (arith, planned-fits x kept, planned-size)
+
     -- between two lent slices
     pub planned-ready : GoodDst t c → (src dst : List ℕ) → span t ≤ length src → need t c ≤ length dst → Ready Lent (planOf t c) src dst
     unfolding planOf
     planned-ready p src dst l m =
-        let good : (j : ℕ) → j < 4 → GoodAxis (wide (t .rank) lone (axisOf t c) j) = λ j h.
-        wide-each GoodAxis (t .rank) lone (axisOf t c) j (g .rank .1) h (record { some = omega arith; within = omega arith })
-        (λ i l. record { some = count-positive k (dimOf c i) (k .perm i l); within = omega (arith, extent-is c g i l) }) in
         record {
           sized = g .element;
-          axes = record { in0 = good 0 (omega arith); in1 = good 1 (omega arith); in2 = good 2 (omega arith); in3 = good 3 (omega arith) };
+          axes = planned-axes;
           few = planned-few;
           rising = planned-rising p;
-          span = omega (arith, planned-homeEnd);
+          reach = planned-reach;
           need = omega (arith, planned-placeEnd);
-          apart = tt;
+          span = λ c0 c1 c2 c3 h. omega (arith, planned-span c0 c1 c2 c3 h);
+          apart = λ c0 c1 c2 c3 h. tt;
         }

@@ -15,7 +15,7 @@ use Rattle.plane.specs.declared.Tensor.{Tensor}
 use Rattle.plane.specs.declared.Config.{Config}
 use Rattle.plane.specs.declared.Answer.{Answer}
 use Rattle.plane.specs.Arrays.{at, sum, product, every}
-use Rattle.plane.specs.Planes.{shapeAt, strideAt, resolved, srcStrides, sourceAt, span}
+use Rattle.plane.specs.Planes.{shapeAt, strideAt, downAt, up, resolved, srcStrides, sourceAt, span}
 use Rattle.plane.specs.Moves.{count, dstExtents, dstStrides, need}
 use Rattle.plane.proofs.Arrays.{firsts-at, sum-same, every-same, every-each}
 use Rattle.plane.proofs.Bounds.{element-small, product-most}
@@ -24,7 +24,7 @@ use Rattle.mover.specs.declared.plain.Row.{Row}
 use Rattle.mover.specs.Element.{dimOf, kOf, isKept, place}
 use Rattle.mover.specs.Moved.{extentAt}
 use Rattle.mover.specs.Private.Rows.{sizeOf, inwardOf, coordTo, sourceTerm, placeTerm, RowOf, Passable}
-use Rattle.mover.proofs.Fitting.{kept-within, home-fits, place-fits}
+use Rattle.mover.proofs.Fitting.{up-within, kept-within, home-fits, place-fits}
 use Rattle.mover.proofs.Keeping.{test-range}
 use Rattle.mover.proofs.Making.{extent-is}
 use Rattle.mover.proofs.Numbers.{digit-last, digit-row}
@@ -123,8 +123,9 @@ module _ {p r i : ℕ} {w : Row} (g : RowOf p r i w) (h : i < w .tensor .rank) w
     its-from k =
         let c = w .config in
         let at-x = at (c .offset) (dimOf c i) + (x - at (c .pre) (dimOf c i)) * at (c .step) (dimOf c i) in
-        ap (λ (b : Bool). cond b (w .at + at-x * at (w .source .stride) (dimOf c i) * sizeOf w) (w .at)) k ∙
-        ap (λ (s : ℕ). w .at + at-x * s * sizeOf w) its-source-stride
+        let up-x = up (downAt (w .tensor) (dimOf c i)) (shapeAt (w .tensor) (dimOf c i)) at-x in
+        ap (λ (b : Bool). cond b (w .at + up-x * at (w .source .stride) (dimOf c i) * sizeOf w) (w .at)) k ∙
+        ap (λ (s : ℕ). w .at + up-x * s * sizeOf w) its-source-stride
 
     its-to : inwardOf w i x .place ≡ w .place + placeTerm (w .tensor) (w .config) i x * sizeOf w
     unfolding inwardOf
@@ -262,23 +263,34 @@ module _ {w : Row} {i x : ℕ} (g : Passable w i x) where
     pub pass-pre : at (w .config .pre) (dimOf (w .config) i) ≤ x
     pass-pre = its .0
 
-    pub pass-at : at (w .config .offset) (dimOf (w .config) i) + (x - at (w .config .pre) (dimOf (w .config) i)) * at (w .config .step) (dimOf (w .config) i) ≤ 65535
+    -- the source coordinate, and how many strides up it lies
+    abbrev pub reached : ℕ
+    reached = let c = w .config in at (c .offset) (dimOf c i) + (x - at (c .pre) (dimOf c i)) * at (c .step) (dimOf c i)
+
+    abbrev pub lifted : ℕ
+    lifted = up (downAt (w .tensor) (dimOf (w .config) i)) (shapeAt (w .tensor) (dimOf (w .config) i)) reached
+
+    pub pass-at : reached < shapeAt (w .tensor) (dimOf (w .config) i)
     pass-at =
         omega (
           arith,
           kept-within (g .row .good-config) (dimOf (w .config) i) (kOf (w .config) i x) pass-source-dim (omega (arith, its .1)),
-          g .row .good-source .shape (dimOf (w .config) i) pass-source-dim .1,
+          g .row .good-source .shape (dimOf (w .config) i) pass-source-dim .0,
         )
 
-    pub pass-source : (at (w .config .offset) (dimOf (w .config) i) + (x - at (w .config .pre) (dimOf (w .config) i)) * at (w .config .step) (dimOf (w .config) i)) * at (w .source .stride) (dimOf (w .config) i) ≤ 65535 * 2147483647
-    pass-source = mul-le-mul pass-at pass-source-stride
+    pub pass-shape : shapeAt (w .tensor) (dimOf (w .config) i) ≤ 65535
+    pass-shape = g .row .good-source .shape (dimOf (w .config) i) pass-source-dim .1
 
-    pub pass-from : w .at + (at (w .config .offset) (dimOf (w .config) i) + (x - at (w .config .pre) (dimOf (w .config) i)) * at (w .config .step) (dimOf (w .config) i)) * at (w .source .stride) (dimOf (w .config) i) * sizeOf w < 2 ^ 64
+    pub pass-source : lifted * at (w .source .stride) (dimOf (w .config) i) ≤ 65535 * 2147483647
+    pass-source =
+        let u = up-within (downAt (w .tensor) (dimOf (w .config) i)) (shapeAt (w .tensor) (dimOf (w .config) i)) reached (omega (arith, pass-at)) in
+        let v : lifted ≤ 65535 = omega (arith, pass-shape) in
+        mul-le-mul v pass-source-stride
+
+    pub pass-from : w .at + lifted * at (w .source .stride) (dimOf (w .config) i) * sizeOf w < 2 ^ 64
     unfolding inwardOf
     pass-from =
         let e = its-from (g .row) (g .dim) x (g .below) k in
-        let c = w .config in
-        let at-x = at (c .offset) (dimOf c i) + (x - at (c .pre) (dimOf c i)) * at (c .step) (dimOf c i) in
-        let f : w .at + at-x * at (w .source .stride) (dimOf c i) * sizeOf w ≡ inwardOf w i x .at =
-        ap (λ (s : ℕ). w .at + at-x * s * sizeOf w) (its-source-stride (g .row) (g .dim)) ∙ sym e in
+        let f : w .at + lifted * at (w .source .stride) (dimOf (w .config) i) * sizeOf w ≡ inwardOf w i x .at =
+        ap (λ (s : ℕ). w .at + lifted * s * sizeOf w) (its-source-stride (g .row) (g .dim)) ∙ sym e in
         omega (arith, f, from-fits next (g .dim) k, g .source-end)

@@ -1,7 +1,7 @@
 -- Laws of sums over the dimensions: two sums joined, terms compared, the first term apart, and terms taken in the order of a permutation.
 -- Assumes nothing.
-use Prim.Native.Nat.{ℕ, zero, suc, _+_, _*_, _≤_, _<_}
-use native.Mathlib.Nat.{add-mul, suc-mul, mul-le-mul-right, not-suc-le-zero, le-of-suc-le-suc, eq-or-lt-of-le}
+use Prim.Native.Nat.{ℕ, zero, suc, _+_, _*_, _%_, _^_, _≤_, _<_}
+use native.Mathlib.Nat.{zero-add, add-mul, suc-mul, mul-le-mul-right, not-suc-le-zero, le-of-suc-le-suc, eq-or-lt-of-le}
 use native.Mathlib.Decide.{ℕ-discrete}
 use native.Mathlib.Omega.{arith}
 use mathlib.Core.Path.{_≡_, refl, sym, ap, subst, _∙_}
@@ -20,6 +20,12 @@ sum-add (suc n) f g h e = omega (arith, sum-add n f g h (λ i l. e i (omega arit
 pub sum-joined : (n : ℕ) (f g h : ℕ → ℕ) (z : ℕ) → ((i : ℕ) → i < n → f i + g i ≡ h i) → sum n f * z + sum n g * z ≡ sum n h * z
 sum-joined n f g h z e = sym (add-mul (sum n f) (sum n g) z) ∙ ap (λ (y : ℕ). y * z) (sum-add n f g h e)
 
+-- a sum of elements, in bytes
+pub sum-scaled : (n : ℕ) (f g : ℕ → ℕ) (z : ℕ) → ((i : ℕ) → i < n → f i * z ≡ g i) → sum n f * z ≡ sum n g
+unfolding sum
+sum-scaled zero f g z e = omega arith
+sum-scaled (suc n) f g z e = rw (add-mul (sum n f) (f n) z) (omega (arith, sum-scaled n f g z (λ i l. e i (omega arith)), e n (omega arith)))
+
 -- a sum of elements, in bytes, and a sum of bytes
 pub sum-bytes : (n : ℕ) (f g h : ℕ → ℕ) (z : ℕ) → ((i : ℕ) → i < n → f i * z + g i ≡ h i * z) → sum n f * z + sum n g ≡ sum n h * z
 unfolding sum
@@ -27,6 +33,23 @@ sum-bytes zero f g h z e = omega arith
 sum-bytes (suc n) f g h z e =
     rw (add-mul (sum n f) (f n) z, add-mul (sum n h) (h n) z)
     (omega (arith, sum-bytes n f g h z (λ i l. e i (omega arith)), e n (omega arith)))
+
+-- the same as 64 bits count
+sum-turns : (n : ℕ) (f g h : ℕ → ℕ) (z : ℕ) → ((i : ℕ) → i < n → (m : ℕ) → (m + (f i * z + g i)) % 2 ^ 64 ≡ (m + h i * z) % 2 ^ 64)
+    → (m : ℕ) → (m + (sum n f * z + sum n g)) % 2 ^ 64 ≡ (m + sum n h * z) % 2 ^ 64
+unfolding sum
+sum-turns zero f g h z e m = ap (λ (y : ℕ). y % 2 ^ 64) (omega arith)
+sum-turns (suc n) f g h z e m =
+    rw (add-mul (sum n f) (f n) z, add-mul (sum n h) (h n) z)
+    (ap (λ (y : ℕ). y % 2 ^ 64) (omega arith)
+    ∙ sum-turns n f g h z (λ i l. e i (omega arith)) (m + (f n * z + g n))
+    ∙ ap (λ (y : ℕ). y % 2 ^ 64) (omega arith)
+    ∙ e n (omega arith) (m + sum n h * z)
+    ∙ ap (λ (y : ℕ). y % 2 ^ 64) (omega arith))
+
+pub sum-turned : (n : ℕ) (f g h : ℕ → ℕ) (z : ℕ) → ((i : ℕ) → i < n → (m : ℕ) → (m + (f i * z + g i)) % 2 ^ 64 ≡ (m + h i * z) % 2 ^ 64)
+    → (sum n f * z + sum n g) % 2 ^ 64 ≡ sum n h * z % 2 ^ 64
+sum-turned n f g h z e = rw (zero-add, zero-add) at (sum-turns n f g h z e 0)
 
 pub sum-least : (n : ℕ) (f g : ℕ → ℕ) → ((i : ℕ) → i < n → f i ≤ g i) → sum n f ≤ sum n g
 unfolding sum

@@ -18,8 +18,8 @@ use Rattle.mover.specs.Private.Elements.{sourceBytes, axisKept, planKept
 use Rattle.mover.specs.Private.Adding.{along, spotAt, onwardOf, firstSpot, beginningOf, nextRow, nextLayer, nextSlab, afterRun}
 use Rattle.mover.specs.Private.Runs.{Alike, courseOf, runStored, eitherBytes, runMoved, Readable, Writable}
 use Rattle.mover.specs.Private.Ready.{GoodAxes, Ready, InExtents}
-use Rattle.mover.proofs.Bytes.{source-long, pick-same}
-use Rattle.mover.proofs.Places.{place-least, place-most, home-least, home-most, all-kept-of, apart-part, still-ready}
+use Rattle.mover.proofs.Bytes.{pick-same}
+use Rattle.mover.proofs.Places.{place-least, place-most, all-kept-of, apart-part, still-ready}
 use Rattle.mover.proofs.Adding.{along-none, along-on, jumps-kept, spot-fits, spot-none, spot-on, row-place, row-home}
 use Rattle.mover.proofs.ByNumber.{length-moved, moved-add, numberOf, put-number, number-lt, spread-good, source-same}
 
@@ -159,13 +159,11 @@ module _ {o : Origin} {p : Plan} {s d₀ : List ℕ} {from budget : ℕ} {d : Li
     its-home t k h =
         let all : (j : ℕ) → j < run .n → planKept p c0 c1 c2 (c3 + j) ≡ true = λ j g. its-kept j g ∙ t in
         let z = all-kept-of p c0 c1 c2 (c3 + 0) (all 0 (l .some)) .k3 in
-        let m = home-most p c0 c1 c2 (c3 + k) (all k h) in
         let e : c3 - p .d3 .pre + k ≡ c3 + k - p .d3 .pre = omega (arith, z .past) in
         ap (λ (y : ℕ). along y (p .d3 .jump) k) (a .home (omega (arith, l .some, l .cut)) (omega (arith, z .past, z .most, r .axes .in3 .some)))
         ∙ along-on (u .row .at) (p .d3 .jump) (c3 - p .d3 .pre) k
         ∙ ap (along (u .row .at) (p .d3 .jump)) e
         ∙ row-home p c0 c1 c2 (a .slab) (a .layer) (a .row) (c3 + k) (all k h)
-        ∙ mod-eq-of-lt (omega (arith, r .span, source-long o s d))
 
     -- what it asks
     pub run-writes : Writable d (courseOf p (u .here) run)
@@ -176,10 +174,10 @@ module _ {o : Origin} {p : Plan} {s d₀ : List ℕ} {from budget : ℕ} {d : Li
 
     pub run-reads : run .kept ≡ true → Readable o s d (courseOf p (u .here) run)
     run-reads t = record {
-      held = λ k h. rw (its-home t k h) (omega (arith, home-most p c0 c1 c2 (c3 + k) (its-kept k h ∙ t), r .span));
+      held = λ k h. rw (its-home t k h) (r .span c0 c1 c2 (c3 + k) (its-kept k h ∙ t));
       parted = λ i k h g.
           rw (its-home t i h, its-place k g)
-          (apart-part o (r .apart) (home-least p c0 c1 c2 (c3 + i)) (home-most p c0 c1 c2 (c3 + i) (its-kept i h ∙ t))
+          (apart-part o (r .apart c0 c1 c2 (c3 + i) (its-kept i h ∙ t)) (omega arith) (omega arith)
           (place-least p c0 c1 c2 (c3 + k)) (place-most p c0 c1 c2 (c3 + k) (its-within k g)));
     }
 

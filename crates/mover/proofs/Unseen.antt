@@ -15,7 +15,7 @@ use Rattle.faults.specs.declared.Fault.{Fault}
 use Rattle.plane.specs.Arrays.{at, sum, product, every}
 use Rattle.plane.specs.Numbers.{little}
 use Rattle.faults.specs.Faults.{when, ifFault}
-use Rattle.plane.specs.Planes.{srcStrides}
+use Rattle.plane.specs.Planes.{shapeAt, downAt, up, srcStrides, sourceAt}
 use Rattle.plane.specs.Moves.{count, dstStrides, moveFault}
 use Rattle.plane.proofs.Arrays.{sum-same, every-same}
 use Rattle.faults.proofs.Faults.{status, or-path, if-fault, if-none}
@@ -23,7 +23,7 @@ use Rattle.plane.specs.Good.{GoodConfig}
 use Rattle.plane.proofs.Good.{move-good}
 use Rattle.plane.specs.Unseen.{SameTensor, SameArrays, UnseenSub}
 use Rattle.plane.proofs.Configs.{same-offset, same-step, same-dst-offset, same-perm, same-pre}
-use Rattle.plane.proofs.Unseen.{fault-unseen, strides-unseen, kept-unseen, extents-unseen, dst-strides-unseen, sub-unseen}
+use Rattle.plane.proofs.Unseen.{fault-unseen, strides-unseen, down-unseen, kept-unseen, extents-unseen, dst-strides-unseen, sub-unseen}
 use Rattle.parts.specs.Parts.{bytesOf}
 use Rattle.mover.specs.declared.Job.{Job}
 use Rattle.mover.specs.Claims.{SameFill, SameAsked, SameJob, MovesUnseen}
@@ -69,8 +69,10 @@ module _ (t t′ : Tensor) (c c′ : Config) (a : SameTensor t t′) (b : SameAr
         let p = at-dim (at (c .pre)) (at (c′ .pre)) (same-pre b) i h in
         let s = at-dim (at (c .step)) (at (c′ .step)) (same-step b) i h in
         let w = at-dim (at (srcStrides t)) (at (srcStrides t′)) (λ d l. ap (λ (y : List ℕ). at y d) (strides-unseen t t′ a)) i h in
-        λ k. (o k + (x i - p k) * s k) * w k) ∙
-        ap (λ (n : ℕ). sum n (λ i. (at (c′ .offset) (dimOf c′ i) + kOf c′ i (x i) * at (c′ .step) (dimOf c′ i)) * at (srcStrides t′) (dimOf c′ i))) (a .rank)
+        let z = at-dim (shapeAt t) (shapeAt t′) (a .shape) i h in
+        let v = down-unseen t t′ a (dimOf c i) (g .perm i h) ∙ ap (downAt t′) (same-perm b i h) in
+        λ k. up (v k) (z k) (o k + (x i - p k) * s k) * w k) ∙
+        ap (λ (n : ℕ). sum n (λ i. sourceAt t′ (dimOf c′ i) (at (c′ .offset) (dimOf c′ i) + kOf c′ i (x i) * at (c′ .step) (dimOf c′ i)))) (a .rank)
 
     -- it goes to the same place
     same-place : (x : ℕ → ℕ) → place t c x ≡ place t′ c′ x

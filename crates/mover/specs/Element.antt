@@ -26,7 +26,7 @@ isKept t c i x = leb (at (c .pre) (dimOf c i)) x && ltb (kOf c i x) (count t c (
 unfoldable pub areKept : Tensor → Config → (ℕ → ℕ) → Bool
 areKept t c x = every (t .rank) (λ i. isKept t c i (x i))
 
--- where its source element stands, at offset + k x step in each dimension: in elements from the source's first on
+-- where its source element stands, at offset + k x step in each dimension: in elements up from the source's lowest
 unfoldable pub sourcePlace : Tensor → Config → (ℕ → ℕ) → ℕ
 sourcePlace t c x =
     sum (t .rank) (λ i. sourceAt t (dimOf c i) (at (c .offset) (dimOf c i) + kOf c i (x i) * at (c .step) (dimOf c i)))

@@ -15,7 +15,7 @@ use crate::ways::pad_patch;
 use std::num::wrapping_add_usize;
 ghost use mathlib.Core.Path.{_≡_};
 ghost use Prim.Native.Nat.{_+_, _-_, _*_, _^_, _≤_, _<_};
-ghost use Rattle.mover.specs.Private.Adding.{jumpsOf};
+ghost use Rattle.mover.specs.Private.Plans.{jumpLength};
 ghost use Rattle.mover.specs.Private.Ready.{GoodAxis};
 ghost use Rattle.mover.specs.Private.Patches.{patchOf};
 ghost use Rattle.mover.specs.Private.Bands.{BandAt, Banded, Framed, bandMoved, behindRows};
@@ -143,7 +143,7 @@ pub(crate) fn move_band(
 pub(crate) fn behind(s: Spots, x: Axis, c: usize) -> Spots
     requires { ⌜ (0 < x .count) × (0 < c) ⌝ }
     requires { ⌜ s .layer .to + (c - 1) * x .stride < 2 ^ 64 ⌝ }
-    requires { ⌜ s .layer .at + jumpsOf x (c - 1) * x .jump < 2 ^ 64 ⌝ }
+    requires { ⌜ (x .count - 1) * jumpLength (x .jump) < 2 ^ 64 ⌝ }
     ensures { λ r. ⌜ r ≡ behindRows s x c ⌝ }
 {
     let layer = s.layer;

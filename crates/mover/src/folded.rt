@@ -2,6 +2,8 @@
 // a plane that is copied whole is one row, whatever its rank. Worked out once a step.
 use crate::plan::Axis;
 use crate::plan::Plan;
+use crate::plan::goes_down;
+use crate::plan::length_of;
 use crate::plan::lone;
 ghost use mathlib.Core.Path.{_≡_};
 ghost use mathlib.Core.Bool.{true};
@@ -20,7 +22,7 @@ fn is_times(outer: usize, e: usize, inner: usize) -> bool
 }
 
 // Whether two neighbouring dimensions are one: the inner has one coordinate, or nothing of it is padding and the outer goes on where it
-// ends. An outer one of one coordinate stays as it is.
+// ends, in the same direction. An outer one of one coordinate stays as it is.
 fn joins(x: Axis, y: Axis) -> bool
     requires { ⌜ 0 < y .extent ⌝ }
     ensures { λ r. ⌜ (r ≡ true → Joins x y) ⌝ }
@@ -31,10 +33,14 @@ fn joins(x: Axis, y: Axis) -> bool
     if y.extent == 1 {
         return true;
     }
-    if y.count == y.extent {
-        if is_times(x.jump, y.extent, y.jump) {
-            return is_times(x.stride, y.extent, y.stride);
-        }
+    if y.count != y.extent {
+        return false;
+    }
+    if goes_down(x.jump) != goes_down(y.jump) {
+        return false;
+    }
+    if is_times(length_of(x.jump), y.extent, length_of(y.jump)) {
+        return is_times(x.stride, y.extent, y.stride);
     }
     false
 }

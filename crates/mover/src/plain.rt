@@ -21,7 +21,7 @@ pub(crate) struct Row {
     pub(crate) tensor: Tensor,
     pub(crate) config: Config,
     pub(crate) origin: Origin, // where the source's bytes stand: in src, or in dst itself
-    pub(crate) source: plane::Source, // the source's strides
+    pub(crate) source: plane::Source, // the sizes of the source's strides
     pub(crate) answer: plane::Answer, // the destination's extents and strides
     pub(crate) number: u64, // how many rows of its depth come before it
     pub(crate) kept: bool, // whether every k so far is from 0 to count - 1
@@ -76,13 +76,14 @@ fn inward(mut row: Row, i: usize, c: u32) -> Row
     requires { ⌜ Passable row i c ⌝ }
     ensures { λ r. ⌜ r ≡ inwardOf row i c ⌝ }
 {
+    let t = row.tensor;
     let config = row.config;
     let answer = row.answer;
     let source = row.source;
     let s = config.perm[i] as usize;
-    let size = row.tensor.element_size as usize;
+    let size = t.element_size as usize;
     let pre = config.pre[s] as u32;
-    let count = kept_count(row.tensor, config, s);
+    let count = kept_count(t, config, s);
     row.number = row.number * answer.extent[i] as u64 + c as u64;
     // the place: (destination offset + c) x stride in each dimension, here in bytes
     row.place += (config.dst_offset[i] + c) as usize * answer.stride[i] as usize * size;
@@ -91,7 +92,13 @@ fn inward(mut row: Row, i: usize, c: u32) -> Row
     if row.kept {
         let k = c - pre;
         let coordinate = config.offset[s] + k * config.step[s];
-        row.at += coordinate as usize * source.stride[s] as usize * size;
+        // from the lowest element up: a dimension whose stride is below 0 counts down
+        let up = if t.stride[s] < 0 {
+            t.shape[s] - 1 - coordinate
+        } else {
+            coordinate
+        };
+        row.at += up as usize * source.stride[s] as usize * size;
     }
     row
 }

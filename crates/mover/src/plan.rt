@@ -2,22 +2,25 @@
 use plane::Answer;
 use plane::Config;
 use plane::Tensor;
+use std::num::wrapping_sub_usize;
 ghost use mathlib.Core.Path.{_≡_};
 ghost use mathlib.Core.Bool.{cond};
 ghost use Prim.Native.Nat.{ℕ, _-_, _*_, _≤_, _<_};
+ghost use Rattle.plane.specs.Planes.{up};
 ghost use lib.Dec.{ltb};
 ghost use Rattle.plane.specs.Arrays.{at, sum, product};
 ghost use Rattle.plane.specs.Numbers.{little};
+ghost use Rattle.plane.specs.Signs.{isDown};
 ghost use Rattle.plane.specs.Moves.{roomFault, accepted};
 ghost use Rattle.mover.specs.Element.{dimOf};
-ghost use Rattle.mover.specs.Private.Plans.{planOf, axisMade, lone, Fit};
+ghost use Rattle.mover.specs.Private.Plans.{jumpBy, goesDown, jumpLength, planOf, axisMade, homeMade, lone, Fit};
 
 // One destination dimension.
 pub(crate) struct Axis {
     pub(crate) extent: usize, // pre + count + post
     pub(crate) pre: usize, // padding before
     pub(crate) count: usize, // kept
-    pub(crate) jump: usize, // step x source stride, in bytes
+    pub(crate) jump: usize, // what to add from one kept element to the next: step x size of the source stride, in bytes
     pub(crate) stride: usize, // destination stride, in bytes
 }
 
@@ -40,22 +43,60 @@ fn times(a: u32, b: u32) -> usize
     (a as usize) * (b as usize)
 }
 
-// The byte of the first kept element in the source, whose resolved strides these are.
-fn home_of(c: Config, a: Answer, strides: [u32; 4]) -> usize
-    requires { ⌜ Fit c a ⌝ }
-    ensures { λ r. ⌜ r ≡ sum (a .rank) (λ i. at (c .offset) (dimOf c i) * at strides (dimOf c i)) * a .«element_size» ⌝ }
+// A jump over n bytes. One down is 2^64 less its length, so that one add serves both directions.
+fn jump_by(down: bool, n: usize) -> usize
+    ensures { λ r. ⌜ r ≡ jumpBy down n ⌝ }
+{
+    if down {
+        return wrapping_sub_usize(0, n);
+    }
+    n
+}
+
+// Whether a jump goes down.
+pub(crate) fn goes_down(jump: usize) -> bool
+    ensures { λ r. ⌜ r ≡ goesDown jump ⌝ }
+{
+    9223372036854775808 <= jump
+}
+
+// Over how many bytes it goes.
+pub(crate) fn length_of(jump: usize) -> usize
+    ensures { λ r. ⌜ r ≡ jumpLength jump ⌝ }
+{
+    if goes_down(jump) {
+        return wrapping_sub_usize(0, jump);
+    }
+    jump
+}
+
+// How many strides up from the lowest element of its dimension coordinate x lies.
+fn up(stride: i32, shape: u32, x: u32) -> u32
+    requires { ⌜ x < shape ⌝ }
+    ensures { λ r. ⌜ (r ≡ up (isDown stride) shape x) × (r < shape) ⌝ }
+{
+    if stride < 0 {
+        return shape - 1 - x;
+    }
+    x
+}
+
+// The byte of the first kept element in the source. sizes has the sizes of its resolved strides.
+fn home_of(t: Tensor, c: Config, a: Answer, sizes: [u32; 4]) -> usize
+    requires { ⌜ Fit t c a ⌝ }
+    ensures { λ r. ⌜ r ≡ homeMade t c a sizes ⌝ }
 {
     let mut total: usize = 0;
     for i in 0..a.rank {
         let d = c.perm[i as usize] as usize;
-        total += times(c.offset[d], strides[d]);
+        total += times(up(t.stride[d], t.shape[d], c.offset[d]), sizes[d]);
     }
     total * (a.element_size as usize)
 }
 
 // The byte of the first element in the destination.
-fn base_of(c: Config, a: Answer) -> usize
-    requires { ⌜ Fit c a ⌝ }
+fn base_of(t: Tensor, c: Config, a: Answer) -> usize
+    requires { ⌜ Fit t c a ⌝ }
     ensures { λ r. ⌜ r ≡ sum (a .rank) (λ i. at (c .«dst_offset») i * at (a .stride) i) * a .«element_size» ⌝ }
 {
     let mut total: usize = 0;
@@ -79,23 +120,23 @@ fn bytes_of(fill: u32) -> [u8; 4]
 }
 
 // Destination dimension i. What the padding leaves of its extent is kept.
-fn axis_of(c: Config, a: Answer, strides: [u32; 4], i: usize) -> Axis
-    requires { ⌜ Fit c a ⌝ }
+fn axis_of(t: Tensor, c: Config, a: Answer, sizes: [u32; 4], i: usize) -> Axis
+    requires { ⌜ Fit t c a ⌝ }
     requires { ⌜ i < a .rank ⌝ }
-    ensures { λ r. ⌜ r ≡ axisMade c a strides i ⌝ }
+    ensures { λ r. ⌜ r ≡ axisMade t c a sizes i ⌝ }
 {
     let extent = a.extent[i] as usize;
     let d = c.perm[i] as usize;
     let pre = c.pre[d] as usize;
     let post = c.post[d] as usize;
     let step = c.step[d];
-    let between = times(step, strides[d]);
-    let jump = between * (a.element_size as usize);
+    let between = times(step, sizes[d]) * (a.element_size as usize);
+    let down = t.stride[d] < 0;
     Axis {
         extent,
         pre,
         count: extent - pre - post,
-        jump,
+        jump: jump_by(down, between),
         stride: times(a.stride[i], a.element_size as u32),
     }
 }
@@ -114,16 +155,16 @@ pub(crate) fn lone() -> Axis
 }
 
 // Axis j of four: those that the rank lacks stand first.
-fn axis_at(c: Config, a: Answer, strides: [u32; 4], j: usize) -> Axis
-    requires { ⌜ Fit c a ⌝ }
+fn axis_at(t: Tensor, c: Config, a: Answer, sizes: [u32; 4], j: usize) -> Axis
+    requires { ⌜ Fit t c a ⌝ }
     requires { ⌜ j < 4 ⌝ }
-    ensures { λ r. ⌜ r ≡ cond (ltb j (4 - a .rank)) lone (axisMade c a strides (j - (4 - a .rank))) ⌝ }
+    ensures { λ r. ⌜ r ≡ cond (ltb j (4 - a .rank)) lone (axisMade t c a sizes (j - (4 - a .rank))) ⌝ }
 {
     let lacking = 4 - (a.rank as usize);
     if j < lacking {
         return lone();
     }
-    axis_of(c, a, strides, j - lacking)
+    axis_of(t, c, a, sizes, j - lacking)
 }
 
 // The plan of an accepted move, whose answer is a.
@@ -132,16 +173,16 @@ pub(crate) fn plan_of(t: Tensor, c: Config, a: Answer) -> Plan
     ensures { λ r. ⌜ r ≡ planOf t c ⌝ }
 {
     let s = plane::source_of(t);
-    let strides = s.stride;
+    let sizes = s.stride;
     Plan {
         size: a.element_size as usize,
         pad: bytes_of(c.fill),
-        home: home_of(c, a, strides),
-        base: base_of(c, a),
-        d0: axis_at(c, a, strides, 0),
-        d1: axis_at(c, a, strides, 1),
-        d2: axis_at(c, a, strides, 2),
-        d3: axis_at(c, a, strides, 3),
+        home: home_of(t, c, a, sizes),
+        base: base_of(t, c, a),
+        d0: axis_at(t, c, a, sizes, 0),
+        d1: axis_at(t, c, a, sizes, 1),
+        d2: axis_at(t, c, a, sizes, 2),
+        d3: axis_at(t, c, a, sizes, 3),
     }
 }
 

@@ -2,13 +2,18 @@
 // multiplies and divides: once a step, and `spot_at` once a band.
 use crate::plan::Axis;
 use crate::plan::Plan;
+use crate::plan::goes_down;
+use crate::plan::length_of;
 use crate::spots::Spot;
 use crate::spots::Spots;
+use std::num::wrapping_add_usize;
+use std::num::wrapping_sub_usize;
 ghost use mathlib.Core.Path.{_≡_};
-ghost use Prim.Native.Nat.{_+_, _*_, _^_, _<_};
+ghost use Prim.Native.Nat.{_+_, _-_, _*_, _^_, _<_};
 ghost use Rattle.mover.specs.Private.Elements.{planTotal};
-ghost use Rattle.mover.specs.Private.Adding.{jumpsOf, spotAt, beginningOf};
-ghost use Rattle.mover.specs.Private.Ready.{homeEnd, placeEnd, GoodAxes};
+ghost use Rattle.mover.specs.Private.Adding.{along, jumpsOf, spotAt, beginningOf};
+ghost use Rattle.mover.specs.Private.Plans.{jumpLength};
+ghost use Rattle.mover.specs.Private.Ready.{reachOf, placeEnd, GoodAxes};
 
 // The coordinates of an element, and its spots.
 pub(crate) struct Beginning {
@@ -33,23 +38,35 @@ fn jumps(x: Axis, c: usize) -> usize
     x.count - 1
 }
 
+// n jumps on from `at`.
+fn after(at: usize, jump: usize, n: usize) -> usize
+    requires { ⌜ n * jumpLength jump < 2 ^ 64 ⌝ }
+    ensures { λ r. ⌜ r ≡ along at jump n ⌝ }
+{
+    let far = n * length_of(jump);
+    if goes_down(jump) {
+        return wrapping_sub_usize(at, far);
+    }
+    wrapping_add_usize(at, far)
+}
+
 // The spot at coordinate c of a dimension, from that at its start.
 pub(crate) fn spot_at(s: Spot, x: Axis, c: usize) -> Spot
     requires { ⌜ 0 < x .count ⌝ }
     requires { ⌜ s .to + c * x .stride < 2 ^ 64 ⌝ }
-    requires { ⌜ s .at + jumpsOf x c * x .jump < 2 ^ 64 ⌝ }
+    requires { ⌜ (x .count - 1) * jumpLength (x .jump) < 2 ^ 64 ⌝ }
     ensures { λ r. ⌜ r ≡ spotAt s x c ⌝ }
 {
     Spot {
         to: s.to + c * x.stride,
-        at: s.at + jumps(x, c) * x.jump,
+        at: after(s.at, x.jump, jumps(x, c)),
     }
 }
 
 // The coordinates and the spots of element number `from`, with which a step begins.
 pub(crate) fn begin(plan: Plan, from: usize) -> Beginning
     requires { ⌜ GoodAxes plan ⌝ }
-    requires { ⌜ (homeEnd plan < 2 ^ 64) × (placeEnd plan < 2 ^ 64) ⌝ }
+    requires { ⌜ (reachOf plan < 2 ^ 64) × (placeEnd plan < 2 ^ 64) ⌝ }
     requires { ⌜ from < planTotal plan ⌝ }
     ensures { λ r. ⌜ r ≡ beginningOf plan from ⌝ }
 {

@@ -52,6 +52,10 @@ module _ {A : Type 0} (z : A) where
   unfolding firstsOr
   firsts-at n f d m h = array-at (λ d. below z n d (f d)) z d (omega arith) ∙ below-lt n d (f d) h
 
+  pub firsts-past : (n : ℕ) (f : ℕ → A) (d : ℕ) → d < 4 → n ≤ d → getD (firstsOr z n f) d z ≡ z
+  unfolding firstsOr
+  firsts-past n f d l h = array-at (λ d. below z n d (f d)) z d l ∙ below-past n d (f d) h
+
   -- the same entries below n: the same array
   pub firsts-same : (n : ℕ) (f g : ℕ → A) → ((k : ℕ) → k < n → f k ≡ g k) → firstsOr z n f ≡ firstsOr z n g
   unfolding firstsOr

@@ -13,7 +13,7 @@ use Rattle.plane.specs.Good.{GoodStrides}
 use Rattle.plane.specs.Claims.{StridesFall}
 
 module _ (n : ℕ) (shape stride : ℕ → ℕ) where
-  inner-last : inner n shape stride 0 ≡ 1
+  pub inner-last : inner n shape stride 0 ≡ 1
   unfolding inner
   inner-last = refl
 

@@ -13,7 +13,9 @@ use lib.Dec.{ltb}
 use lib.ListN.{length, set, length-append, List·getD-append}
 use lib.Seq.{getD-append-seam}
 use Rattle.plane.specs.declared.sub.Staying.{Staying}
-use Rattle.plane.specs.Arrays.{at, firsts, zeros, sum, howMany}
+use lib.IntN.{ℤ, pos}
+use Rattle.plane.specs.Arrays.{at, firstsOr, zeros, sum, howMany}
+use Rattle.plane.specs.Signs.{zerosZ}
 use Rattle.plane.specs.Helpers.{isUnit, removed, staying}
 use Rattle.plane.specs.Private.{stayingOf}
 use Rattle.faults.proofs.Bools.{both-first, both-second}
@@ -151,16 +153,16 @@ lacks h e = elim (decLt h e) [
   | no q ↦ le-ltb 0 (e - h) (omega arith) ∙ sym (le-ltb h e (omega arith))
 ]
 
-module _ (n : ℕ) (size stride : ℕ → ℕ) (excess : ℕ) where
-  pub record Shrunk (shape out : List ℕ) (lacking k d : ℕ) : Type 0 where
+module _ (n : ℕ) (size : ℕ → ℕ) (stride : ℕ → ℤ) (excess : ℕ) where
+  pub record Shrunk (shape : List ℕ) (out : List ℤ) (lacking k d : ℕ) : Type 0 where
     pub within : d ≤ n
     pub few : k ≤ d
     pub count : k ≡ length (staying size excess d)
     pub left : lacking ≡ lackingAt size excess d
     pub shapes : Filled 0 4 (λ j. size (at (staying size excess d) j)) shape k
-    pub strides : Filled 0 4 (λ j. stride (at (staying size excess d) j)) out k
+    pub strides : Filled (pos 0) 4 (λ j. stride (at (staying size excess d) j)) out k
 
-  pub shrunk-start : Shrunk zeros zeros excess 0 0
+  pub shrunk-start : Shrunk zeros zerosZ excess 0 0
   unfolding staying howMany
   shrunk-start = record {
     within = omega arith;
@@ -171,7 +173,7 @@ module _ (n : ℕ) (size stride : ℕ → ℕ) (excess : ℕ) where
     strides = filled-start;
   }
 
-  module _ {shape out : List ℕ} {lacking k d : ℕ} (w : Shrunk shape out lacking k d) (h : d < n) where
+  module _ {shape : List ℕ} {out : List ℤ} {lacking k d : ℕ} (w : Shrunk shape out lacking k d) (h : d < n) where
     tested : (isUnit size d && ltb 0 lacking) ≡ removed size excess d
     tested = ap (λ (b : Bool). isUnit size d && b) (ap (ltb 0) (w .left) ∙ lacks (howMany d (isUnit size)) excess)
 
@@ -196,7 +198,7 @@ module _ (n : ℕ) (size stride : ℕ → ℕ) (excess : ℕ) where
         })
 
     -- one more entry of an array, behind those of the dimensions that stay
-    one-more : (f : ℕ → ℕ) (a : List ℕ) → n ≤ 4 → Stays size excess d → Filled 0 4 (λ j. f (at (staying size excess d) j)) a k → Filled 0 4 (λ j. f (at (staying size excess (suc d)) j)) (set a k (f d)) (k + 1)
+    one-more : {A : Type 0} {z : A} (f : ℕ → A) (a : List A) → n ≤ 4 → Stays size excess d → Filled z 4 (λ j. f (at (staying size excess d) j)) a k → Filled z 4 (λ j. f (at (staying size excess (suc d)) j)) (set a k (f d)) (k + 1)
     one-more f a four g v =
         let c = w .count in
         filled-more (omega arith)
@@ -217,7 +219,7 @@ module _ (n : ℕ) (size stride : ℕ → ℕ) (excess : ℕ) where
           strides = one-more stride out four g (w .strides);
         })
 
-  pub shrunk-end : {shape out : List ℕ} {lacking k d : ℕ} → Shrunk shape out lacking k d → n ≤ d → _≡_ {A = Staying} (record { lacking = lacking; shape = shape; stride = out }) (stayingOf n size stride excess)
+  pub shrunk-end : {shape : List ℕ} {out : List ℤ} {lacking k d : ℕ} → Shrunk shape out lacking k d → n ≤ d → _≡_ {A = Staying} (record { lacking = lacking; shape = shape; stride = out }) (stayingOf n size stride excess)
   unfolding stayingOf
   shrunk-end {shape} {out} {lacking} {k} {d} w h =
       let l = w .within in
@@ -225,5 +227,5 @@ module _ (n : ℕ) (size stride : ℕ → ℕ) (excess : ℕ) where
       subst (λ (m : ℕ). _≡_ {A = Staying} (record { lacking = lacking; shape = shape; stride = out }) (stayingOf m size stride excess)) e
       (λ i. record { lacking = w .left i; shape = full size shape (w .shapes) i; stride = full stride out (w .strides) i })
     where
-      full : (f : ℕ → ℕ) (a : List ℕ) → Filled 0 4 (λ j. f (at (staying size excess d) j)) a k → a ≡ firsts (length (staying size excess d)) (λ i. f (at (staying size excess d) i))
+      full : {A : Type 0} {z : A} (f : ℕ → A) (a : List A) → Filled z 4 (λ j. f (at (staying size excess d) j)) a k → a ≡ firstsOr z (length (staying size excess d)) (λ i. f (at (staying size excess d) i))
       full f a v = filled-end (record { within = omega (arith, w .count); long = v .long; entries = rw (w .count) at (v .entries) }) (omega (arith, w .count))

@@ -3,17 +3,20 @@ use Prim.Native.Nat.{ℕ, zero, suc, _+_, _-_, _*_, _≤_, _<_}
 use native.Mathlib.Nat.{le-trans, add-mul, mul-le-mul-left, mul-le-mul-right}
 use native.Mathlib.Omega.{arith}
 use mathlib.Core.Path.{_≡_, sym, ap, ap₂, _∙_}
-use mathlib.Core.List.{List}
+use mathlib.Core.Bool.{Bool, true, false}
 use borrow.Author.Tests.{eqb-false, ne-eqb, leb-false, lt-leb, ltb-false, le-ltb}
 use lib.Dec.{ltb, eqb}
+use lib.IntN.{pos}
 use lib.ListN.{length}
 use Rattle.plane.specs.declared.Tensor.{Tensor}
 use Rattle.plane.specs.declared.SubConfig.{SubConfig}
 use Rattle.plane.specs.Arrays.{at, sum}
-use Rattle.plane.specs.Planes.{shapeAt, strideAt, resolved, srcStrides, span}
-use Rattle.plane.specs.Helpers.{staying, excess, subDim, subRules, subFault, subOf, subByte, noSub, subAnswer, subTensorOf}
+use Rattle.plane.specs.Signs.{sizeOf, isDown, signed, atZ}
+use Rattle.plane.specs.Planes.{shapeAt, strideAt, downAt, up, resolved, srcStrides, sourceAt, span}
+use Rattle.plane.specs.Helpers.{staying, excess, subDim, subRules, subFault, resolvedAt, lowestIn, subOf, subByte, noSub, subAnswer, subTensorOf}
 use Rattle.faults.proofs.Bools.{either-clear, neither}
-use Rattle.plane.proofs.Arrays.{firsts-at, firsts-same, sum-same}
+use Rattle.plane.proofs.Arrays.{firsts-at, sum-same}
+use Rattle.plane.proofs.Signed.{sizes-at, signed-size, signed-down}
 use Rattle.faults.proofs.Faults.{if-none}
 use Rattle.faults.proofs.Chains.{unbroken, unbroken-accepts}
 use Rattle.plane.specs.Good.{GoodSource, GoodSub}
@@ -59,6 +62,11 @@ sub-clear t s srcLen g =
 
 -- ---- the sub-tensor's dimensions
 
+-- the elements of a part, from its lowest up, lie in the whole
+low-within : (down : Bool) (shape offset size : ℕ) → 0 < size → size + offset ≤ shape → up down shape (lowestIn down offset size) + (size - 1) ≤ shape - 1
+low-within true shape offset size h k = omega arith
+low-within false shape offset size h k = omega arith
+
 -- what the terms of two sums come to together
 sums-within : (n : ℕ) (f g h : ℕ → ℕ) → ((d : ℕ) → d < n → f d + g d ≤ h d) → sum n f + sum n g ≤ sum n h
 unfolding sum
@@ -85,9 +93,13 @@ module _ {t : Tensor} {s : SubConfig} {srcLen : ℕ} (g : GoodSub t s srcLen) wh
   unfolding subOf
   sub-shape i h = firsts-at 0 (s .rank) (λ i. at (s .size) (subDim t s i)) i rank-small h
 
-  pub sub-stride : (i : ℕ) → i < s .rank → strideAt (subOf t s) i ≡ at (srcStrides t) (subDim t s i)
+  pub sub-stride : (i : ℕ) → i < s .rank → atZ (subOf t s .stride) i ≡ resolvedAt t (subDim t s i)
   unfolding subOf
-  sub-stride i h = firsts-at 0 (s .rank) (λ i. at (srcStrides t) (subDim t s i)) i rank-small h
+  sub-stride i h = firsts-at (pos 0) (s .rank) (λ i. resolvedAt t (subDim t s i)) i rank-small h
+
+  stride-size : (i : ℕ) → i < s .rank → strideAt (subOf t s) i ≡ at (srcStrides t) (subDim t s i)
+  stride-size i h =
+      sizes-at (subOf t s .stride) i ∙ ap sizeOf (sub-stride i h) ∙ signed-size (downAt t (subDim t s i)) (at (srcStrides t) (subDim t s i))
 
   -- the source's resolved strides: at least 1, within the limit, and falling inward
   abbrev whole : ℕ → ℕ
@@ -100,7 +112,7 @@ module _ {t : Tensor} {s : SubConfig} {srcLen : ℕ} (g : GoodSub t s srcLen) wh
   some d h = g .source .shape d h .0
 
   its-stride : (i : ℕ) → i < s .rank → strideAt (subOf t s) i ≡ whole (subDim t s i)
-  its-stride i h = sub-stride i h ∙ whole-at (subDim t s i) (subDim-below i h)
+  its-stride i h = stride-size i h ∙ whole-at (subDim t s i) (subDim-below i h)
 
   stride-within : (i : ℕ) → i < s .rank → (1 ≤ strideAt (subOf t s) i) × (strideAt (subOf t s) i ≤ 2147483647)
   stride-within i h =
@@ -124,12 +136,20 @@ module _ {t : Tensor} {s : SubConfig} {srcLen : ℕ} (g : GoodSub t s srcLen) wh
     strides = written-good (s .rank) (shapeAt (subOf t s)) (strideAt (subOf t s)) stride-within strides-drop;
   }
 
-  -- its strides are resolved as they are written
-  pub sub-resolved : srcStrides (subOf t s) ≡ subOf t s .stride
+  -- its strides are resolved as they are written: their sizes are the plane's, and they count down where the plane's do
+  pub sub-size : (i : ℕ) → i < s .rank → at (srcStrides (subOf t s)) i ≡ at (srcStrides t) (subDim t s i)
   unfolding subOf
-  sub-resolved =
-      firsts-same 0 (s .rank) _ _
-      (λ i h. written-stays (s .rank) (shapeAt (subOf t s)) (strideAt (subOf t s)) i (stride-within i h .0) ∙ sub-stride i h)
+  sub-size i h =
+      firsts-at 0 (s .rank) (resolved (s .rank) (shapeAt (subOf t s)) (strideAt (subOf t s))) i rank-small h ∙
+      written-stays (s .rank) (shapeAt (subOf t s)) (strideAt (subOf t s)) i (stride-within i h .0) ∙ stride-size i h
+
+  pub sub-down : (i : ℕ) → i < s .rank → downAt (subOf t s) i ≡ downAt t (subDim t s i)
+  sub-down i h =
+      let l = stride-within i h .0 in
+      ap isDown (sub-stride i h) ∙ signed-down (downAt t (subDim t s i)) (at (srcStrides t) (subDim t s i)) (omega (arith, stride-size i h))
+
+  sub-resolved : (i : ℕ) → i < s .rank → resolvedAt (subOf t s) i ≡ atZ (subOf t s .stride) i
+  sub-resolved i h = ap₂ (λ (b : Bool) (n : ℕ). signed b n) (sub-down i h) (sub-size i h) ∙ sym (sub-stride i h)
 
   -- how far a box of the sizes reaches in a dimension, in elements
   abbrev across : ℕ → ℕ
@@ -140,7 +160,7 @@ module _ {t : Tensor} {s : SubConfig} {srcLen : ℕ} (g : GoodSub t s srcLen) wh
   unfolding span subOf
   sub-span =
       ap (λ (x : ℕ). (1 + x) * t .«element_size»)
-      (sum-same (s .rank) _ _ (λ i h. ap₂ (λ (x y : ℕ). (x - 1) * y) (sub-shape i h) (ap (λ (x : List ℕ). at x i) sub-resolved ∙ sub-stride i h)) ∙
+      (sum-same (s .rank) _ _ (λ i h. ap₂ (λ (x y : ℕ). (x - 1) * y) (sub-shape i h) (sub-size i h)) ∙
       ap (λ (m : ℕ). sum m (λ i. across (subDim t s i))) (sym sub-count) ∙
       staying-sum (at (s .size)) (excess t s) across (λ d u. rw u (omega arith)) (t .rank))
 
@@ -151,8 +171,10 @@ module _ {t : Tensor} {s : SubConfig} {srcLen : ℕ} (g : GoodSub t s srcLen) wh
       (rw (← add-mul)
       (mul-le-mul-right (t .«element_size») (omega (arith, sums-within (t .rank) _ across (λ d. (shapeAt t d - 1) * at (srcStrides t) d) reach))))
     where
-      reach : (d : ℕ) → d < t .rank → at (s .offset) d * at (srcStrides t) d + across d ≤ (shapeAt t d - 1) * at (srcStrides t) d
-      reach d h = rw (← add-mul) (mul-le-mul-right (at (srcStrides t) d) (omega (arith, g .size d h .0, g .size d h .1)))
+      reach : (d : ℕ) → d < t .rank → sourceAt t d (lowestIn (downAt t d) (at (s .offset) d) (at (s .size) d)) + across d ≤ (shapeAt t d - 1) * at (srcStrides t) d
+      reach d h =
+          rw (← add-mul)
+          (mul-le-mul-right (at (srcStrides t) d) (low-within (downAt t d) (shapeAt t d) (at (s .offset) d) (at (s .size) d) (g .size d h .0) (g .size d h .1)))
 
 -- ---- the answer
 

@@ -12,14 +12,18 @@ use Rattle.plane.specs.declared.Config.{Config}
 use Rattle.plane.specs.declared.SubConfig.{SubConfig}
 use Rattle.faults.specs.declared.Fault.{Fault}
 use Rattle.plane.specs.declared.SubTensor.{SubTensor}
+use lib.IntN.{ℤ, pos}
 use Rattle.plane.specs.Arrays.{at, zeros, or0}
+use Rattle.plane.specs.Signs.{sizeOf, isDown, signed, atZ}
 use Rattle.faults.specs.Faults.{when, _orElse_, lowest, ifFault}
-use Rattle.plane.specs.Planes.{badShape, badStride, shapeAt, strideAt, inner, resolved, badStrideAt, strides, srcStrides, span, sourceFault, sourceOf}
+use Rattle.plane.specs.Planes.{badShape, badStride, shapeAt, strideAt, downAt, up, inner, resolved, badStrideAt, strides, srcStrides, span, sourceFault, sourceOf}
 use Rattle.plane.specs.Moves.{upward, count, extent, dstExtents, dstStrides, need, badPermAt, badOffset, badStep, badExtent, badDstOffsetAt, badDstOffsetOf, configFault, dstFault, moveFault, roomFault, accepted, answerOf, judgeOf, roomOf}
-use Rattle.plane.specs.Helpers.{elements, countFault, countAnswer, countOf, isUnit, staying, subDim, rankFault, subFault, subOf, subByte, noSub, subAnswer, subTensorOf}
+use Rattle.plane.specs.Helpers.{elements, countFault, countAnswer, countOf, isUnit, staying, subDim, rankFault, subFault, resolvedAt, lowestIn, subOf, subByte, noSub, subAnswer, subTensorOf}
+use Rattle.plane.specs.Mirrors.{SameSizes, SignsUnjudged}
 use Rattle.plane.specs.Unseen.{SameTensor, SameArrays, SameSub, UnseenTensor, UnseenConfig, UnseenSub, CallsUnseen}
 use Rattle.plane.proofs.Configs.{same-offset, same-size, same-step, same-dst-offset, same-dst-stride, same-perm, same-pre, same-post}
 use Rattle.plane.proofs.Arrays.{firsts-same, sum-same, product-same, howMany-same, some-same}
+use Rattle.plane.proofs.Signed.{sizes-at}
 use Rattle.faults.proofs.Faults.{status, or-path, or-found, or-clear, lowest-same, outward-same, if-fault, if-none}
 use Rattle.plane.specs.Good.{GoodConfig}
 use Rattle.plane.proofs.Good.{config-good, config-clear}
@@ -47,12 +51,12 @@ module _ (n : ℕ) (s s′ p p′ : ℕ → ℕ) (es : (d : ℕ) → d < n → s
   strides-same : strides n s p ≡ strides n s′ p′
   strides-same = firsts-same 0 n (resolved n s p) (resolved n s′ p′) resolved-same
 
--- ---- two tensor records of one rank n and one element size z
+-- ---- two tensor records of one rank n and one element size z, whose strides may differ in their signs
 
-abbrev tensor : ℕ → ℕ → List ℕ → List ℕ → Tensor
+abbrev tensor : ℕ → ℕ → List ℕ → List ℤ → Tensor
 tensor n z shape stride = record { rank = n; «element_size» = z; shape = shape; stride = stride }
 
-module _ (n z : ℕ) (s s′ p p′ : List ℕ) (a : SameTensor (tensor n z s p) (tensor n z s′ p′)) where
+module _ (n z : ℕ) (s s′ : List ℕ) (p p′ : List ℤ) (a : SameSizes (tensor n z s p) (tensor n z s′ p′)) where
   abbrev T : Tensor
   T = tensor n z s p
 
@@ -187,8 +191,8 @@ module _ (n z : ℕ) (s s′ p p′ : List ℕ) (a : SameTensor (tensor n z s p)
   unfolding countOf countFault
   count-same start = ap₂ countAnswer (or-path refl (or-path shapes-same refl)) (elements-same start)
 
-  -- the sub-tensor's rank is one number m, so that its output's rank is one too
-  module _ (m : ℕ) (o o′ q q′ : List ℕ) (b : SameSub n (record { offset = o; size = q; rank = m }) (record { offset = o′; size = q′; rank = m })) where
+  -- the sub-tensor's rank is one number m, so that its output's rank is one too; here the signs count
+  module _ (g : (d : ℕ) → d < n → atZ p d ≡ atZ p′ d) (m : ℕ) (o o′ q q′ : List ℕ) (b : SameSub n (record { offset = o; size = q; rank = m }) (record { offset = o′; size = q′; rank = m })) where
     abbrev S : SubConfig
     S = record { offset = o; size = q; rank = m }
 
@@ -223,10 +227,16 @@ module _ (n z : ℕ) (s s′ p p′ : List ℕ) (a : SameTensor (tensor n z s p)
         (ap₂ (λ (x y : ℕ). ltb x y) (a .shape d h) (ap₂ (λ (x y : ℕ). x + y) (b .size d h) (b .offset d h)))))
         rank-same)))
 
+    down-same : (d : ℕ) → d < n → downAt T d ≡ downAt T′ d
+    down-same d h = ap isDown (g d h)
+
+    low-same : (d : ℕ) → d < n → up (downAt T d) (shapeAt T d) (lowestIn (downAt T d) (at o d) (at q d)) ≡ up (downAt T′ d) (shapeAt T′ d) (lowestIn (downAt T′ d) (at o′ d) (at q′ d))
+    low-same d h = λ i. up (down-same d h i) (a .shape d h i) (lowestIn (down-same d h i) (b .offset d h i) (b .size d h i))
+
     byte-same : subByte T S ≡ subByte T′ S′
     unfolding subByte
     byte-same =
-        ap (λ (x : ℕ). x * z) (sum-same n _ _ (λ d h. ap₂ (λ (x : ℕ) (l : List ℕ). x * at l d) (b .offset d h) src-strides-same))
+        ap (λ (x : ℕ). x * z) (sum-same n _ _ (λ d h. ap₂ (λ (x : ℕ) (l : List ℕ). x * at l d) (low-same d h) src-strides-same))
 
     of-same : (sl : ℕ) → subFault T S sl .status ≡ 0 → subOf T S ≡ subOf T′ S′
     unfolding subOf
@@ -234,8 +244,10 @@ module _ (n z : ℕ) (s s′ p p′ : List ℕ) (a : SameTensor (tensor n z s p)
         let dims : staying (at q) (n - m) n ≡ staying (at q′) (n - m) n = staying-same (n - m) n (omega arith) in
         let shape = firsts-same 0 m (λ i. at q (subDim T S i)) (λ i. at q′ (subDim T′ S′ i))
         (λ i h. b .size (subDim T S i) (subDim-below (sub-good T S sl y) i h) ∙ ap (λ (l : List ℕ). at q′ (at l i)) dims) in
-        let stride = firsts-same 0 m (λ i. at (srcStrides T) (subDim T S i)) (λ i. at (srcStrides T′) (subDim T′ S′ i))
-        (λ i h. ap₂ (λ (k l : List ℕ). at k (at l i)) src-strides-same dims) in
+        let stride = firsts-same (pos 0) m (λ i. resolvedAt T (subDim T S i)) (λ i. resolvedAt T′ (subDim T′ S′ i))
+        (λ i h.
+        ap₂ (λ (v : Bool) (l : List ℕ). signed v (at l (subDim T S i))) (down-same (subDim T S i) (subDim-below (sub-good T S sl y) i h)) src-strides-same ∙
+        ap (λ (l : List ℕ). resolvedAt T′ (at l i)) dims) in
         λ i. record { rank = m; «element_size» = z; shape = shape i; stride = stride i }
 
     sub-same : (sl : ℕ) → subTensorOf T S sl ≡ subTensorOf T′ S′ sl
@@ -255,7 +267,7 @@ module _ (n z : ℕ) (s s′ p p′ : List ℕ) (a : SameTensor (tensor n z s p)
 
 -- ---- the theorems
 
-module _ (t t′ : Tensor) (a : SameTensor t t′) where
+module _ (t t′ : Tensor) (a : SameSizes t t′) where
   -- the same arrays as t′, at t's rank and element size
   abbrev like : Tensor
   like = tensor (t .rank) (t .«element_size») (t′ .shape) (t′ .stride)
@@ -263,15 +275,47 @@ module _ (t t′ : Tensor) (a : SameTensor t t′) where
   across : {A : Type 0} (f : Tensor → A) → f like ≡ f t′
   across f = ap₂ (λ (n z : ℕ). f (tensor n z (t′ .shape) (t′ .stride))) (a .rank) (a .element)
 
-  agrees : SameTensor t like
-  agrees = record { rank = refl; element = refl; shape = a .shape; stride = a .stride }
+  alike : SameSizes t like
+  alike = record { rank = refl; element = refl; shape = a .shape; stride = a .stride }
+
+  pub sizes-alike : srcStrides t′ ≡ srcStrides t
+  sizes-alike = sym (src-strides-same _ _ _ _ _ _ alike ∙ across (λ (x : Tensor). srcStrides x))
+
+-- signs are not judged
+pub signs-unjudged : SignsUnjudged
+signs-unjudged = record {
+  source = λ t t′ a. its-same _ _ _ _ _ _ (alike t t′ a) ∙ across t t′ a (λ (x : Tensor). sourceOf x);
+  room = λ t t′ a c. room-same _ _ _ _ _ _ (alike t t′ a) c c (same-arrays (t .rank) c) ∙ across t t′ a (λ (x : Tensor). roomOf x c);
+  judge = λ t t′ a c sl dl. judge-same _ _ _ _ _ _ (alike t t′ a) c c (same-arrays (t .rank) c) sl dl ∙ across t t′ a (λ (x : Tensor). judgeOf x c sl dl);
+}
+  where
+    same-arrays : (n : ℕ) (c : Config) → SameArrays n c c
+    same-arrays n c = record { each = λ k l d h. refl }
+
+pub same-sizes : {t t′ : Tensor} → SameTensor t t′ → SameSizes t t′
+same-sizes {t} {t′} a = record {
+  rank = a .rank;
+  element = a .element;
+  shape = a .shape;
+  stride = λ d h. sizes-at (t .stride) d ∙ ap sizeOf (a .stride d h) ∙ sym (sizes-at (t′ .stride) d);
+}
+
+module _ (t t′ : Tensor) (e : SameTensor t t′) where
+  abbrev a : SameSizes t t′
+  a = same-sizes e
+
+  agrees : SameSizes t (like t t′ a)
+  agrees = alike t t′ a
 
   -- for the layers above: the fault of a move, and what an accepted move looks at
   pub fault-unseen : (c c′ : Config) → SameArrays (t .rank) c c′ → (srcLen dstLen : ℕ) → moveFault t c srcLen dstLen ≡ moveFault t′ c′ srcLen dstLen
-  fault-unseen c c′ b sl dl = move-same _ _ _ _ _ _ agrees c c′ b sl dl ∙ across (λ (x : Tensor). moveFault x c′ sl dl)
+  fault-unseen c c′ b sl dl = move-same _ _ _ _ _ _ agrees c c′ b sl dl ∙ across t t′ a (λ (x : Tensor). moveFault x c′ sl dl)
 
   pub strides-unseen : srcStrides t ≡ srcStrides t′
-  strides-unseen = src-strides-same _ _ _ _ _ _ agrees ∙ across (λ (x : Tensor). srcStrides x)
+  strides-unseen = src-strides-same _ _ _ _ _ _ agrees ∙ across t t′ a (λ (x : Tensor). srcStrides x)
+
+  pub down-unseen : (d : ℕ) → d < t .rank → downAt t d ≡ downAt t′ d
+  down-unseen d h = ap isDown (e .stride d h)
 
   module _ (c c′ : Config) (b : SameArrays (t .rank) c c′) where
     pub kept-unseen : (d : ℕ) → d < t .rank → count t c d ≡ count t′ c′ d
@@ -281,27 +325,27 @@ module _ (t t′ : Tensor) (a : SameTensor t t′) where
 
     module _ (g : GoodConfig t c) where
       pub extents-unseen : dstExtents t c ≡ dstExtents t′ c′
-      extents-unseen = extents-same _ _ _ _ _ _ agrees c c′ b (config-clear t c g) ∙ across (λ (x : Tensor). dstExtents x c′)
+      extents-unseen = extents-same _ _ _ _ _ _ agrees c c′ b (config-clear t c g) ∙ across t t′ a (λ (x : Tensor). dstExtents x c′)
 
       pub dst-strides-unseen : dstStrides t c ≡ dstStrides t′ c′
-      dst-strides-unseen = dst-strides-same _ _ _ _ _ _ agrees c c′ b (config-clear t c g) ∙ across (λ (x : Tensor). dstStrides x c′)
+      dst-strides-unseen = dst-strides-same _ _ _ _ _ _ agrees c c′ b (config-clear t c g) ∙ across t t′ a (λ (x : Tensor). dstStrides x c′)
 
 pub source-unseen : UnseenTensor sourceOf
-source-unseen t t′ a = its-same _ _ _ _ _ _ (agrees t t′ a) ∙ across t t′ a (λ (x : Tensor). sourceOf x)
+source-unseen t t′ a = signs-unjudged .source t t′ (same-sizes a)
 
 pub room-unseen : UnseenConfig roomOf
-room-unseen t t′ a c c′ b = room-same _ _ _ _ _ _ (agrees t t′ a) c c′ b ∙ across t t′ a (λ (x : Tensor). roomOf x c′)
+room-unseen t t′ a c c′ b = room-same _ _ _ _ _ _ (agrees t t′ a) c c′ b ∙ across t t′ (same-sizes a) (λ (x : Tensor). roomOf x c′)
 
 pub judge-unseen : (srcLen dstLen : ℕ) → UnseenConfig (λ t c. judgeOf t c srcLen dstLen)
-judge-unseen sl dl t t′ a c c′ b = judge-same _ _ _ _ _ _ (agrees t t′ a) c c′ b sl dl ∙ across t t′ a (λ (x : Tensor). judgeOf x c′ sl dl)
+judge-unseen sl dl t t′ a c c′ b = judge-same _ _ _ _ _ _ (agrees t t′ a) c c′ b sl dl ∙ across t t′ (same-sizes a) (λ (x : Tensor). judgeOf x c′ sl dl)
 
 pub count-unseen : (start : ℕ) → UnseenTensor (λ t. countOf t start)
-count-unseen start t t′ a = count-same _ _ _ _ _ _ (agrees t t′ a) start ∙ across t t′ a (λ (x : Tensor). countOf x start)
+count-unseen start t t′ a = count-same _ _ _ _ _ _ (agrees t t′ a) start ∙ across t t′ (same-sizes a) (λ (x : Tensor). countOf x start)
 
 pub sub-unseen : (srcLen : ℕ) → UnseenSub (λ t s. subTensorOf t s srcLen)
 sub-unseen sl t t′ a s s′ b =
-    sub-same _ _ _ _ _ _ (agrees t t′ a) (s .rank) (s .offset) (s′ .offset) (s .size) (s′ .size) (record { offset = b .offset; size = b .size; rank = refl }) sl ∙
-    across t t′ a (λ (x : Tensor). subTensorOf x (record { offset = s′ .offset; size = s′ .size; rank = s .rank }) sl) ∙
+    sub-same _ _ _ _ _ _ (agrees t t′ a) (a .stride) (s .rank) (s .offset) (s′ .offset) (s .size) (s′ .size) (record { offset = b .offset; size = b .size; rank = refl }) sl ∙
+    across t t′ (same-sizes a) (λ (x : Tensor). subTensorOf x (record { offset = s′ .offset; size = s′ .size; rank = s .rank }) sl) ∙
     ap (λ (m : ℕ). subTensorOf t′ (record { offset = s′ .offset; size = s′ .size; rank = m }) sl) (b .rank)
 
 pub calls-unseen : CallsUnseen

@@ -9,9 +9,10 @@ use Rattle.plane.specs.declared.SubConfig.{SubConfig}
 use Rattle.plane.specs.Arrays.{at, zeros, product}
 use Rattle.faults.specs.Faults.{fault}
 use Rattle.faults.specs.Exactness.{Exact}
-use Rattle.plane.specs.Planes.{shapeAt, strideAt, inner, resolved, srcStrides, span, sourceRules, sourceFault, sourceOf}
+use Rattle.plane.specs.Signs.{atZ}
+use Rattle.plane.specs.Planes.{shapeAt, inner, resolved, span, sourceRules, sourceFault, sourceOf}
 use Rattle.plane.specs.Moves.{dstExtents, need, moveRules, moveFault, roomRules, refused, judgeOf, roomOf}
-use Rattle.plane.specs.Helpers.{elements, countRules, noCount, countOf, staying, excess, subDim, subRules, subFault, subOf, noSub, subTensorOf}
+use Rattle.plane.specs.Helpers.{elements, countRules, noCount, countOf, staying, excess, subDim, subRules, subFault, resolvedAt, subOf, noSub, subTensorOf}
 use Rattle.plane.specs.Good.{FromTo, GoodStrides, GoodSource, GoodConfig, GoodDst, GoodMove, GoodSub}
 
 -- ---- Refusals
@@ -128,14 +129,14 @@ CountBounded = (t : Tensor) (start : ℕ) → countOf t start .count ≤ mostCou
 -- ---- Sub-tensors
 
 -- its dimensions: as many stay as its rank asks for, and they are dimensions of the plane, in order; each has the size for its shape, and
--- the plane's resolved stride, which is resolved as it is written
+-- the plane's resolved stride with its sign, which is resolved as it is written
 pub record SubNumbers (t : Tensor) (s : SubConfig) : Type 0 where
   pub count : length (staying (at (s .size)) (excess t s) (t .rank)) ≡ s .rank
   pub below : (i : ℕ) → i < s .rank → subDim t s i < t .rank
   pub rises : (i j : ℕ) → i < j → j < s .rank → subDim t s i < subDim t s j
   pub shape : (i : ℕ) → i < s .rank → shapeAt (subOf t s) i ≡ at (s .size) (subDim t s i)
-  pub stride : (i : ℕ) → i < s .rank → strideAt (subOf t s) i ≡ at (srcStrides t) (subDim t s i)
-  pub resolved : srcStrides (subOf t s) ≡ subOf t s .stride
+  pub stride : (i : ℕ) → i < s .rank → atZ (subOf t s .stride) i ≡ resolvedAt t (subDim t s i)
+  pub resolved : (i : ℕ) → i < s .rank → resolvedAt (subOf t s) i ≡ atZ (subOf t s .stride) i
 
 -- of an accepted one
 abbrev pub SubTold : Type 0
@@ -147,7 +148,7 @@ SubAccepted =
     (t : Tensor) (s : SubConfig) (srcLen : ℕ) → subTensorOf t s srcLen .status ≡ 0 →
     sourceFault (subTensorOf t s srcLen .tensor) .status ≡ 0
 
--- and from its first byte on its span fits the source
+-- and from its byte on its span fits the source
 abbrev pub SubFits : Type 0
 SubFits =
     (t : Tensor) (s : SubConfig) (srcLen : ℕ) → subTensorOf t s srcLen .status ≡ 0 →

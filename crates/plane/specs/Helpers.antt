@@ -3,14 +3,16 @@ use Prim.Native.Nat.{ℕ, zero, suc, _+_, _-_, _*_}
 use mathlib.Core.Bool.{Bool, cond, _||_, _&&_}
 use mathlib.Core.List.{List, [], _∷_, _++_}
 use lib.Dec.{ltb, leb, eqb}
+use lib.IntN.{ℤ, pos}
 use Rattle.plane.specs.declared.Tensor.{Tensor}
 use Rattle.faults.specs.declared.Fault.{Fault}
 use Rattle.plane.specs.declared.Count.{Count}
 use Rattle.plane.specs.declared.SubConfig.{SubConfig}
 use Rattle.plane.specs.declared.SubTensor.{SubTensor}
-use Rattle.plane.specs.Arrays.{at, firsts, sum, product, howMany}
+use Rattle.plane.specs.Arrays.{at, firsts, firstsOr, sum, product, howMany}
+use Rattle.plane.specs.Signs.{signed}
 use Rattle.faults.specs.Faults.{ifFault, Rules, overall, fromFirst, _then_, firstFault}
-use Rattle.plane.specs.Planes.{badRank, badShape, shapeAt, srcStrides, sourceAt, span, sourceRules, zeroTensor}
+use Rattle.plane.specs.Planes.{badRank, badShape, shapeAt, downAt, srcStrides, sourceAt, span, sourceRules, zeroTensor}
 use Rattle.plane.specs.Moves.{badOffset, badSize}
 
 -- ---- Element count
@@ -85,18 +87,27 @@ subRules t s srcLen =
 unfoldable pub subFault : Tensor → SubConfig → ℕ → Fault
 subFault t s srcLen = firstFault (subRules t s srcLen)
 
+-- the resolved stride of dimension d, with its sign
+abbrev pub resolvedAt : Tensor → ℕ → ℤ
+resolvedAt t d = signed (downAt t d) (at (srcStrides t) d)
+
 -- the sizes for shapes, and the resolved strides of the whole plane
 unfoldable pub subOf : Tensor → SubConfig → Tensor
 subOf t s = record {
   rank = s .rank;
   «element_size» = t .«element_size»;
   shape = firsts (s .rank) (λ i. at (s .size) (subDim t s i));
-  stride = firsts (s .rank) (λ i. at (srcStrides t) (subDim t s i));
+  stride = firstsOr (pos 0) (s .rank) (λ i. resolvedAt t (subDim t s i));
 }
 
--- the byte at which the sub-tensor starts in the source
+-- the coordinate of the lowest of size elements from offset on: the first, or the last where the dimension counts down
+abbrev pub lowestIn : Bool → ℕ → ℕ → ℕ
+lowestIn down offset size = cond down (offset + size - 1) offset
+
+-- the byte at which the sub-tensor starts in the source: that of its lowest element
 unfoldable pub subByte : Tensor → SubConfig → ℕ
-subByte t s = sum (t .rank) (λ d. sourceAt t d (at (s .offset) d)) * t .«element_size»
+subByte t s =
+    sum (t .rank) (λ d. sourceAt t d (lowestIn (downAt t d) (at (s .offset) d) (at (s .size) d))) * t .«element_size»
 
 abbrev pub noSub : Fault → SubTensor
 noSub f = record { status = f .status; dim = f .dim; tensor = zeroTensor; byte = 0 }

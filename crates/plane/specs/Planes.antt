@@ -8,10 +8,11 @@ use Rattle.plane.specs.declared.Tensor.{Tensor}
 use Rattle.faults.specs.declared.Fault.{Fault}
 use Rattle.plane.specs.declared.Source.{Source}
 use Rattle.plane.specs.Arrays.{at, firsts, zeros, sum, or0}
+use Rattle.plane.specs.Signs.{sizes, isDown, atZ, zerosZ}
 use Rattle.faults.specs.Faults.{ifFault, Rules, overall, fromFirst, fromLast, _then_, firstFault}
 
 abbrev pub zeroTensor : Tensor
-zeroTensor = record { rank = 0; «element_size» = 0; shape = zeros; stride = zeros }
+zeroTensor = record { rank = 0; «element_size» = 0; shape = zeros; stride = zerosZ }
 
 -- 1: the rank is 1 to 4
 abbrev pub badRank : ℕ → Bool
@@ -33,16 +34,19 @@ badElement z = eqb (elementSize z) 0
 abbrev pub badShape : ℕ → Bool
 badShape s = ltb s 1 || ltb 65535 s
 
--- 4 and 11: a resolved stride below its inner product, or above 2,147,483,647
+-- 4 and 11: a resolved stride, or the size of one, below its inner product or above 2,147,483,647
 abbrev pub badStride : ℕ → ℕ → Bool
 badStride stride inner = ltb stride inner || ltb 2147483647 stride
 
 abbrev pub shapeAt : Tensor → ℕ → ℕ
 shapeAt t d = at (t .shape) d
 
--- the stride as the record has it
+-- the size of the stride as the record has it, and whether its dimension counts down
 abbrev pub strideAt : Tensor → ℕ → ℕ
-strideAt t d = at (t .stride) d
+strideAt t d = at (sizes (t .stride)) d
+
+abbrev pub downAt : Tensor → ℕ → Bool
+downAt t d = isDown (atZ (t .stride) d)
 
 -- the inner product of the dimension that has k dimensions inside it: 1 for the last, else stride times shape of the next
 unfoldable pub inner : ℕ → (ℕ → ℕ) → (ℕ → ℕ) → ℕ → ℕ
@@ -59,17 +63,22 @@ badStrideAt n shape stride d = badStride (resolved n shape stride d) (inner n sh
 abbrev pub strides : ℕ → (ℕ → ℕ) → (ℕ → ℕ) → List ℕ
 strides n shape stride = firsts n (resolved n shape stride)
 
+-- the sizes of the resolved strides
 abbrev pub srcStrides : Tensor → List ℕ
 srcStrides t = strides (t .rank) (shapeAt t) (strideAt t)
 
--- where coordinate x of dimension d lies, in elements from coordinate 0 on: the source place of one coordinate in one dimension, which
--- spans, moves, a sub-tensor's byte and the first element of the engine's plan read here
-abbrev pub sourceAt : Tensor → ℕ → ℕ → ℕ
-sourceAt t d x = x * at (srcStrides t) d
+-- how many strides up from the lowest element of its dimension coordinate x lies: one that counts down counts from its last
+abbrev pub up : Bool → ℕ → ℕ → ℕ
+up down shape x = cond down (shape - 1 - x) x
 
--- the bytes from the plane's first to the end of its last element
+-- where coordinate x of dimension d lies, in elements up from the plane's lowest: the source place of one coordinate in one dimension,
+-- which moves, a sub-tensor's byte and the first element of the engine's plan read here
+abbrev pub sourceAt : Tensor → ℕ → ℕ → ℕ
+sourceAt t d x = up (downAt t d) (shapeAt t d) x * at (srcStrides t) d
+
+-- the bytes from the plane's lowest to the end of its highest element
 unfoldable pub span : Tensor → ℕ
-span t = (1 + sum (t .rank) (λ d. sourceAt t d (shapeAt t d - 1))) * t .«element_size»
+span t = (1 + sum (t .rank) (λ d. (shapeAt t d - 1) * at (srcStrides t) d)) * t .«element_size»
 
 -- 1 to 4
 abbrev pub sourceRules : Tensor → Rules
@@ -82,7 +91,7 @@ sourceRules t =
 unfoldable pub sourceFault : Tensor → Fault
 sourceFault t = firstFault (sourceRules t)
 
--- a tensor record by itself: its resolved strides and its span; zeros besides a fault
+-- a tensor record by itself: the sizes of its resolved strides and its span; zeros besides a fault
 unfoldable pub sourceOf : Tensor → Source
 sourceOf t = record {
   fault = sourceFault t;

@@ -1,12 +1,13 @@
 -- What the contracts of private functions cite. No reader of a public contract needs this file.
 use Prim.Native.Nat.{ℕ, _+_, _-_, _*_, _≤_, _<_}
 use mathlib.Core.List.{List}
+use lib.IntN.{ℤ, pos}
 use lib.ListN.{length}
 use Rattle.plane.specs.declared.Tensor.{Tensor}
 use Rattle.plane.specs.declared.Config.{Config}
 use Rattle.plane.specs.declared.strides.Strides.{Strides}
 use Rattle.plane.specs.declared.sub.Staying.{Staying}
-use Rattle.plane.specs.Arrays.{at, firsts, zeros, sum, howMany}
+use Rattle.plane.specs.Arrays.{at, firsts, firstsOr, zeros, sum, howMany}
 use Rattle.faults.specs.Faults.{outward, ifFault}
 use Rattle.plane.specs.Planes.{shapeAt, badStrideAt, strides}
 use Rattle.plane.specs.Moves.{extent}
@@ -30,6 +31,12 @@ IsExtent extent i = (0 < at extent i) × (at extent i ≤ 65535)
 abbrev pub IsBox : List ℕ → List ℕ → ℕ → Type 0
 IsBox offset extent d = (0 < at extent d) × (at offset d + at extent d ≤ 131072)
 
+-- size elements from offset on are some of the shape's
+pub record IsPart (shape offset size : ℕ) : Type 0 where
+  pub some : 0 < size
+  pub fits : offset + size ≤ shape
+  pub most : shape ≤ 65535
+
 -- ---- what they answer
 
 -- strides resolved, or the fault and zeros
@@ -44,9 +51,9 @@ abbrev pub reach : ℕ → (ℕ → ℕ) → (ℕ → ℕ) → (ℕ → ℕ) →
 reach n offset extent stride = 1 + sum n (λ d. (offset d + extent d - 1) * stride d)
 
 -- the sizes and strides of the dimensions that stay, and how many that should go are not there
-unfoldable pub stayingOf : ℕ → (ℕ → ℕ) → (ℕ → ℕ) → ℕ → Staying
+unfoldable pub stayingOf : ℕ → (ℕ → ℕ) → (ℕ → ℤ) → ℕ → Staying
 stayingOf n size stride excess = record {
   lacking = excess - howMany n (isUnit size);
   shape = firsts (length (staying size excess n)) (λ i. size (at (staying size excess n) i));
-  stride = firsts (length (staying size excess n)) (λ i. stride (at (staying size excess n) i));
+  stride = firstsOr (pos 0) (length (staying size excess n)) (λ i. stride (at (staying size excess n) i));
 }

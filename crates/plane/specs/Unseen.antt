@@ -6,6 +6,7 @@ use Rattle.plane.specs.declared.Tensor.{Tensor}
 use Rattle.plane.specs.declared.Config.{Config}
 use Rattle.plane.specs.declared.SubConfig.{SubConfig}
 use Rattle.plane.specs.Arrays.{at}
+use Rattle.plane.specs.Signs.{atZ}
 use Rattle.plane.specs.Planes.{sourceOf}
 use Rattle.plane.specs.Settings.{arrayCount, arrayOf}
 use Rattle.plane.specs.Moves.{judgeOf, roomOf}
@@ -17,7 +18,7 @@ pub record SameTensor (t t′ : Tensor) : Type 0 where
   pub rank : t .rank ≡ t′ .rank
   pub element : t .«element_size» ≡ t′ .«element_size»
   pub shape : (d : ℕ) → d < t .rank → at (t .shape) d ≡ at (t′ .shape) d
-  pub stride : (d : ℕ) → d < t .rank → at (t .stride) d ≡ at (t′ .stride) d
+  pub stride : (d : ℕ) → d < t .rank → atZ (t .stride) d ≡ atZ (t′ .stride) d
 
 -- every array, below the rank n; fills may differ
 pub record SameArrays (n : ℕ) (c c′ : Config) : Type 0 where

@@ -2,6 +2,7 @@
 // move answers. No call here touches a plane's bytes, asks anything of its caller, or sets memory aside.
 
 mod refusals; // a rule each: 1, and the dimension at fault for 3, 6, 7, 8, 9 and 12
+mod signs; // signed numbers: size and sign
 mod strides; // strides resolved outward, and the bytes that a box of elements reaches over
 mod tensors; // 1 to 4: a tensor record by itself
 mod extents; // kept counts and extents, and 10
@@ -21,13 +22,13 @@ pub use tensors::source_of;
 pub use verdict::judge;
 pub use verdict::room;
 
-// A plane in memory: dimension 0 has the largest stride. Shapes and strides are in elements, the element size in bytes;
-// stride 0 stands for the inner product.
+// A plane in memory: dimension 0 has the stride of the largest size. Shapes and strides are in elements, the element size in bytes;
+// stride 0 stands for the inner product, and a dimension whose stride is below 0 counts down.
 pub struct Tensor {
     pub rank: u8,
     pub element_size: u8,
     pub shape: [u32; 4],
-    pub stride: [u32; 4],
+    pub stride: [i32; 4],
 }
 
 // How a plane is to be laid out. By source dimension: offset, size, step, pre and post. By destination dimension:
@@ -44,7 +45,8 @@ pub struct Config {
     pub fill: u32,
 }
 
-// What a tensor record by itself comes to: its resolved strides, and the bytes that it spans; zeros besides a fault.
+// What a tensor record by itself comes to: the sizes of its resolved strides, whose signs are those of the record, and the bytes that it
+// spans; zeros besides a fault.
 pub struct Source {
     pub fault: Fault,
     pub stride: [u32; 4],
@@ -82,7 +84,7 @@ pub struct SubConfig {
     pub rank: u32,
 }
 
-// A part of a plane as a tensor of its own, which starts at a byte of the plane's source.
+// A part of a plane as a tensor of its own, which starts, with its lowest element, at a byte of the plane's source.
 pub struct SubTensor {
     pub status: u8,
     pub dim: u8,

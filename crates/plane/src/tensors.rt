@@ -1,10 +1,11 @@
-// A tensor record by itself: 1 to 4, its resolved strides and its span.
+// A tensor record by itself: 1 to 4, the sizes of its resolved strides and its span.
 use crate::Fault;
 use crate::Source;
 use crate::Tensor;
 use crate::helpers::element_size;
 use crate::refusals::rank_is_bad;
 use crate::refusals::shape_fault;
+use crate::signs::sizes;
 use crate::strides::bytes;
 use crate::strides::resolve;
 ghost use mathlib.Core.Path.{_≡_};
@@ -21,7 +22,7 @@ fn refused(f: Fault) -> Source
     }
 }
 
-// The judgement of a tensor record by itself: its resolved strides and its span, or 1 to 4.
+// The judgement of a tensor record by itself: the sizes of its resolved strides and its span, or 1 to 4.
 pub fn source_of(t: Tensor) -> Source
     ensures { λ r. ⌜ r ≡ sourceOf t ⌝ }
 {
@@ -38,7 +39,7 @@ pub fn source_of(t: Tensor) -> Source
         return refused(f);
     }
     let written = t.stride;
-    let s = resolve(4, n, shape, written);
+    let s = resolve(4, n, shape, sizes(written));
     let g = s.fault;
     if g.status != 0 {
         return refused(g);

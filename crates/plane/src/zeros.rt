@@ -24,7 +24,7 @@ impl Tensor {
             rank: 0,
             element_size: 0,
             shape: [0u32; 4],
-            stride: [0u32; 4],
+            stride: [0i32; 4],
         }
     }
 }

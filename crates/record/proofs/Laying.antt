@@ -10,7 +10,7 @@ use Rattle.plane.specs.declared.Config.{Config}
 use Rattle.plane.specs.Arrays.{sum}
 use Rattle.plane.proofs.Numbers.{length-little}
 use Rattle.plane.specs.Numbers.{little}
-use Rattle.record.specs.Layout.{consecutive, groupCount, group, width, fourBytes, recordLength, fillWidth, lengthOf, versionFor, headBytes}
+use Rattle.record.specs.Layout.{consecutive, twosWords, groupCount, group, width, fourBytes, recordLength, fillWidth, lengthOf, versionFor, headBytes}
 use Rattle.record.specs.Records.{recordBytes}
 use Rattle.record.specs.Private.{tensorBytes, configAt, configBytes}
 use Rattle.record.proofs.Parts.{Stored, stored-next, sets-next, sets-whole, length-consecutive}
@@ -21,15 +21,16 @@ group-next : (l : List ℕ) (i : ℕ) (xs : List ℕ) (w : ℕ) (ys : List ℕ) 
 group-next l i xs w ys s e = stored-next l i xs (fourBytes w ys) (4 * w) s (length-four w ys) e
 
 module _ (l : List ℕ) (v : ℕ) (t : Tensor) where
-  tensor-stored : {a b m : List ℕ} → a ≡ sets l 0 (headBytes v (t .rank) (t .«element_size»)) → b ≡ sets a 7 (fourBytes 4 (t .shape)) → m ≡ sets b 23 (fourBytes 4 (t .stride)) → Stored l 0 39 (tensorBytes v t) m
+  tensor-stored : {a b m : List ℕ} → a ≡ sets l 0 (headBytes v (t .rank) (t .«element_size»)) → b ≡ sets a 7 (fourBytes 4 (t .shape)) → m ≡ sets b 23 (fourBytes 4 (twosWords (t .stride))) → Stored l 0 39 (tensorBytes v t) m
   unfolding tensorBytes little
   tensor-stored ea eb em =
       let h = headBytes v (t .rank) (t .«element_size») in
       let one = group-next l 0 h 4 (t .shape) (record { is = ea; long = refl }) eb in
-      group-next l 0 (h ++ fourBytes 4 (t .shape)) 4 (t .stride) one em
+      group-next l 0 (h ++ fourBytes 4 (t .shape)) 4 (twosWords (t .stride)) one em
 
-  pub tensor-laid : {a b m : List ℕ} → a ≡ sets l 0 (headBytes v (t .rank) (t .«element_size»)) → b ≡ sets a 7 (fourBytes 4 (t .shape)) → m ≡ sets b 23 (fourBytes 4 (t .stride)) → m ≡ sets l 0 (tensorBytes v t)
-  tensor-laid ea eb em = tensor-stored ea eb em .is
+  -- as the code comes to it: w are the words of the strides
+  pub tensor-laid : {a b m w : List ℕ} → a ≡ sets l 0 (headBytes v (t .rank) (t .«element_size»)) → b ≡ sets a 7 (fourBytes 4 (t .shape)) → w ≡ twosWords (t .stride) → m ≡ sets b 23 (fourBytes 4 w) → m ≡ sets l 0 (tensorBytes v t)
+  tensor-laid {b = b} ea eb ew em = tensor-stored ea eb (em ∙ ap (λ (w : List ℕ). sets b 23 (fourBytes 4 w)) ew) .is
 
 module _ (l : List ℕ) (c : Config) {m1 m2 m3 m4 m5 m6 m7 m8 : List ℕ} (e1 : m1 ≡ sets l configAt (fourBytes 4 (c .offset))) (e2 : m2 ≡ sets m1 55 (fourBytes 4 (c .size))) (e3 : m3 ≡ sets m2 71 (fourBytes 4 (c .step))) (e4 : m4 ≡ sets m3 87 (fourBytes 4 (c .«dst_offset»))) (e5 : m5 ≡ sets m4 103 (fourBytes 4 (c .«dst_stride»))) (e6 : m6 ≡ sets m5 119 (fourBytes 1 (c .perm))) (e7 : m7 ≡ sets m6 123 (fourBytes 1 (c .pre))) (e8 : m8 ≡ sets m7 127 (fourBytes 1 (c .post))) where
   pub config-laid : m8 ≡ sets l configAt (configBytes c)
@@ -74,7 +75,7 @@ module _ (t : Tensor) (c : Config) where
   two-pieces : tensorBytes (versionFor c) t ++ configBytes c ≡ before
   unfolding tensorBytes configBytes consecutive
   two-pieces =
-      regroup (headBytes (versionFor c) (t .rank) (t .«element_size»)) (fourBytes 4 (t .shape)) (fourBytes 4 (t .stride)) (fourBytes 4 (c .offset)) (fourBytes 4 (c .size))
+      regroup (headBytes (versionFor c) (t .rank) (t .«element_size»)) (fourBytes 4 (t .shape)) (fourBytes 4 (twosWords (t .stride))) (fourBytes 4 (c .offset)) (fourBytes 4 (c .size))
       (fourBytes 4 (c .step)) (fourBytes 4 (c .«dst_offset»)) (fourBytes 4 (c .«dst_stride»)) (fourBytes 1 (c .perm)) (fourBytes 1 (c .pre)) (fourBytes 1 (c .post))
 
   -- the pieces stored in a room of the record's length

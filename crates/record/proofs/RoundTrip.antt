@@ -3,7 +3,7 @@
 use Prim.Native.Nat.{ℕ, zero, suc, _+_, _*_, _^_, _≤_, _<_}
 use native.Mathlib.Nat.{not-suc-le-zero, pow-le-pow-right}
 use native.Mathlib.Omega.{arith}
-use mathlib.Core.Path.{_≡_, refl, sym, ap, ap₂, subst, _∙_}
+use mathlib.Core.Path.{_≡_, refl, sym, ap, ap₂, subst, subst⁻¹, _∙_}
 use mathlib.Core.Logic.{⊎-elim}
 use mathlib.Core.Bool.{Bool, true, false, cond, not}
 use mathlib.Core.List.{List, [], _∷_, _++_}
@@ -23,11 +23,12 @@ use Rattle.faults.proofs.Faults.{status, or-clear}
 use Rattle.faults.proofs.Chains.{unbroken, unbroken-accepts}
 use Rattle.record.specs.declared.Reading.{Reading}
 use Rattle.plane.specs.Numbers.{little, number}
-use Rattle.record.specs.Layout.{part, consecutive, recordLength, fillWidth, lengthOf, versionByLength, versionFor, versionIn, rankIn, sizeIn, fillIn, headBytes, groupCount, group, width, start, fourBytes}
+use Rattle.record.specs.Layout.{part, consecutive, twosNumbers, recordLength, fillWidth, lengthOf, versionByLength, versionFor, versionIn, rankIn, sizeIn, fillIn, headBytes, groupCount, group, width, start, fourBytes}
 use Rattle.record.specs.Records.{groupIn, tensorIn, configIn, recordBytes, lengthIn, badLength, badMark, badVersion, fieldsRules, fieldsFault, readRules, readFault, writeFault, reading, readOf, writtenRoom}
-use Rattle.record.specs.RoundTrip.{Fits, Bytes, OneWriting, ReadBack, WriteBack, ReadLength, SameFieldsSameBytes, AcceptedOnce}
+use Rattle.record.specs.RoundTrip.{InRange, Fits, Bytes, OneWriting, ReadBack, WriteBack, ReadLength, SameFieldsSameBytes, AcceptedOnce}
 use Rattle.record.proofs.Parts.{part-cons, length-part, part-append, part-left, part-part, sum-step, sum-const, consecutive-same, part-consecutive, consecutive-parts}
 use Rattle.record.proofs.Digits.{bytes-part, number-little, little-number, number-fits, length-four, head-is}
+use Rattle.record.proofs.TwosComplement.{in-range, numbers-at, words-length, numbers-back, words-back}
 use Rattle.record.proofs.Laying.{length-before, length-record}
 use Rattle.record.proofs.Lengths.{two-lengths, fill-none, long-enough, length-again, by-version, version-plain, version-filled, version-again, length-right}
 use Rattle.record.proofs.Fields.{fill-passed}
@@ -80,10 +81,15 @@ module _ (t : Tensor) (c : Config) (f : Fits t c) where
   group-back k h =
       sym (is-array 0 (group t c k) (λ d. number (part (start k + d * width k) (width k) (recordBytes t c))) (f .long k h) (λ d q. sym (entry-back k d h q)))
 
+  strides-back : twosNumbers (groupIn (recordBytes t c) 1) ≡ t .stride
+  strides-back =
+      let n = sym (words-length (t .stride)) ∙ f .long 1 (omega arith) in
+      ap twosNumbers (group-back 1 (omega arith)) ∙ numbers-back (t .stride) (λ d q. f .strides d (omega arith))
+
   tensor-back : tensorIn (recordBytes t c) ≡ t
   unfolding tensorIn recordBytes little
   tensor-back =
-      λ i. record { rank = t .rank; «element_size» = t .«element_size»; shape = group-back 0 (omega arith) i; stride = group-back 1 (omega arith) i }
+      λ i. record { rank = t .rank; «element_size» = t .«element_size»; shape = group-back 0 (omega arith) i; stride = strides-back i }
 
   fill-fits : c .fill < 256 ^ fillWidth (versionFor c)
   fill-fits = by-test (eqb (c .fill) 0) refl
@@ -157,77 +163,80 @@ ten-at f z (suc (suc (suc (suc (suc (suc (suc (suc zero)))))))) h = refl
 ten-at f z (suc (suc (suc (suc (suc (suc (suc (suc (suc zero))))))))) h = refl
 ten-at f z (suc (suc (suc (suc (suc (suc (suc (suc (suc (suc k)))))))))) h = absurd (let l : k < 0 = omega arith in not-suc-le-zero l)
 
-module _ (bs : List ℕ) (b : Bytes bs) where
+module _ (bs : List ℕ) (b : Bytes bs) (l : recordLength ≤ length bs) where
+  group-ends : (k : ℕ) → k < groupCount → start k + 4 * width k ≤ length bs
+  group-ends k h = let e = group-end k h in omega arith
+
+  -- an entry fits its bytes
+  entry-small : (k d : ℕ) → k < groupCount → d < 4 → at (groupIn bs k) d < 256 ^ width k
+  entry-small k d h q =
+      let w = width k in
+      let p = start k + d * w in
+      let e = group-ends k h in
+      let i = within d w q in
+      let n = length-part p w bs (omega arith) in
+      let y : number (part p w bs) < 256 ^ w = subst (λ (m : ℕ). number (part p w bs) < 256 ^ m) n (number-fits (part p w bs) (bytes-part bs b p w)) in
+      rw (array-at (λ j. number (part (start k + j * w) w bs)) 0 d q) y
+
+  -- the groups of the fields that are read are those that stand there: strides are words again
   group-in : (k : ℕ) → k < groupCount → group (tensorIn bs) (configIn bs) k ≡ groupIn bs k
   unfolding tensorIn configIn
-  group-in k h = ten-at (groupIn bs) [] k h
+  group-in k h =
+      let g = groupIn bs in
+      ap (λ (xs : List ℕ). getD (g 0 ∷ xs ∷ g 2 ∷ g 3 ∷ g 4 ∷ g 5 ∷ g 6 ∷ g 7 ∷ g 8 ∷ g 9 ∷ []) k []) (words-back (g 1) (λ d q. entry-small 1 d (omega arith) q)) ∙
+      ten-at g [] k h
 
-  module _ (l : recordLength ≤ length bs) where
-    group-ends : (k : ℕ) → k < groupCount → start k + 4 * width k ≤ length bs
-    group-ends k h = let e = group-end k h in omega arith
+  -- a group's bytes are where it was read
+  entry-bytes : (k d : ℕ) → k < groupCount → d < 4 → little (width k) (at (groupIn bs k) d) ≡ part (start k + d * width k) (width k) bs
+  entry-bytes k d h q =
+      let w = width k in
+      let p = start k + d * w in
+      let g : ℕ → ℕ = λ j. number (part (start k + j * w) w bs) in
+      let e = group-ends k h in
+      let i = within d w q in
+      let n = length-part p w bs (omega arith) in
+      ap (little w) (array-at g 0 d q) ∙ ap (λ (m : ℕ). little m (g d)) (sym n) ∙ little-number (part p w bs) (bytes-part bs b p w)
 
-    -- a group's bytes are where it was read
-    entry-bytes : (k d : ℕ) → k < groupCount → d < 4 → little (width k) (at (groupIn bs k) d) ≡ part (start k + d * width k) (width k) bs
-    entry-bytes k d h q =
-        let w = width k in
-        let p = start k + d * w in
-        let g : ℕ → ℕ = λ j. number (part (start k + j * w) w bs) in
-        let e = group-ends k h in
-        let i = within d w q in
-        let n = length-part p w bs (omega arith) in
-        ap (little w) (array-at g 0 d q) ∙ ap (λ (m : ℕ). little m (g d)) (sym n) ∙ little-number (part p w bs) (bytes-part bs b p w)
+  group-bytes : (k : ℕ) → k < groupCount → fourBytes (width k) (groupIn bs k) ≡ part (start k) (4 * width k) bs
+  group-bytes k h =
+      let w = width k in
+      consecutive-same 4 _ (λ d. part (start k + sum d (λ _. w)) w bs)
+      (λ d q. entry-bytes k d h q ∙ ap (λ (m : ℕ). part (start k + m) w bs) (sym (sum-const d w))) ∙
+      consecutive-parts 4 (start k) (λ _. w) bs ∙ ap (λ (m : ℕ). part (start k) m bs) (sum-const 4 w)
 
-    group-bytes : (k : ℕ) → k < groupCount → fourBytes (width k) (groupIn bs k) ≡ part (start k) (4 * width k) bs
-    group-bytes k h =
-        let w = width k in
-        consecutive-same 4 _ (λ d. part (start k + sum d (λ _. w)) w bs)
-        (λ d q. entry-bytes k d h q ∙ ap (λ (m : ℕ). part (start k + m) w bs) (sym (sum-const d w))) ∙
-        consecutive-parts 4 (start k) (λ _. w) bs ∙ ap (λ (m : ℕ). part (start k) m bs) (sum-const 4 w)
+  groups-bytes : consecutive groupCount (λ k. fourBytes (width k) (group (tensorIn bs) (configIn bs) k)) ≡ part 7 124 bs
+  unfolding start sum four
+  groups-bytes =
+      consecutive-same groupCount _ (λ k. part (7 + sum k four) (four k) bs)
+      (λ k h. ap (fourBytes (width k)) (group-in k h) ∙ group-bytes k h) ∙
+      consecutive-parts groupCount 7 four bs
 
-    groups-bytes : consecutive groupCount (λ k. fourBytes (width k) (group (tensorIn bs) (configIn bs) k)) ≡ part 7 124 bs
-    unfolding start sum four
-    groups-bytes =
-        consecutive-same groupCount _ (λ k. part (7 + sum k four) (four k) bs)
-        (λ k h. ap (fourBytes (width k)) (group-in k h) ∙ group-bytes k h) ∙
-        consecutive-parts groupCount 7 four bs
+  head-bytes : badMark bs ≡ false → badVersion bs ≡ false → headBytes (versionByLength (length bs)) (rankIn bs) (sizeIn bs) ≡ part 0 7 bs
+  head-bytes m v =
+      head-is 82 77 86 (versionByLength (length bs)) bs _ b (omega arith) m v
+      (sym (part-cons 5 1 bs (omega arith) ∙ ap (λ (l : List ℕ). rankIn bs ∷ l) (part-cons 6 0 bs (omega arith))))
 
-    head-bytes : badMark bs ≡ false → badVersion bs ≡ false → headBytes (versionByLength (length bs)) (rankIn bs) (sizeIn bs) ≡ part 0 7 bs
-    head-bytes m v =
-        head-is 82 77 86 (versionByLength (length bs)) bs _ b (omega arith) m v
-        (sym (part-cons 5 1 bs (omega arith) ∙ ap (λ (l : List ℕ). rankIn bs ∷ l) (part-cons 6 0 bs (omega arith))))
+  before-bytes : badMark bs ≡ false → badVersion bs ≡ false → headBytes (versionByLength (length bs)) (rankIn bs) (sizeIn bs) ++ consecutive groupCount (λ k. fourBytes (width k) (group (tensorIn bs) (configIn bs) k)) ≡ take recordLength bs
+  before-bytes m v = ap₂ (λ (x y : List ℕ). x ++ y) (head-bytes m v) groups-bytes ∙ sym (take-add 7 124 bs)
 
-    before-bytes : badMark bs ≡ false → badVersion bs ≡ false → headBytes (versionByLength (length bs)) (rankIn bs) (sizeIn bs) ++ consecutive groupCount (λ k. fourBytes (width k) (group (tensorIn bs) (configIn bs) k)) ≡ take recordLength bs
-    before-bytes m v = ap₂ (λ (x y : List ℕ). x ++ y) (head-bytes m v) groups-bytes ∙ sym (take-add 7 124 bs)
-
-    fits-read : Fits (tensorIn bs) (configIn bs)
-    unfolding tensorIn configIn
-    fits-read = record {
-      rank = b 5;
-      element = b 6;
-      long = λ k h. ap length (group-in k h);
-      small = λ k d h q. small k d h q;
-      fill = fill;
-    }
-      where
-        small : (k d : ℕ) → k < groupCount → d < 4 → at (group (tensorIn bs) (configIn bs) k) d < 256 ^ width k
-        small k d h q =
-            let w = width k in
-            let p = start k + d * w in
-            let e = group-ends k h in
-            let i = within d w q in
-            let n = length-part p w bs (omega arith) in
-            let z : at (group (tensorIn bs) (configIn bs) k) d ≡ number (part p w bs) =
-            ap (λ (xs : List ℕ). at xs d) (group-in k h) ∙ array-at (λ j. number (part (start k + j * w) w bs)) 0 d q in
-            let y : number (part p w bs) < 256 ^ w = subst (λ (m : ℕ). number (part p w bs) < 256 ^ m) n (number-fits (part p w bs) (bytes-part bs b p w)) in
-            rw z y
-
-        fill : configIn bs .fill < 256 ^ 4
-        fill =
-            let p = part recordLength 4 bs in
-            let n : length p ≤ 4 = simp length-take (omega arith) in
-            let m = number-fits p (bytes-part bs b recordLength 4) in
-            let y : 256 ^ length p ≤ 256 ^ 4 = pow-le-pow-right (omega arith) n in
-            omega arith
+  fits-read : Fits (tensorIn bs) (configIn bs)
+  unfolding tensorIn configIn
+  fits-read = record {
+    rank = b 5;
+    element = b 6;
+    long = λ k h. ap length (group-in k h);
+    small = λ k d h q. subst⁻¹ (λ (xs : List ℕ). at xs d < 256 ^ width k) (group-in k h) (entry-small k d h q);
+    strides = λ d q. subst⁻¹ InRange (numbers-at (groupIn bs 1) d) (in-range (at (groupIn bs 1) d) (entry-small 1 d (omega arith) q));
+    fill = fill;
+  }
+    where
+      fill : configIn bs .fill < 256 ^ 4
+      fill =
+          let p = part recordLength 4 bs in
+          let n : length p ≤ 4 = simp length-take (omega arith) in
+          let m = number-fits p (bytes-part bs b recordLength 4) in
+          let y : 256 ^ length p ≤ 256 ^ 4 = pow-le-pow-right (omega arith) n in
+          omega arith
 
 -- the bytes of the fill are where it was read
 fill-bytes : (bs : List ℕ) → Bytes bs → badLength (length bs) ≡ false → little (fillWidth (versionByLength (length bs))) (fillIn bs) ≡ drop recordLength bs

@@ -2,8 +2,9 @@
 -- stand in the order of plane's `arrays` (Settings).
 use Prim.Native.Nat.{ℕ, zero, suc, _+_, _-_, _*_}
 use mathlib.Core.Bool.{cond}
-use mathlib.Core.List.{List, [], _∷_, _++_}
+use mathlib.Core.List.{List, [], _∷_, _++_, map}
 use lib.Dec.{ltb, eqb}
+use lib.IntN.{ℤ, pos, negsuc}
 use lib.ListN.{getD, take, drop}
 use Rattle.plane.specs.declared.Tensor.{Tensor}
 use Rattle.plane.specs.declared.Config.{Config}
@@ -21,6 +22,24 @@ part p n bs = take n (drop p bs)
 unfoldable pub consecutive : ℕ → (ℕ → List ℕ) → List ℕ
 consecutive zero f = []
 consecutive (suc k) f = consecutive k f ++ f k
+
+-- ---- Signed numbers as words of 32 bits, in two's complement: `pos n` is n, and `negsuc n` is -1 - n
+
+-- the word of a number: that of one below 0 is 4,294,967,296 above it
+abbrev pub twosWord : ℤ → ℕ
+twosWord (pos n) = n
+twosWord (negsuc n) = 4294967296 - suc n
+
+-- the number that a word is: one of 2,147,483,648 and above is the number 4,294,967,296 below it
+unfoldable pub twosNumber : ℕ → ℤ
+twosNumber x = cond (ltb x 2147483648) (pos x) (negsuc (4294967296 - suc x))
+
+-- and of the four of a group
+unfoldable pub twosWords : List ℤ → List ℕ
+twosWords zs = map twosWord zs
+
+unfoldable pub twosNumbers : List ℕ → List ℤ
+twosNumbers xs = map twosNumber xs
 
 -- ---- The table: seven bytes, ten groups of four numbers, and in version 2 the fill
 
@@ -77,9 +96,9 @@ headBytes version rank size = mark ++ little 2 version ++ rank ∷ size ∷ []
 abbrev pub fillIn : List ℕ → ℕ
 fillIn bs = number (part recordLength (fillWidth 2) bs)
 
--- the groups, in the record's order: the tensor record's two arrays, and the configuration's in their order
+-- the groups, in the record's order: the tensor record's two arrays, strides as words, and the configuration's in their order
 abbrev pub groups : Tensor → Config → List (List ℕ)
-groups t c = t .shape ∷ t .stride ∷ arrays c
+groups t c = t .shape ∷ twosWords (t .stride) ∷ arrays c
 
 abbrev pub group : Tensor → Config → ℕ → List ℕ
 group t c k = getD (groups t c) k []

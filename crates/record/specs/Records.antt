@@ -13,7 +13,7 @@ use Rattle.plane.specs.Planes.{zeroTensor, badRank, badElement}
 use Rattle.plane.specs.Numbers.{little}
 use Rattle.plane.specs.Settings.{configOf, zeroConfig}
 use Rattle.record.specs.declared.Reading.{Reading}
-use Rattle.record.specs.Layout.{consecutive, fillWidth, lengthOf, versionByLength, versionFor, mark, versionIn, rankIn, sizeIn, fillIn}
+use Rattle.record.specs.Layout.{consecutive, twosNumbers, fillWidth, lengthOf, versionByLength, versionFor, mark, versionIn, rankIn, sizeIn, fillIn}
 use Rattle.record.specs.Layout.{headBytes, groupCount, group, width, start, fourIn, fourBytes}
 
 -- ---- The fields that bytes hold, and the bytes of fields
@@ -22,7 +22,7 @@ abbrev pub groupIn : List ℕ → ℕ → List ℕ
 groupIn bs k = fourIn (start k) (width k) bs
 
 unfoldable pub tensorIn : List ℕ → Tensor
-tensorIn bs = record { rank = rankIn bs; «element_size» = sizeIn bs; shape = groupIn bs 0; stride = groupIn bs 1 }
+tensorIn bs = record { rank = rankIn bs; «element_size» = sizeIn bs; shape = groupIn bs 0; stride = twosNumbers (groupIn bs 1) }
 
 unfoldable pub configIn : List ℕ → Config
 configIn bs = configOf (λ k. groupIn bs (2 + k)) (fillIn bs)

@@ -1,21 +1,30 @@
--- What "there and back" says: fields that fit a record, bytes, and bytes that are the writing of one pair of fields.
+-- What "there and back" says: signed numbers and their words, fields that fit a record, bytes, and bytes that are the writing of one pair
+-- of fields.
 use Prim.Native.Nat.{ℕ, _^_, _≤_, _<_}
 use mathlib.Core.Path.{_≡_}
 use mathlib.Core.Logic.{_↔_}
 use mathlib.Core.List.{List}
+use lib.IntN.{ℤ, pos, negℤ, _-ℤ_}
 use lib.ListN.{length, take}
+use lib.Signed.{mag}
 use Rattle.plane.specs.declared.Tensor.{Tensor}
 use Rattle.plane.specs.declared.Config.{Config}
 use Rattle.plane.specs.Arrays.{at}
-use Rattle.record.specs.Layout.{versionFor, groupCount, group, width}
+use Rattle.plane.specs.Signs.{atZ}
+use Rattle.record.specs.Layout.{twosWord, twosNumber, versionFor, groupCount, group, width}
 use Rattle.record.specs.Records.{recordBytes, lengthIn, fieldsFault, writeFault, reading, readOf, writtenRoom}
 
--- what the types of the code say of the fields: arrays of four entries, and each entry fits its bytes
+-- a signed number in the range of 32 bits, -2,147,483,648 to 2,147,483,647: `mag` is n both for n and for -1 - n
+abbrev pub InRange : ℤ → Type 0
+InRange z = mag z < 2147483648
+
+-- what the types of the code say of the fields: arrays of four entries, each entry fits its bytes, and strides are in range
 pub record Fits (t : Tensor) (c : Config) : Type 0 where
   pub rank : t .rank < 256
   pub element : t .«element_size» < 256
   pub long : (k : ℕ) → k < groupCount → length (group t c k) ≡ 4
   pub small : (k d : ℕ) → k < groupCount → d < 4 → at (group t c k) d < 256 ^ width k
+  pub strides : (d : ℕ) → d < 4 → InRange (atZ (t .stride) d)
   pub fill : c .fill < 256 ^ 4
 
 -- every entry is a byte; past the end it is 0
@@ -31,7 +40,29 @@ pub record OneWriting (bs : List ℕ) : Type 0 where
   pub is : recordBytes tensor config ≡ bs
   pub only : (t : Tensor) (c : Config) → Fits t c → recordBytes t c ≡ bs → (t ≡ tensor) × (c ≡ config)
 
--- ---- the sentences
+-- ---- the sentences on words
+
+-- a word below 2,147,483,648 is the number that it is, any other of 32 bits the number that is 4,294,967,296 less. So every number in range
+-- has one word, every word of 32 bits is one number in range, and 0 alone has the word 0
+pub record TwosComplement : Type 0 where
+  pub low : (x : ℕ) → x < 2147483648 → twosNumber x ≡ pos x
+  pub high : (x : ℕ) → 2147483648 ≤ x → x < 4294967296 → twosNumber x ≡ pos x -ℤ pos 4294967296
+  pub in-range : (x : ℕ) → x < 4294967296 → InRange (twosNumber x)
+  pub is-word : (z : ℤ) → InRange z → twosWord z < 4294967296
+  pub number-back : (z : ℤ) → InRange z → twosNumber (twosWord z) ≡ z
+  pub word-back : (x : ℕ) → x < 4294967296 → twosWord (twosNumber x) ≡ x
+  pub only-zero : (z : ℤ) → InRange z → twosWord z ≡ 0 → z ≡ pos 0
+
+-- around 0, and at both ends of the range
+pub record WordsAtTheEnds : Type 0 where
+  pub zero : twosNumber 0 ≡ pos 0
+  pub one : twosNumber 1 ≡ pos 1
+  pub minus-one : twosNumber 4294967295 ≡ negℤ (pos 1)
+  pub most : twosNumber 2147483647 ≡ pos 2147483647
+  pub least : twosNumber 2147483648 ≡ negℤ (pos 2147483648)
+  pub next-to-least : twosNumber 2147483649 ≡ negℤ (pos 2147483647)
+
+-- ---- the sentences on records
 
 -- what is written reads back to the same fields
 abbrev pub ReadBack : Type 0

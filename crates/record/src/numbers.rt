@@ -1,10 +1,10 @@
-// Numbers as bytes, the lowest byte first, and groups of four of them.
+// Numbers as bytes, the lowest byte first, and groups of four of them; signed numbers as words, in two's complement.
 ghost use mathlib.Core.Path.{_≡_};
 ghost use Prim.Native.Nat.{_+_, _≤_, _<_};
 ghost use lib.ListN.{length};
 ghost use lib.Seq.{sets};
 ghost use Rattle.plane.specs.Numbers.{little, number};
-ghost use Rattle.record.specs.Layout.{part, fourIn, fourBytes};
+ghost use Rattle.record.specs.Layout.{part, twosWord, twosNumber, twosWords, twosNumbers, fourIn, fourBytes};
 
 // A byte as a 32-bit number, so that sums of bytes fit.
 fn wide(x: u8) -> u32
@@ -100,4 +100,50 @@ pub(crate) fn put_singles(room: &mut [u8], p: usize, xs: [u8; 4])
     put_byte(room, p + 1, xs[1]);
     put_byte(room, p + 2, xs[2]);
     put_byte(room, p + 3, xs[3]);
+}
+
+// The signed number that a word is: of 2,147,483,648 and above the one that is 4,294,967,296 less, by steps that stay in range.
+fn of_word(x: u32) -> i32
+    ensures { λ r. ⌜ r ≡ twosNumber x ⌝ }
+{
+    if x <= 0x7fffffff {
+        x as i32
+    } else {
+        -1 - (0xffffffff - x) as i32
+    }
+}
+
+// The word of a signed number, the other way round.
+fn word_of(s: i32) -> u32
+    ensures { λ r. ⌜ r ≡ twosWord s ⌝ }
+{
+    if s < 0 {
+        0xffffffff - (-1 - s) as u32
+    } else {
+        s as u32
+    }
+}
+
+// The signed numbers that four words are.
+pub(crate) fn of_words(xs: [u32; 4]) -> [i32; 4]
+    ensures { λ r. ⌜ r ≡ twosNumbers xs ⌝ }
+{
+    [
+        of_word(xs[0]),
+        of_word(xs[1]),
+        of_word(xs[2]),
+        of_word(xs[3]),
+    ]
+}
+
+// The words of four signed numbers.
+pub(crate) fn words_of(xs: [i32; 4]) -> [u32; 4]
+    ensures { λ r. ⌜ r ≡ twosWords xs ⌝ }
+{
+    [
+        word_of(xs[0]),
+        word_of(xs[1]),
+        word_of(xs[2]),
+        word_of(xs[3]),
+    ]
 }

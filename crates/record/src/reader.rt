@@ -3,6 +3,7 @@ use crate::Reading;
 use crate::checks::fields_fault;
 use crate::layout;
 use crate::numbers::half;
+use crate::numbers::of_words;
 use crate::numbers::singles;
 use crate::numbers::word;
 use crate::numbers::words;
@@ -42,7 +43,7 @@ fn tensor_in(bytes: &[u8]) -> Tensor
         rank: bytes[layout::RANK],
         element_size: bytes[layout::ELEMENT_SIZE],
         shape: words(bytes, layout::SHAPE),
-        stride: words(bytes, layout::STRIDE),
+        stride: of_words(words(bytes, layout::STRIDE)),
     }
 }
 

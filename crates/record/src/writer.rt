@@ -5,6 +5,7 @@ use crate::numbers::put_half;
 use crate::numbers::put_singles;
 use crate::numbers::put_word;
 use crate::numbers::put_words;
+use crate::numbers::words_of;
 use crate::versions::length_for;
 use crate::versions::version_for;
 use plane::Config;
@@ -41,7 +42,7 @@ fn put_tensor(room: &mut [u8], version: u16, t: Tensor)
     let stride = t.stride;
     put_head(room, version, t.rank, t.element_size);
     put_words(room, layout::SHAPE, shape);
-    put_words(room, layout::STRIDE, stride);
+    put_words(room, layout::STRIDE, words_of(stride));
 }
 
 // The bytes from there to the end of the groups.

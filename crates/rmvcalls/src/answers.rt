@@ -53,6 +53,22 @@ pub(crate) fn words(out: &mut Out, p: usize, a: [u32; 4]) -> usize {
     end
 }
 
+// The word of a signed number, in two's complement.
+fn unsigned(s: i32) -> u32 {
+    if s < 0 {
+        return 0xffffffff - (-1 - s) as u32;
+    }
+    s as u32
+}
+
+fn strides(out: &mut Out, p: usize, a: [i32; 4]) -> usize {
+    let mut end = p;
+    for d in 0..4 {
+        end = word(out, end, unsigned(a[d]));
+    }
+    end
+}
+
 // A memory, whole.
 pub(crate) fn memory(out: &mut Out, p: usize, mem: &[u8]) -> usize {
     let mut end = p;
@@ -77,7 +93,7 @@ pub(crate) fn tensor(out: &mut Out, p: usize, t: Tensor) -> usize {
     let p1 = byte(out, p, t.rank);
     let p2 = byte(out, p1, t.element_size);
     let p3 = words(out, p2, shape);
-    words(out, p3, stride)
+    strides(out, p3, stride)
 }
 
 pub(crate) fn config(out: &mut Out, p: usize, c: Config) -> usize {

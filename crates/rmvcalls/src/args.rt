@@ -64,6 +64,21 @@ pub(crate) fn words(b: &Body, p: usize) -> [u32; 4]
     ]
 }
 
+// The signed number that a word is, in two's complement.
+fn signed(x: u32) -> i32 {
+    if x <= 0x7fffffff {
+        return x as i32;
+    }
+    -1 - (0xffffffff - x) as i32
+}
+
+fn strides(b: &Body, p: usize) -> [i32; 4]
+    requires { ⌜ p ≤ 3000 ⌝ }
+{
+    let w = words(b, p);
+    [signed(w[0]), signed(w[1]), signed(w[2]), signed(w[3])]
+}
+
 pub(crate) fn bytes(b: &Body, p: usize) -> [u8; 4]
     requires { ⌜ p ≤ 3000 ⌝ }
 {
@@ -86,7 +101,7 @@ pub(crate) fn tensor(b: &Body, p: usize) -> Tensor
         rank: byte(b, p),
         element_size: byte(b, p + 1),
         shape: words(b, p + layout::SHAPE),
-        stride: words(b, p + layout::STRIDE),
+        stride: strides(b, p + layout::STRIDE),
     }
 }
 

@@ -8,7 +8,7 @@ use borrow.Author.Tests.{eq-eqb, ne-eqb, le-ltb}
 use Rattle.plane.specs.declared.Tensor.{Tensor}
 use Rattle.plane.specs.declared.Config.{Config}
 use Rattle.plane.specs.Arrays.{at, array, firsts, zeros, sum, product}
-use Rattle.plane.specs.Planes.{shapeAt, strideAt, resolved, srcStrides, sourceAt}
+use Rattle.plane.specs.Planes.{shapeAt, strideAt, resolved, sourceAt}
 use Rattle.plane.specs.Moves.{taken, count, extent, dstExtents, dstStrides}
 use Rattle.plane.specs.Settings.{withDstOffset, withDstStride}
 use Rattle.ready_made.specs.ReadyMade.{defaults, cutTo, madeFor}
@@ -131,7 +131,7 @@ module _ (u : Tensor) (few : u .rank ≤ 4) (o s : List ℕ) where
   unfolding cutTo
   placing-place x =
       boxed-source placing-whole x ∙
-      sum-same (u .rank) _ _ (λ i h. ap (λ (o : ℕ). (o + x i) * at (srcStrides u) i) (cut-zero (u .rank) few i h) ∙ simp zero-add)
+      sum-same (u .rank) _ _ (λ i h. ap (λ (o : ℕ). sourceAt u i o) (ap (λ (o : ℕ). o + x i) (cut-zero (u .rank) few i h) ∙ zero-add (x i)))
 
   -- so it is accepted as far as the source's dimensions go
   pub placing-config : GoodSource u → GoodConfig u (placing (u .rank) o s)

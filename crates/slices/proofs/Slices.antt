@@ -13,7 +13,7 @@ use Rattle.plane.specs.declared.Tensor.{Tensor}
 use Rattle.plane.specs.declared.Config.{Config}
 use Rattle.plane.specs.declared.SubConfig.{SubConfig}
 use Rattle.plane.specs.Arrays.{at, zeros, sum, product}
-use Rattle.plane.specs.Planes.{shapeAt, srcStrides}
+use Rattle.plane.specs.Planes.{shapeAt, sourceAt}
 use Rattle.plane.specs.Moves.{dstStrides, need}
 use Rattle.plane.specs.Settings.{withOffset, withSize, withDstStride}
 use Rattle.plane.specs.Helpers.{excess, subDim, subOf, subByte}
@@ -108,13 +108,13 @@ module _ {t : Tensor} {s : SubConfig} {srcLen : ℕ} (g : GoodSub t s srcLen) wh
         sum-same (t .rank) _ _ (λ d h. sym (ap (λ (a : ℕ). (a + wide d) * theirs d) (cut-zero (t .rank) few d h) ∙ simp zero-add))
 
     -- the byte of the sub-tensor and a place in it are the place in the whole
-    sources : subByte t s + sourcePlace (subOf t s) (copied (s .rank)) x * t .«element_size» ≡ sourcePlace t (sliced t s) wide * t .«element_size»
+    sources : ((i : ℕ) → i < s .rank → x i < shapeAt (subOf t s) i) → subByte t s + sourcePlace (subOf t s) (copied (s .rank)) x * t .«element_size» ≡ sourcePlace t (sliced t s) wide * t .«element_size»
     unfolding subOf cutTo
-    sources =
+    sources v =
         rw (copy-place (subOf t s) few-stay x, boxed-source slice-boxed wide)
-        (place-whole g x ∙
+        (place-whole g x v ∙
         ap (λ (y : ℕ). y * t .«element_size»)
-        (sum-same (t .rank) _ _ (λ d h. ap (λ (a : ℕ). (a + wide d) * at (srcStrides t) d) (sym (cut-at (t .rank) few (s .offset) d h)))))
+        (sum-same (t .rank) _ _ (λ d h. ap (λ (a : ℕ). sourceAt t d (a + wide d)) (sym (cut-at (t .rank) few (s .offset) d h)))))
 
   needs : need (subOf t s) (copied (s .rank)) ≡ need t (sliced t s)
   unfolding need subOf cutTo
@@ -172,7 +172,7 @@ module _ {t : Tensor} {s : SubConfig} {srcLen : ℕ} (g : GoodSub t s srcLen) wh
           inside = rw (places x) (o .inside);
           source = λ k b h.
               let u = o .source (boxed-kept slice-boxed few (wide x) (wide-inside x w)) b h in
-              let f = sources x in (
+              let f = sources x (λ i l. omega (arith, w i l, copy-extent i l, sub-shape g i l)) in (
                 rw length-drop (omega (arith, u .0)),
                 rw (places x) (u .1 ∙ ap (λ (j : ℕ). getD src j 0) (ap (λ (j : ℕ). j + b) (sym f) ∙ add-assoc _ _ b) ∙ sym (getD-drop (subByte t s) src _ 0)),
               );

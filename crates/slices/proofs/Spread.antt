@@ -17,7 +17,7 @@ module _ (size : ℕ → ℕ) (excess : ℕ) where
   none = refl
 
   -- a dimension that stays stands behind as many as stay before it
-  stays-at : (n d : ℕ) → d < n → removed size excess d ≡ false → (length (staying size excess d) < length (staying size excess n)) × (at (staying size excess n) (length (staying size excess d)) ≡ d)
+  pub stays-at : (n d : ℕ) → d < n → removed size excess d ≡ false → (length (staying size excess d) < length (staying size excess n)) × (at (staying size excess n) (length (staying size excess d)) ≡ d)
   stays-at zero d h e = absurd (not-suc-le-zero h)
   stays-at (suc n) d h e =
       ⊎-elim

@@ -1,9 +1,10 @@
 -- The elements of a sub-tensor are the plane's, also where unit dimensions are removed: its element at x is the plane's at offset + x
 -- in the dimensions that stay, and at the offset in those that are removed. Assumes nothing.
-use Prim.Native.Nat.{ℕ, _+_, _*_, _<_}
+use Prim.Native.Nat.{ℕ, _+_, _*_, _≤_, _<_}
 use native.Mathlib.Nat.{add-zero, add-mul, add-assoc}
 use native.Mathlib.Omega.{arith}
-use mathlib.Core.Path.{_≡_, sym, ap, _∙_}
+use mathlib.Core.Path.{_≡_, refl, sym, ap, _∙_}
+use mathlib.Core.Bool.{Bool, true, false}
 use mathlib.Core.List.{List}
 use lib.ListN.{length, getD}
 use lib.Seq.{getD-drop}
@@ -11,15 +12,16 @@ use Rattle.plane.specs.declared.Tensor.{Tensor}
 use Rattle.plane.specs.declared.SubConfig.{SubConfig}
 use Rattle.plane.specs.declared.SubTensor.{SubTensor}
 use Rattle.plane.specs.Arrays.{at, sum}
-use Rattle.plane.specs.Planes.{srcStrides, sourceAt}
-use Rattle.plane.specs.Helpers.{excess, subDim, subOf, subByte, subTensorOf}
+use Rattle.plane.specs.Planes.{shapeAt, downAt, up, srcStrides, sourceAt}
+use Rattle.plane.specs.Helpers.{removed, staying, excess, subDim, lowestIn, subOf, subByte, subTensorOf}
 use Rattle.ready_made.specs.ReadyMade.{defaults}
 use Rattle.plane.proofs.Arrays.{sum-same}
 use Rattle.plane.specs.Good.{GoodSub}
-use Rattle.plane.proofs.SubTensors.{sub-count, sub-shape, sub-stride, sub-resolved, sub-told, sub-given}
+use Rattle.plane.proofs.Staying.{gone}
+use Rattle.plane.proofs.SubTensors.{sub-count, sub-shape, sub-size, sub-down, sub-told, sub-given}
 use Rattle.slices.specs.Claims.{Taken, wholeAt, subAt, elementByte, CopyReads, WholeStays, WholeRemoved, WholeInside, SubPlace, SubElement}
 use Rattle.mover.proofs.Sums.{sum-joined}
-use Rattle.slices.proofs.Spread.{spread, spread-at, spread-below, spread-sum}
+use Rattle.slices.proofs.Spread.{spread, stays-at, spread-at, spread-below, spread-sum}
 use Rattle.slices.proofs.Boxes.{made, copy-place}
 use Rattle.mover.proofs.SubParts.{part-here}
 
@@ -28,16 +30,50 @@ use Rattle.mover.proofs.SubParts.{part-here}
 pub copy-reads : CopyReads
 copy-reads t l m y = rw (made (t .rank) defaults l m, copy-place t m y)
 
-module _ {t : Tensor} {s : SubConfig} {srcLen : ℕ} (g : GoodSub t s srcLen) (x : ℕ → ℕ) where
-  -- places are the same, in bytes
+-- from the lowest of z elements from coordinate o on, coordinate x of them lies as far up as among themselves
+way-up : (down : Bool) (shape o z x : ℕ) → z + o ≤ shape → x < z → up down shape (lowestIn down o z) + up down z x ≡ up down shape (o + x)
+way-up true shape o z x h l = omega arith
+way-up false shape o z x h l = omega arith
+
+-- and one element alone is the lowest
+one-up : (down : Bool) (shape o z : ℕ) → z ≡ 1 → up down shape (lowestIn down o z) + 0 ≡ up down shape (o + 0)
+one-up true shape o z u = omega arith
+one-up false shape o z u = omega arith
+
+module _ {t : Tensor} {s : SubConfig} {srcLen : ℕ} (g : GoodSub t s srcLen) (x : ℕ → ℕ) (w : (i : ℕ) → i < s .rank → x i < shapeAt (subOf t s) i) where
+  -- how many strides up coordinate i lies in the sub-tensor, and the sub-tensor's lowest in dimension d of the plane
+  abbrev own : ℕ → ℕ
+  own i = up (downAt (subOf t s) i) (shapeAt (subOf t s) i) (x i)
+
+  abbrev lowest : ℕ → ℕ
+  lowest d = up (downAt t d) (shapeAt t d) (lowestIn (downAt t d) (at (s .offset) d) (at (s .size) d))
+
+  -- both together are how far up the plane's coordinate lies
+  part-up : (d : ℕ) → d < t .rank → lowest d + spread (at (s .size)) (excess t s) own d ≡ up (downAt t d) (shapeAt t d) (wholeAt t s x d)
+  part-up d h = elim (removed (at (s .size)) (excess t s) d) as (λ b. removed (at (s .size)) (excess t s) d ≡ b → lowest d + spread (at (s .size)) (excess t s) own d ≡ up (downAt t d) (shapeAt t d) (wholeAt t s x d)) [
+    | true ↦ λ e.
+        let u = gone (at (s .size)) (excess t s) d e .unit in
+        rw e (one-up (downAt t d) (shapeAt t d) (at (s .offset) d) (at (s .size) d) u)
+    | false ↦ λ e.
+        let k = stays-at (at (s .size)) (excess t s) (t .rank) d h e in
+        let i = length (staying (at (s .size)) (excess t s) d) in
+        let l : i < s .rank = omega (arith, k .0, sub-count g) in
+        let z = sub-shape g i l ∙ ap (at (s .size)) (k .1) in
+        let y : x i < at (s .size) d = omega (arith, w i l, z) in
+        rw (e, sub-down g i l, z, k .1) (way-up (downAt t d) (shapeAt t d) (at (s .offset) d) (at (s .size) d) (x i) (g .size d h .1) y)
+  ] refl
+
+  -- so the places are the same, in bytes
   pub place-whole : subByte t s + sum (s .rank) (λ i. sourceAt (subOf t s) i (x i)) * t .«element_size» ≡ elementByte t (wholeAt t s x)
   unfolding subByte
   place-whole =
-      let e : sum (s .rank) (λ i. x i * at (srcStrides (subOf t s)) i) ≡ sum (t .rank) (λ d. spread (at (s .size)) (excess t s) x d * at (srcStrides t) d) =
-      sum-same (s .rank) _ _ (λ i h. ap (λ (y : ℕ). x i * y) (ap (λ (l : List ℕ). at l i) (sub-resolved g) ∙ sub-stride g i h)) ∙
-      ap (λ (m : ℕ). sum m (λ i. x i * at (srcStrides t) (subDim t s i))) (sym (sub-count g)) ∙
-      spread-sum (at (s .size)) (excess t s) x (at (srcStrides t)) (t .rank) in
-      rw e (sum-joined (t .rank) _ _ _ (t .«element_size») (λ d h. sym (add-mul (at (s .offset) d) (spread (at (s .size)) (excess t s) x d) (at (srcStrides t) d))))
+      let e : sum (s .rank) (λ i. own i * at (srcStrides (subOf t s)) i) ≡ sum (t .rank) (λ d. spread (at (s .size)) (excess t s) own d * at (srcStrides t) d) =
+      sum-same (s .rank) _ _ (λ i h. ap (λ (y : ℕ). own i * y) (sub-size g i h)) ∙
+      ap (λ (m : ℕ). sum m (λ i. own i * at (srcStrides t) (subDim t s i))) (sym (sub-count g)) ∙
+      spread-sum (at (s .size)) (excess t s) own (at (srcStrides t)) (t .rank) in
+      rw e
+      (sum-joined (t .rank) _ _ _ (t .«element_size»)
+      (λ d h. sym (add-mul (lowest d) (spread (at (s .size)) (excess t s) own d) (at (srcStrides t) d)) ∙ ap (λ (y : ℕ). y * at (srcStrides t) d) (part-up d h)))
 
 -- ---- what the calls answer
 
@@ -70,9 +106,11 @@ whole-inside t s src z x w d h =
 
 pub sub-place : SubPlace
 unfolding subOf
-sub-place t s src z x = rw (its-byte t s src z, its-tensor t s src z) (place-whole (told t s src z) x)
+sub-place t s src z x w =
+    rw (its-byte t s src z, its-tensor t s src z)
+    (place-whole (told t s src z) x (λ i h. rw (its-tensor t s src z) at (w i h)))
 
 pub sub-element : SubElement
-sub-element t s src z x b =
+sub-element t s src z x w b =
     rw (part-here t s src z, getD-drop)
-    (ap (λ (k : ℕ). getD src k 0) (sym (add-assoc _ _ b) ∙ ap (λ (k : ℕ). k + b) (sub-place t s src z x)))
+    (ap (λ (k : ℕ). getD src k 0) (sym (add-assoc _ _ b) ∙ ap (λ (k : ℕ). k + b) (sub-place t s src z x w)))

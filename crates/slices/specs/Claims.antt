@@ -67,16 +67,19 @@ WholeInside =
     (t : Tensor) (s : SubConfig) (src : List ℕ) → Taken t s src → (x : ℕ → ℕ) →
     ((i : ℕ) → i < s .rank → x i < shapeAt (subAt t s src) i) → (d : ℕ) → d < t .rank → wholeAt t s x d < shapeAt t d
 
--- from the sub-tensor's byte on, its element at x stands where the plane's stands
+-- from the sub-tensor's byte on, its element at x stands where the plane's stands, if x is one of its coordinates: past its shape a
+-- dimension that counts down has no place
 abbrev pub SubPlace : Type 0
 SubPlace =
     (t : Tensor) (s : SubConfig) (src : List ℕ) → Taken t s src → (x : ℕ → ℕ) →
+    ((i : ℕ) → i < s .rank → x i < shapeAt (subAt t s src) i) →
     subTensorOf t s (length src) .byte + elementByte (subAt t s src) x ≡ elementByte t (wholeAt t s x)
 
 -- so each byte of it, in the part of the source that the second call hands back, is the plane's
 abbrev pub SubElement : Type 0
 SubElement =
-    (t : Tensor) (s : SubConfig) (src : List ℕ) → Taken t s src → (x : ℕ → ℕ) (b : ℕ) →
+    (t : Tensor) (s : SubConfig) (src : List ℕ) → Taken t s src → (x : ℕ → ℕ) →
+    ((i : ℕ) → i < s .rank → x i < shapeAt (subAt t s src) i) → (b : ℕ) →
     getD (subPart t s src) (elementByte (subAt t s src) x + b) 0 ≡ getD src (elementByte t (wholeAt t s x) + b) 0
 
 -- the copy of the sub-tensor, from that part, leaves in any destination what the slice of the plane leaves

@@ -19,6 +19,7 @@ use Rattle.transfers.specs.declared.Table.{Table}
 use Rattle.transfers.specs.declared.Prepared.{Prepared}
 use Rattle.transfers.specs.declared.Changed.{Changed}
 use Rattle.transfers.specs.declared.Stepped.{Stepped}
+use Rattle.plane.specs.Signs.{sizes}
 use Rattle.transfers.specs.Slots.{freeSlot, freshTable, slotAt, withSlot, breaks, clashes, isZeroTensor, isZeroConfig, isZeroJob, movedRight, slotSound, tableSound, limit}
 use Rattle.transfers.specs.Calls.{freshOf, prepareFault, callFault, newSlot, prepareOf, changed, running, startOf, releaseOf, stepCount, later, stepOf}
 use Rattle.transfers.specs.Sound.{SoundTable, SoundFor, TablesStaySound}
@@ -31,7 +32,7 @@ use Rattle.transfers.proofs.Steps.{count-within}
 -- ---- a fresh table
 
 free-sound : (n : ℕ) → slotSound n freeSlot ≡ true
-unfolding slotSound isZeroJob isZeroTensor isZeroConfig every
+unfolding sizes slotSound isZeroJob isZeroTensor isZeroConfig every
 free-sound n = refl
 
 fresh-slot : (n i : ℕ) → slotAt (freshTable n) i ≡ freeSlot

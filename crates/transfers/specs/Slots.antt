@@ -8,6 +8,7 @@ use Rattle.plane.specs.declared.Tensor.{Tensor}
 use Rattle.plane.specs.declared.Config.{Config}
 use Rattle.plane.specs.Settings.{arrayCount, arrayOf, zeroConfig}
 use Rattle.plane.specs.Planes.{zeroTensor}
+use Rattle.plane.specs.Signs.{sizes}
 use Rattle.plane.specs.Arrays.{at, array, some, every}
 use Rattle.parts.specs.declared.Part.{Part}
 use Rattle.mover.specs.declared.Job.{Job}
@@ -69,7 +70,7 @@ abbrev pub isZeroPart : Part → Bool
 isZeroPart p = eqb (p .start) 0 && eqb (p .length) 0
 
 unfoldable pub isZeroTensor : Tensor → Bool
-isZeroTensor t = eqb (t .rank) 0 && eqb (t .«element_size») 0 && isZeroArray (t .shape) && isZeroArray (t .stride)
+isZeroTensor t = eqb (t .rank) 0 && eqb (t .«element_size») 0 && isZeroArray (t .shape) && isZeroArray (sizes (t .stride))
 
 unfoldable pub isZeroConfig : Config → Bool
 isZeroConfig c = every arrayCount (λ k. isZeroArray (arrayOf c k)) && eqb (c .fill) 0

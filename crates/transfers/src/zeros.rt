@@ -4,10 +4,17 @@ use mover::Job;
 use mover::Part;
 use mover::Tensor;
 ghost use mathlib.Core.Path.{_≡_};
+ghost use Rattle.plane.specs.Signs.{sizes};
 ghost use Rattle.transfers.specs.Slots.{isZeroArray, isZeroPart, isZeroTensor, isZeroConfig, isZeroJob};
 
 fn is_zero_numbers(a: [u32; 4]) -> bool
     ensures { λ r. ⌜ r ≡ isZeroArray a ⌝ }
+{
+    (a[0] == 0) & (a[1] == 0) & (a[2] == 0) & (a[3] == 0)
+}
+
+fn is_zero_strides(a: [i32; 4]) -> bool
+    ensures { λ r. ⌜ r ≡ isZeroArray (sizes a) ⌝ }
 {
     (a[0] == 0) & (a[1] == 0) & (a[2] == 0) & (a[3] == 0)
 }
@@ -29,7 +36,7 @@ fn is_zero_tensor(t: Tensor) -> bool
 {
     let shape = t.shape;
     let stride = t.stride;
-    (t.rank == 0) & (t.element_size == 0) & is_zero_numbers(shape) & is_zero_numbers(stride)
+    (t.rank == 0) & (t.element_size == 0) & is_zero_numbers(shape) & is_zero_strides(stride)
 }
 
 fn is_zero_config(c: Config) -> bool

@@ -18,6 +18,7 @@ pub mod piece;
 pub mod records;
 pub mod refusals;
 pub mod shows;
+pub mod signs;
 pub mod sizes;
 pub mod stretches;
 pub mod way;
@@ -28,6 +29,7 @@ pub type Topic = (fn(u8) -> Vec<String>, fn(&[u8], &[u8]) -> Vec<String>);
 
 const TOPICS: &[Topic] = &[
     (sizes::cases, sizes::met),
+    (signs::cases, signs::met),
     (counts::cases, counts::met),
     (offsets::cases, offsets::met),
     (lists::cases, lists::met),

@@ -1,15 +1,19 @@
 //! How what is moved lies in source and destination, by numbers alone: what each dimension adds, and how many elements
 //! and rows of a move or of a stretch of one follow one another.
 
+use super::number::{ADVANCE, MOVE_PLANE, PLAIN_ADVANCE, PLAIN_MOVE, STEP};
 use crate::job::Job;
 use crate::moves::{plan, total, Config, Plan};
-use crate::tensor::Tensor;
+use crate::tensor::{above_lowest, Tensor};
+use crate::transfers::Table;
+use crate::wire::begin;
 
 /// A dimension of the destination: what it adds in source and destination, in elements, from one coordinate to the
-/// next, and how many coordinates are kept and padded.
+/// next, and how many coordinates are kept and padded. One that counts down takes as much away in the source.
 #[derive(Clone, Copy, Default)]
 pub struct Side {
     pub source: u64,
+    pub counts_down: bool,
     pub destination: u64,
     pub kept: u64,
     pub pre: u64,
@@ -23,6 +27,11 @@ impl Side {
 
     pub fn is_padded(&self) -> bool {
         self.pre + self.post > 0
+    }
+
+    /// Whether the coordinates that are kept, several of them, lie in the opposite order in the source.
+    pub fn is_mirrored(&self) -> bool {
+        self.counts_down && self.kept > 1
     }
 
     /// What it adds in source and destination.
@@ -57,6 +66,26 @@ impl Piece {
         Some(Piece { source_first: job.source.start < job.destination.start, ..piece })
     }
 
+    /// What an accepted call moves: a whole plane, or from an element number on as many as its budget has.
+    pub fn of_call(number: u8, arguments: &[u8]) -> Option<Piece> {
+        match number {
+            MOVE_PLANE | PLAIN_MOVE => {
+                let (tensor, config, source): (Tensor, Config, u32) = begin(arguments);
+                Piece::of_move(&tensor, &config, source as u64)
+            }
+            ADVANCE | PLAIN_ADVANCE => {
+                let (job, from, budget): (Job, u64, u64) = begin(arguments);
+                Piece::of_job(&job, from, budget)
+            }
+            STEP => {
+                let (table, handle, budget): (Table, u32, u64) = begin(arguments);
+                let slot = table.slot.get(handle as usize)?;
+                Piece::of_job(&slot.job, slot.moved, budget)
+            }
+            _ => None,
+        }
+    }
+
     fn of(tensor: &Tensor, config: &Config, source: u64, from: u64, budget: u64) -> Option<Piece> {
         let plan = plan(tensor, config, None).ok()?;
         let end = from.saturating_add(budget).min(total(&plan));
@@ -71,7 +100,8 @@ impl Piece {
         };
         let s = self.config.perm[i] as usize;
         Side {
-            source: self.plan.source_stride[s] * self.config.step[s] as u64,
+            source: self.plan.source_stride[s].unsigned_abs() * self.config.step[s] as u64,
+            counts_down: self.plan.source_stride[s] < 0,
             destination: self.plan.stride[i],
             kept: self.plan.count[s],
             pre: self.config.pre[s] as u64,
@@ -87,6 +117,11 @@ impl Piece {
     /// The rows of a layer.
     pub fn rows(&self) -> Side {
         self.side(1)
+    }
+
+    /// All dimensions of the destination of which several coordinates are kept.
+    pub fn sides(&self) -> Vec<Side> {
+        (0..self.plan.rank).map(|before| self.side(before)).filter(|side| side.kept > 1).collect()
     }
 
     /// The layers of a slab.
@@ -130,8 +165,13 @@ impl Piece {
 
     /// The first byte behind the last element of the source that the whole move reads.
     pub fn read_to(&self) -> u64 {
-        let last = |s: usize| self.config.offset[s] as u64 + (self.plan.count[s] - 1) * self.config.step[s] as u64;
-        let place: u64 = (0..self.plan.rank).map(|s| last(s) * self.plan.source_stride[s]).sum();
+        let highest = |s: usize| {
+            let first = self.config.offset[s] as u64;
+            let last = first + (self.plan.count[s] - 1) * self.config.step[s] as u64;
+            let at = |x: u64| above_lowest(self.plan.shape[s], self.plan.source_stride[s], x);
+            at(first).max(at(last))
+        };
+        let place: u64 = (0..self.plan.rank).map(highest).sum();
         (place + 1) * self.plan.element_size as u64
     }
 }

@@ -2,6 +2,7 @@
 //! comparison has to meet each.
 
 use super::case::{case, holding, named, Case};
+use super::input::{is_least, is_mirrored};
 use crate::moves::{plan, total};
 use crate::record::{at, length_in, Reading, LENGTH, LENGTH_WITH_FILL, MARK};
 use crate::show::{take, SOURCE_LIMIT};
@@ -15,6 +16,7 @@ const NUMBERS: &[u8] = &[0, 25, 26, 27, 1, 28, 2, 3, 4, 5, 6, 7, 8, 9, 11, 12, 1
 pub fn cases() -> Vec<String> {
     let mut cases: Vec<String> = NUMBERS.iter().map(u8::to_string).collect();
     cases.extend(named(&of_version_2(&[], 0)));
+    cases.extend(named(&of_signs(&[], 0)));
     cases
 }
 
@@ -22,7 +24,17 @@ pub fn cases() -> Vec<String> {
 pub fn met(input: &[u8], number: u8) -> Vec<String> {
     let mut met = vec![number.to_string()];
     met.extend(holding(&of_version_2(input, number)));
+    met.extend(holding(&of_signs(input, number)));
     met
+}
+
+/// A plane that counts down, and the stride whose size is above the limit.
+fn of_signs(input: &[u8], number: u8) -> Vec<Case> {
+    let tensor = take(input).0.tensor;
+    vec![
+        case(number == 0 && is_mirrored(&tensor), "counts down"),
+        case(number == 4 && is_least(&tensor), "4 by -2147483648"),
+    ]
 }
 
 /// Each case of an input whose record is longer, and whether this is one.

@@ -3,14 +3,13 @@
 //! and records of each size are with the other cases of theirs.
 
 use super::case::{case, met_by_status, named, Case};
-use super::input::BESIDE;
+use super::input::{tensor_of, BESIDE};
 use super::moved::moved;
 use super::number::{
-    ADVANCE, ELEMENT_SIZE, JUDGE, JUDGE_JOB, MOVER_SUB_TENSOR, MOVE_PLANE, PLAIN_ADVANCE, PLAIN_MOVE, POLL, PREPARE,
-    RELEASE, ROOM, SOURCE_OF, START, STEP, SUB_PART, SUB_TENSOR,
+    ELEMENT_SIZE, JUDGE, MOVER_SUB_TENSOR, MOVE_PLANE, PLAIN_MOVE, POLL, PREPARE, RELEASE, START, STEP, SUB_PART,
+    SUB_TENSOR,
 };
 use crate::helpers::{sub_tensor, SubConfig};
-use crate::job::Job;
 use crate::moves::{room, Config};
 use crate::tensor::{check_shapes, source_of, Tensor, ELEMENT_SIZES};
 use crate::transfers::{sound, Table, FREE};
@@ -48,17 +47,6 @@ fn all(number: u8, arguments: &[u8], status: u8) -> Vec<Case> {
         _ => Vec::new(),
     });
     all
-}
-
-/// The tensor record that a call asks about, if its answer tells 2 and 3.
-fn tensor_of(number: u8, arguments: &[u8]) -> Option<Tensor> {
-    match number {
-        SOURCE_OF | ROOM | JUDGE | SUB_TENSOR | MOVE_PLANE | MOVER_SUB_TENSOR | PLAIN_MOVE => Some(begin(arguments)),
-        JUDGE_JOB => Some(begin::<(u64, Job)>(arguments).1.tensor),
-        ADVANCE | PLAIN_ADVANCE => Some(begin::<Job>(arguments).tensor),
-        PREPARE => Some(begin::<(Table, Job)>(arguments).1.tensor),
-        _ => None,
-    }
 }
 
 /// "or 0 for others": the numbers just beside the sizes.

@@ -27,9 +27,10 @@ const TURNED: &str = "turned";
 const BEFORE: &str = "padded before";
 const BEHIND: &str = "padded behind";
 const BOTH: &str = "padded on both sides";
+const RIGHT_TO_LEFT: &str = "right to left";
 /// Of rows, in a move by itself and in one within a memory, by either engine, with elements of each size. Wider,
-/// thinned and turned are each met by itself.
-const OF_ROW: [&str; 7] = [SIDE_BY_SIDE, WIDER, THINNED, TURNED, BEFORE, BEHIND, BOTH];
+/// thinned, turned and right to left are each met by itself.
+const OF_ROW: [&str; 8] = [SIDE_BY_SIDE, WIDER, THINNED, TURNED, BEFORE, BEHIND, BOTH, RIGHT_TO_LEFT];
 
 /// All cases of the call of this number.
 pub fn cases(number: u8) -> Vec<String> {
@@ -122,5 +123,6 @@ fn rows_met(moved: &Moved) -> Vec<String> {
         (padded(true, false), BEFORE),
         (padded(false, true), BEHIND),
         (padded(true, true), BOTH),
+        (run && (source, step, destination) == (-1, 1, 1), RIGHT_TO_LEFT),
     ])
 }

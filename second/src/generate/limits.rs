@@ -3,7 +3,7 @@
 use super::offsets::{put_offset, Bound};
 use super::planes::Drawn;
 use super::spoil::{spoil, Lent};
-use super::values::around;
+use super::values::{around, either_way};
 use crate::cases::offsets::without_offsets;
 use crate::moves::room;
 use crate::random::Random;
@@ -56,8 +56,11 @@ fn source_at_limit(random: &mut Random, drawn: &mut Drawn, d: usize) {
     match random.below(4) {
         0 => tensor.shape[d] = beside(random, EXTENT_LIMIT) as u32,
         1 => tensor.shape[d] = beside(random, 1) as u32,
-        2 => tensor.stride[d] = beside(random, LIMIT) as u32,
-        _ => tensor.stride[d] = beside(random, inner_product) as u32,
+        _ => {
+            let limit = random.pick(&[LIMIT, inner_product]);
+            let size = beside(random, limit);
+            tensor.stride[d] = either_way(random, size);
+        }
     }
 }
 
@@ -148,7 +151,7 @@ pub fn extreme(random: &mut Random) -> Drawn {
     let mut config = copy(rank as u8).config;
     for d in 0..rank {
         tensor.shape[d] = if d == 0 { random.pick(&[65_280, 65_534, 65_535]) } else { 1 };
-        tensor.stride[d] = LIMIT as u32;
+        tensor.stride[d] = either_way(random, LIMIT);
         config.dst_stride[d] = LIMIT as u32;
         if d == 0 || random.chance(15) {
             config.dst_offset[d] = random.pick(&[0, 1, EXTENT_LIMIT, EXTENT_LIMIT, EXTENT_LIMIT - 1]) as u32;

@@ -20,6 +20,7 @@ mod planes;
 mod records;
 mod refusals;
 mod shows;
+mod signs;
 mod sizes;
 mod spoil;
 mod starts;
@@ -61,6 +62,9 @@ const KINDS: &[Kind] = &[
     (4, moving::move_sub_tensor),
     (24, moving::at_offset_bound),
     (6, joins::join),
+    (24, signs::mirrored),
+    (12, signs::at_an_end),
+    (8, signs::sub_tensor),
     (24, stretches::advance),
     (4, stretches::transfer),
     (60, ways::any_way),
@@ -117,8 +121,8 @@ pub fn calls(count: usize, seed: u64) -> Vec<u8> {
 }
 
 /// What is drawn once in a run: two numbers for one call, lines of wrong lengths, the longest lines, the largest numbers,
-/// elements of each size, records and lists spoiled in every way, fills where none may be, moves of each way, what the
-/// room keeper tells apart, and parts on boundaries and off them.
+/// elements of each size, records and lists spoiled in every way, fills where none may be, what the room keeper tells
+/// apart, moves of each way, parts on boundaries and off them, and strides of either sign.
 fn once(work: &mut Work) {
     refusals::every_wrap(work);
     refusals::every_sub_tensor_pair(work);
@@ -143,7 +147,6 @@ fn once(work: &mut Work) {
     lists::every_pair(work);
     lists::every_fill(work);
     lists::long(work);
-    ways::every_way(work);
     keeper::every_request(work);
     give_backs::every_order(work);
     give_backs::every_hold(work);
@@ -151,11 +154,20 @@ fn once(work: &mut Work) {
     keeper::every_wrong_run(work);
     give_backs::every_run(work);
     keeper::every_count(work);
+    ways::every_way(work);
     boundaries::every_start(work);
     boundaries::every_prepare(work);
     boundaries::every_block(work);
     boundaries::every_slot(work);
     boundaries::every_far_start(work);
+    signs::every_end(work);
+    signs::every_fault(work);
+    signs::every_mirror(work);
+    signs::every_cut(work);
+    signs::every_part(work);
+    signs::every_word(work);
+    signs::every_slot(work);
+    ways::every_mirrored_way(work);
 }
 
 /// Long lines.

@@ -1,10 +1,10 @@
 //! Draws records and configurations that a move accepts, at four scales.
 
-use super::values::{any_fill, any_u32s, any_u8s};
+use super::values::{any_fill, any_strides, any_u32s, any_u8s, upward};
 use crate::moves::{extents, kept_counts, room, Config};
 use crate::random::Random;
 use crate::ready_made::copy;
-use crate::tensor::{wide, Tensor, ELEMENT_SIZES, EXTENT_LIMIT, LIMIT};
+use crate::tensor::{source_of, wide, Tensor, ELEMENT_SIZES, EXTENT_LIMIT, LIMIT};
 
 #[derive(Clone, Copy, PartialEq)]
 pub enum Scale {
@@ -83,13 +83,43 @@ fn draw_tensor(random: &mut Random, scale: Scale) -> Tensor {
     // Entries at or past the rank: 0 or anything.
     if random.chance(25) {
         tensor.shape = any_u32s(random);
-        tensor.stride = any_u32s(random);
+        tensor.stride = any_strides(random);
     }
     for d in 0..rank {
         tensor.shape[d] = draw_shape(random, rank, scale);
     }
-    draw_strides(random, rank, &wide(&tensor.shape), scale, &mut tensor.stride);
+    let mut written = [0; 4];
+    let meant = draw_strides(random, rank, &wide(&tensor.shape), scale, &mut written);
+    let counts_down = draw_mirrored(random, rank);
+    for d in 0..rank {
+        // A stride that counts down has to be written.
+        let size = if counts_down[d] { meant[d] } else { written[d] };
+        let stride = upward(size as u64);
+        tensor.stride[d] = if counts_down[d] { stride.wrapping_neg() } else { stride };
+    }
     tensor
+}
+
+/// The dimensions that count down: none, one, all, or some.
+pub fn draw_mirrored(random: &mut Random, rank: usize) -> [bool; 4] {
+    let mut counts_down = [false; 4];
+    match random.below(10) {
+        0..=4 => {}
+        5..=6 => counts_down[random.index(rank)] = true,
+        7 => counts_down[..rank].fill(true),
+        _ => counts_down[..rank].iter_mut().for_each(|down| *down = random.chance(50)),
+    }
+    counts_down
+}
+
+/// The same plane with its rows, columns or layers in the opposite order in the dimensions that are to count down.
+pub fn mirror(tensor: &Tensor, counts_down: &[bool; 4]) -> Tensor {
+    let resolved = source_of(tensor).stride;
+    let mut mirrored = *tensor;
+    for d in (0..tensor.rank as usize).filter(|&d| counts_down[d]) {
+        mirrored.stride[d] = upward(resolved[d] as u64).wrapping_neg();
+    }
+    mirrored
 }
 
 fn draw_shape(random: &mut Random, rank: usize, scale: Scale) -> u32 {

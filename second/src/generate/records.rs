@@ -2,7 +2,7 @@
 
 use super::planes::{any_config, good, Drawn, Scale};
 use super::spoil::{vary, Lent};
-use super::values::{any_tensor, any_u32, any_u8};
+use super::values::{any_stride, any_tensor, any_u32, any_u8};
 use super::work::Work;
 use crate::moves::Config;
 use crate::random::Random;
@@ -15,7 +15,6 @@ pub fn clear_tail(tensor: &mut Tensor, config: &mut Config) {
     for d in tensor.rank.min(4) as usize..4 {
         for group in [
             &mut tensor.shape,
-            &mut tensor.stride,
             &mut config.offset,
             &mut config.size,
             &mut config.step,
@@ -24,6 +23,7 @@ pub fn clear_tail(tensor: &mut Tensor, config: &mut Config) {
         ] {
             group[d] = 0;
         }
+        tensor.stride[d] = 0;
         for group in [&mut config.perm, &mut config.pre, &mut config.post] {
             group[d] = 0;
         }
@@ -67,7 +67,7 @@ pub fn set_tail_entry(random: &mut Random, tensor: &mut Tensor, config: &mut Con
     let byte = any_u8(random).max(1);
     match random.below(10) {
         0 => tensor.shape[d] = value,
-        1 => tensor.stride[d] = value,
+        1 => tensor.stride[d] = if random.chance(50) { value as i32 } else { any_stride(random).min(-1) },
         2 => config.offset[d] = value,
         3 => config.size[d] = value,
         4 => config.step[d] = value,

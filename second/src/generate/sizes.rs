@@ -89,7 +89,7 @@ fn in_table(work: &mut Work, drawn: &Drawn) {
 }
 
 /// Rows of elements of each size that lie side by side but for one thing: they are wider in the destination, thinned,
-/// turned, or padded. Each is moved as a whole, by itself and within a memory.
+/// turned, padded, or read right to left. Each is moved as a whole, by itself and within a memory.
 pub fn every_row(work: &mut Work) {
     let plain = copy(2).config;
     let rows = [
@@ -101,8 +101,9 @@ pub fn every_row(work: &mut Work) {
         plain.with_pre([0, 1, 0, 0]).with_post([0, 2, 0, 0]),
     ];
     for element_size in ELEMENT_SIZES {
-        for config in rows {
-            let tensor = Tensor { rank: 2, element_size, shape: [2, 3, 0, 0], stride: [0; 4] };
+        let tensor = Tensor { rank: 2, element_size, shape: [2, 3, 0, 0], stride: [0; 4] };
+        let right_to_left = Tensor { stride: [0, -1, 0, 0], ..tensor };
+        for (tensor, config) in rows.map(|config| (tensor, config)).into_iter().chain([(right_to_left, plain)]) {
             let drawn = Drawn::of(tensor, config.with_fill(telling_fill(&mut work.random)));
             move_drawn(work, &drawn);
             let (job, length) = lay_out(&mut work.random, &drawn);

@@ -2,7 +2,7 @@
 
 use super::offsets::{put_offset, Bound};
 use super::planes::Drawn;
-use super::values::{any_u32, any_u64, any_u8, around, WRONG_RANKS, WRONG_SIZES};
+use super::values::{any_stride, any_u32, any_u64, any_u8, around, either_way, WRONG_RANKS, WRONG_SIZES};
 use crate::cases::offsets::without_offsets;
 use crate::random::Random;
 use crate::tensor::{check_tensor, inner_product, wide, EXTENT_LIMIT, LIMIT};
@@ -111,7 +111,11 @@ fn spoil_source_stride(random: &mut Random, drawn: &mut Drawn, d: usize) {
     if random.chance(30) {
         tensor.shape[d] = tensor.shape[d].max(2);
     }
-    spoil_stride(random, inner_product, d, &mut tensor.stride);
+    let mut size = tensor.stride.map(i32::unsigned_abs);
+    spoil_stride(random, inner_product, d, &mut size);
+    for changed in 0..=d {
+        tensor.stride[changed] = either_way(random, size[changed] as u64);
+    }
 }
 
 /// One less than the inner product, or above the limit, or so wide that a zero stride farther out comes out above it.
@@ -204,7 +208,7 @@ fn set_any_field(random: &mut Random, drawn: &mut Drawn, lent: Lent) {
         0 => drawn.tensor.rank = byte,
         1 => drawn.tensor.element_size = byte,
         2 => drawn.tensor.shape[d] = value,
-        3 => drawn.tensor.stride[d] = value,
+        3 => drawn.tensor.stride[d] = any_stride(random),
         4 => config.offset[d] = value,
         5 => config.size[d] = value,
         6 => config.step[d] = value,

@@ -22,7 +22,7 @@ fn draw_job(random: &mut Random) -> (Job, u64) {
 }
 
 /// The same elements side by side in source and destination, but for one thing at most: the rows are thinned, turned,
-/// wider in the destination, or padded on both sides.
+/// wider in the destination, padded on both sides, or read right to left.
 fn with_one_thing(random: &mut Random, drawn: &Drawn) -> Drawn {
     let (mut tensor, mut config) = (drawn.tensor, drawn.config);
     let rank = drawn.dimensions();
@@ -32,11 +32,12 @@ fn with_one_thing(random: &mut Random, drawn: &Drawn) -> Drawn {
     for d in 0..rank {
         (config.size[d], config.step[d], config.perm[d]) = (count[d] as u32, 1, d as u8);
     }
-    match random.below(6) {
+    match random.below(7) {
         0 => (config.offset[last], config.size[last], config.step[last]) = (0, 0, random.between(2, 3) as u32),
         1..=2 => config.perm[..rank].reverse(),
         3 => config.dst_stride[last] = random.between(2, 3) as u32,
         4 => (config.pre[last], config.post[last]) = (random.between(1, 2) as u8, random.between(1, 2) as u8),
+        5 => tensor.stride[last] = -1,
         _ => {}
     }
     Drawn::of(tensor, config)

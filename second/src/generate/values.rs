@@ -87,6 +87,30 @@ pub fn any_u8s(random: &mut Random) -> [u8; 4] {
     [0; 4].map(|_| any_u8(random))
 }
 
+/// A source stride: near 0 on either side, at an end of the range, or any word.
+pub fn any_stride(random: &mut Random) -> i32 {
+    match random.below(10) {
+        0..=3 => random.between(0, 12) as i32 - 6,
+        4..=5 => random.pick(&[i32::MAX, -i32::MAX, i32::MIN, i32::MIN + 2]),
+        _ => any_u32(random) as i32,
+    }
+}
+
+pub fn any_strides(random: &mut Random) -> [i32; 4] {
+    [0; 4].map(|_| any_stride(random))
+}
+
+/// The stride of this size that counts up. The least number is the only one whose size is above the limit.
+pub fn upward(size: u64) -> i32 {
+    i32::try_from(size).unwrap_or(i32::MIN)
+}
+
+/// A stride of this size that counts up or down.
+pub fn either_way(random: &mut Random, size: u64) -> i32 {
+    let up = upward(size);
+    random.pick(&[up, up.wrapping_neg()])
+}
+
 /// A fill: none, one byte of it, the low ones, or four that differ.
 pub fn any_fill(random: &mut Random) -> u32 {
     match random.below(10) {
@@ -114,7 +138,7 @@ pub fn any_tensor(random: &mut Random) -> Tensor {
         rank: any_rank(random),
         element_size: any_element_size(random),
         shape: any_u32s(random),
-        stride: any_u32s(random),
+        stride: any_strides(random),
     }
 }
 

@@ -1,6 +1,6 @@
 //! Draws a move of each way, over a plane that is large enough for it and not much larger.
 
-use super::planes::Drawn;
+use super::planes::{draw_mirrored, mirror, Drawn};
 use super::values::telling_fill;
 use crate::cases::way::Way;
 use crate::moves::{room, Config, Room};
@@ -33,6 +33,10 @@ pub fn draw_way(random: &mut Random, way: Way) -> Drawn {
     }
     if random.chance(20) {
         plane = with_one_thing_more(random, plane);
+    }
+    if random.chance(60) {
+        let counts_down = draw_mirrored(random, plane.tensor.rank as usize);
+        plane.tensor = mirror(&plane.tensor, &counts_down);
     }
     plane.config.dst_offset[0] = random.pick(&[0, 0, 0, 1]);
     let mut drawn = Drawn::of(plane.tensor, plane.config);
@@ -138,7 +142,7 @@ fn with_one_thing_more(random: &mut Random, plane: Plane) -> Plane {
         0 => more.config.pre[d] = some,
         1 => more.config.post[d] = some,
         2 => more = plane.crop(random, d),
-        3 => more.tensor.stride[d] = source_of(&plane.tensor).stride[d] + gap,
+        3 => more.tensor.stride[d] = (source_of(&plane.tensor).stride[d] + gap) as i32,
         _ => more.config.dst_stride[d] = room(&plane.tensor, &plane.config).answer.stride[d] + gap,
     }
     let Room { answer, span } = room(&more.tensor, &more.config);
@@ -176,7 +180,7 @@ fn lines(random: &mut Random, element_size: u8) -> Plane {
         1 => plane.set(random),
         2 => plane.crop(random, 1).set(random),
         _ => {
-            let wider = (row + random.between(1, 9)) as u32;
+            let wider = (row + random.between(1, 9)) as i32;
             Plane { tensor: Tensor { stride: [wider, 0, 0, 0], ..plane.tensor }, ..plane }
         }
     }
@@ -197,7 +201,7 @@ fn short_rows(random: &mut Random, element_size: u8) -> Plane {
             plane.tensor.shape[1] = (row * some - random.below(some)) as u32;
             plane.config.step[1] = some as u32;
         }
-        2 => plane.tensor.stride[1] = some as u32,
+        2 => plane.tensor.stride[1] = some as i32,
         3 => plane.config.dst_stride[1] = some as u32,
         4 => return plane.set(random),
         _ => return plane.crop(random, 1),

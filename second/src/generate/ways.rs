@@ -7,7 +7,7 @@ use super::way_planes::draw_way;
 use super::work::{Work, ADVANCE, MOVE};
 use crate::cases::piece::Piece;
 use crate::cases::way::{Way, WAYS};
-use crate::cases::ways::{cases_of_way, met_by_piece};
+use crate::cases::ways::{cases_of_way, met_by_piece, mirrored_cases_of_way};
 use crate::job::Job;
 use crate::moves::room;
 use crate::random::Random;
@@ -40,16 +40,24 @@ pub fn any_way(work: &mut Work) {
 
 /// Moves of each way, until each case of it was met by each call.
 pub fn every_way(work: &mut Work) {
+    every_case_of(work, cases_of_way);
+}
+
+/// The same of what is mirrored.
+pub fn every_mirrored_way(work: &mut Work) {
+    every_case_of(work, mirrored_cases_of_way);
+}
+
+fn every_case_of(work: &mut Work, cases: fn(u8, Way) -> Vec<String>) {
     for number in CALLS {
         for way in WAYS {
-            every_case(work, number, way);
+            every_case(work, number, way, cases(number, way));
         }
     }
 }
 
 /// Only what meets a case for the first time is called for.
-fn every_case(work: &mut Work, number: u8, way: Way) {
-    let mut missing = cases_of_way(number, way);
+fn every_case(work: &mut Work, number: u8, way: Way, mut missing: Vec<String>) {
     for _ in 0..DRAWS {
         if missing.is_empty() {
             break;

@@ -39,7 +39,7 @@ fn a_run_that_is_long_enough_meets_everything() {
 }
 
 /// Some of what has to be met.
-const SOME_CASES: [&str; 71] = [
+const SOME_CASES: [&str; 81] = [
     "00 version: made",
     "02 room: 12",
     "03 judge: 12 too large at 0",
@@ -111,6 +111,16 @@ const SOME_CASES: [&str; 71] = [
     "rmvlist: 1000 records",
     "rmvlist: record of version 2",
     "rmvlist: room for 3-byte elements",
+    "01 source_of: 4 by -2147483648 at 3",
+    "06 sub_tensor: unit dimension removed, counting down",
+    "20 move_plane: 2 of 3 dimensions count down",
+    "26 plain::move_plane: turned, 3-byte mirrored elements",
+    "22 advance: 2-byte row right to left",
+    "34 record_at: stride -1",
+    "41 prepare: 4 by a negative stride and 5",
+    "43 step: lines, mirrored, begins in mid-row",
+    "51 give_back: 18 by -2147483648 of a slot",
+    "rmvshow: counts down",
 ];
 
 #[test]

@@ -18,6 +18,8 @@ mod readings;
 mod record_cases;
 mod records;
 mod refusal_cases;
+mod sign_cases;
+mod signs;
 mod size_cases;
 mod sizes;
 mod stretches;

@@ -131,14 +131,14 @@ fn a_zero_stride_may_come_out_above_the_limit() {
     let expected = [2_147_483_647, 2_147_483_647, 0, 0];
     assert_eq!(source_of(&fits), Source { status: 0, dimension: 0, stride: expected, span: 2_147_483_648 });
     // The first one met outward is named.
-    let both = Tensor { stride: [1, 2_147_483_648, 0, 0], ..plane(&[2, 2]) };
+    let both = Tensor { stride: [1, -2_147_483_648, 0, 0], ..plane(&[2, 2]) };
     assert_eq!(source_of(&both).dimension, 1);
 }
 
 #[test]
 fn entries_past_the_rank_are_not_looked_at() {
     let mut tensor = plane(&[2, 3]);
-    (tensor.shape[3], tensor.stride[2]) = (0, u32::MAX);
+    (tensor.shape[3], tensor.stride[2]) = (0, i32::MIN);
     let mut config = default(&tensor);
     (config.offset[2], config.step[3], config.perm[2]) = (u32::MAX, 70_000, 0);
     let answer = judge(&tensor, &config, 6, 6);

@@ -119,6 +119,10 @@ fn how_the_elements_of_a_row_lie() {
     // Two things at once are neither, and so is a source whose rows have gaps without being turned.
     assert_eq!(rows(tensor, config.with_perm(four(&[1, 0])).with_dst_stride(four(&[0, 2]))), "");
     assert_eq!(rows(Tensor { stride: four(&[6, 2]), ..tensor }, config), "");
+    // The other way round, one by one.
+    assert_eq!(rows(Tensor { stride: four(&[0, -1]), ..tensor }, config), "1-byte row right to left");
+    assert_eq!(rows(Tensor { stride: four(&[0, -2]), ..tensor }, config), "");
+    assert_eq!(rows(Tensor { stride: four(&[-3, 0]), ..tensor }, config), "1-byte row side by side");
     // One kept element has no neighbour.
     assert_eq!(rows(tensor, config.with_step(four(&[1, 3]))), "");
 }

@@ -279,3 +279,32 @@ fn a_step_and_a_source_behind() {
     };
     assert_eq!((refused(0, 68), refused(1, 17), refused(4, 17)), (String::new(), String::new(), String::new()));
 }
+
+#[test]
+fn what_is_mirrored() {
+    let mirrored =
+        |shape: &[u32], stride: &[i32], config: Config| whole(Tensor { stride: four(stride), ..plane(shape) }, config);
+    let plain = default(&plane(&[1, 1]));
+    assert_eq!(mirrored(&[4, 51], &[0, -1], plain), "joined, 1-byte mirrored elements");
+    assert_eq!(mirrored(&[4, 51], &[-51, 0], plain), "joined, 1-byte mirrored rows");
+    assert_eq!(mirrored(&[4, 51], &[-51, -1], plain), "joined, mirrored throughout");
+    // A single kept coordinate has no order.
+    assert_eq!(mirrored(&[2, 20], &[-20, 0], plain.with_size(four(&[1, 17]))), "");
+    assert_eq!(mirrored(&[2, 20], &[-20, 0], plain.with_size(four(&[0, 17]))), "lines, 1-byte mirrored rows");
+    // The rows of what is turned are the columns of the source.
+    let turned = plain.with_perm(four(&[1, 0]));
+    assert_eq!(mirrored(&[16, 16], &[-16, 0], turned), "turned, 1-byte mirrored elements");
+    assert_eq!(mirrored(&[16, 16], &[0, -1], turned), "turned, 1-byte mirrored rows");
+    // Layers alone, and with rows, which is neither.
+    let cube = default(&plane(&[1, 1, 1]));
+    assert_eq!(mirrored(&[2, 4, 51], &[-204, 0, 0], cube), "joined, mirrored layers");
+    assert_eq!(mirrored(&[2, 4, 51], &[-204, -51, 0], cube), "");
+    assert_eq!(mirrored(&[2, 4, 51], &[-204, -51, -1], cube), "joined, mirrored throughout");
+    let lines = Tensor { stride: four(&[0, -1]), ..plane(&[2, 20]) };
+    let cut = "lines, 1-byte mirrored elements; lines, mirrored, begins in mid-row";
+    let behind = "lines, mirrored, source before destination";
+    assert_eq!(
+        stretch(Tensor { shape: four(&[4, 20]), ..lines }, plain.with_size(four(&[0, 17])), 3, 65),
+        format!("{cut}; {behind}")
+    );
+}

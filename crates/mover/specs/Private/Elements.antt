@@ -1,7 +1,7 @@
 -- What the engine writes: elements by four destination coordinates, and by their numbers.
 use mathlib.Core.Bool.{Bool, cond, _&&_}
 use mathlib.Core.List.{List}
-use Prim.Native.Nat.{ℕ, zero, suc, _+_, _-_, _*_, _/_, _%_}
+use Prim.Native.Nat.{ℕ, zero, suc, _+_, _-_, _*_, _/_, _%_, _^_}
 use lib.Dec.{leb, ltb}
 use lib.ListN.{take, drop}
 use lib.Seq.{sets}
@@ -32,12 +32,13 @@ unfoldable pub placeOf : Plan → ℕ → ℕ → ℕ → ℕ → ℕ
 placeOf p c0 c1 c2 c3 =
     summed (p .base) c0 (p .d0 .stride) c1 (p .d1 .stride) c2 (p .d2 .stride) c3 (p .d3 .stride)
 
--- the byte of the source element for them: k jumps in each dimension, from the home
+-- the byte of the source element for them: k jumps in each dimension, from the home, as 64 bits count
 unfoldable pub homeOf : Plan → ℕ → ℕ → ℕ → ℕ → ℕ
 homeOf p c0 c1 c2 c3 =
     summed (p .home)
     (c0 - p .d0 .pre) (p .d0 .jump) (c1 - p .d1 .pre) (p .d1 .jump)
     (c2 - p .d2 .pre) (p .d2 .jump) (c3 - p .d3 .pre) (p .d3 .jump)
+    % 2 ^ 64
 
 -- the bytes of a padded element: the first of these four
 abbrev pub padding : ℕ → List ℕ → List ℕ

@@ -1,4 +1,6 @@
 -- What the checks establish of a plan and the bytes that it is made over, and a move within one memory.
+use mathlib.Core.Path.{_≡_}
+use mathlib.Core.Bool.{true}
 use mathlib.Core.List.{List}
 use Prim.Native.Nat.{ℕ, _+_, _-_, _^_, _≤_, _<_}
 use lib.ListN.{length}
@@ -9,18 +11,19 @@ use Rattle.mover.specs.declared.plan.Axis.{Axis}
 use Rattle.mover.specs.declared.plan.Plan.{Plan}
 use Rattle.mover.specs.declared.elements.Origin.{Origin}
 use Rattle.mover.specs.declared.elements.Origin.the-variants.{Inside}
-use Rattle.mover.specs.Private.Elements.{sourceBytes, summed, placeOf, planTotal, co0, co1, co2, co3, movedBy}
+use Rattle.mover.specs.Private.Elements.{sourceBytes, planKept, summed, placeOf, homeOf, planTotal, co0, co1, co2, co3, movedBy}
+use Rattle.mover.specs.Private.Plans.{jumpLength}
 use Rattle.plane.specs.Planes.{Sized}
 use Rattle.mover.specs.Private.Runs.{BytesApart}
 
--- past the last byte of a source element that can be kept, and of a destination element
-unfoldable pub homeEnd : Plan → ℕ
-homeEnd p =
-    summed (p .home)
-    (p .d0 .count - 1) (p .d0 .jump) (p .d1 .count - 1) (p .d1 .jump)
-    (p .d2 .count - 1) (p .d2 .jump) (p .d3 .count - 1) (p .d3 .jump)
-    + p .size
+-- how many bytes lie between the lowest source element that can be kept and the highest
+unfoldable pub reachOf : Plan → ℕ
+reachOf p =
+    summed 0
+    (p .d0 .count - 1) (jumpLength (p .d0 .jump)) (p .d1 .count - 1) (jumpLength (p .d1 .jump))
+    (p .d2 .count - 1) (jumpLength (p .d2 .jump)) (p .d3 .count - 1) (jumpLength (p .d3 .jump))
 
+-- past the last byte of a destination element
 unfoldable pub placeEnd : Plan → ℕ
 placeEnd p =
     summed (p .base)
@@ -28,10 +31,11 @@ placeEnd p =
     (p .d2 .extent - 1) (p .d2 .stride) (p .d3 .extent - 1) (p .d3 .stride)
     + p .size
 
--- something of a dimension is kept, and lies in its extent
+-- something of a dimension is kept, and lies in its extent; its jump is a number of 64 bits
 pub record GoodAxis (x : Axis) : Type 0 where
   pub some : 0 < x .count
   pub within : x .pre + x .count ≤ x .extent
+  pub fits : x .jump < 2 ^ 64
 
 pub record GoodAxes (p : Plan) : Type 0 where
   pub in0 : GoodAxis (p .d0)
@@ -53,9 +57,12 @@ pub record Ready (o : Origin) (p : Plan) (s d : List ℕ) : Type 0 where
   pub axes : GoodAxes p
   pub few : planTotal p < 2 ^ 64
   pub rising : Rising p
-  pub span : homeEnd p ≤ length (sourceBytes o s d)
+  pub reach : reachOf p < 2 ^ 64
   pub need : placeEnd p ≤ length d
-  pub apart : BytesApart o (p .home) (homeEnd p) (p .base) (placeEnd p)
+  -- each source element that is kept lies in the source, and apart from the destination
+  pub span : (c0 c1 c2 c3 : ℕ) → planKept p c0 c1 c2 c3 ≡ true → homeOf p c0 c1 c2 c3 + p .size ≤ length (sourceBytes o s d)
+  pub apart : (c0 c1 c2 c3 : ℕ) → planKept p c0 c1 c2 c3 ≡ true
+      → BytesApart o (homeOf p c0 c1 c2 c3) (homeOf p c0 c1 c2 c3 + p .size) (p .base) (placeEnd p)
 
 pub record InExtents (p : Plan) (c0 c1 c2 c3 : ℕ) : Type 0 where
   pub in0 : c0 < p .d0 .extent

@@ -10,7 +10,7 @@ use Rattle.plane.specs.declared.Tensor.{Tensor}
 use Rattle.plane.specs.declared.Config.{Config}
 use Rattle.plane.specs.Arrays.{at, sum, product, every}
 use Rattle.plane.specs.Numbers.{little}
-use Rattle.plane.specs.Planes.{Sized, srcStrides, sourceAt, span, sourceOf}
+use Rattle.plane.specs.Planes.{Sized, shapeAt, downAt, up, srcStrides, sourceAt, span, sourceOf}
 use Rattle.plane.specs.Moves.{count, dstStrides, need, accepted, roomOf}
 use Rattle.plane.specs.Good.{GoodSource, GoodConfig, GoodDst}
 use Rattle.parts.specs.declared.Part.{Part}
@@ -68,6 +68,7 @@ inwardOf w i x =
     let c = w .config in
     let a = w .answer in
     let s = dimOf c i in
+    let y = at (c .offset) s + (x - at (c .pre) s) * at (c .step) s in
     let pre = at (c .pre) s in
     let kept = w .kept && leb pre x && ltb x (pre + count (w .tensor) c s) in
     record {
@@ -78,7 +79,7 @@ inwardOf w i x =
       answer = a;
       number = w .number * at (a .extent) i + x;
       kept = kept;
-      at = cond kept (w .at + (at (c .offset) s + (x - pre) * at (c .step) s) * at (w .source .stride) s * sizeOf w) (w .at);
+      at = cond kept (w .at + up (downAt (w .tensor) s) (shapeAt (w .tensor) s) y * at (w .source .stride) s * sizeOf w) (w .at);
       place = w .place + (at (c .«dst_offset») i + x) * at (a .stride) i * sizeOf w;
     }
 

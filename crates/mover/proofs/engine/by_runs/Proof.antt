@@ -13,7 +13,6 @@ use lib.ListN.{length}
 use Rattle.mover.specs.declared.spots.Spots.{Spots}
 use Rattle.mover.specs.Private.Elements.{axisKept}
 use Rattle.mover.specs.Private.Ready.{Ready, InExtents}
-use Rattle.mover.proofs.Bytes.{source-long}
 use Rattle.mover.proofs.Turns.{At, Keeps, Over, start, run-writes, run-reads, turn, next-row, next-layer, next-slab, at-spent, at-end, at-length, at-ready}
 use Rattle.mover.proofs.engine.by_runs.Statement.{statement}
 use Rattle.mover.proofs.engine.by_runs.Tie as tie
@@ -140,7 +139,7 @@ begin-requires c κs =
     let r = s .pre .0 in (
       r .axes,
       (
-        (omega (arith, r .span, source-long (s .args .origin) (s .args .src .now) (s .args .dst .now), s .good), omega (arith, r .need, s .good)),
+        (r .reach, omega (arith, r .need, s .good)),
         s .pre .1,
       ),
     )

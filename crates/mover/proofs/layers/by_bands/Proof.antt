@@ -14,8 +14,7 @@ use lib.ListN.{length}
 use Rattle.mover.specs.declared.spots.Spots.{Spots}
 use Rattle.mover.specs.Private.Elements.{axisKept}
 use Rattle.mover.specs.Private.Adding.{afterRun}
-use Rattle.mover.specs.Private.Ready.{homeEnd, placeEnd, Ready, InExtents}
-use Rattle.mover.proofs.Bytes.{source-long}
+use Rattle.mover.specs.Private.Ready.{reachOf, placeEnd, Ready, InExtents}
 use Rattle.mover.proofs.Places.{axis-some}
 use Rattle.mover.proofs.Turns.{At, Keeps, Over, Cut, cut-row, start, start-row, row-turn, next-row, next-layer, next-slab, at-below, at-spent, at-end, at-length, at-ready}
 use Rattle.mover.proofs.Banded.{row-end, band-asks, band-behind, band-turn}
@@ -111,10 +110,8 @@ outer c =
     c .before .kept2 .ensures ∙ ap (λ (x : Bool). x && axisKept (p .d1) (k .loop .c1)) (k .before .kept .ensures)
 
 -- all places fit
-ends : (s : Begun) → (homeEnd (s .args .plan) < 2 ^ 64) × (placeEnd (s .args .plan) < 2 ^ 64)
-ends s =
-    let r = s .pre .0 in
-    (omega (arith, r .span, source-long (s .args .origin) (s .args .src .now) (s .args .dst .now), s .good), omega (arith, r .need, s .good))
+ends : (s : Begun) → (reachOf (s .args .plan) < 2 ^ 64) × (placeEnd (s .args .plan) < 2 ^ 64)
+ends s = let r = s .pre .0 in (r .reach, omega (arith, r .need, s .good))
 
 begin-requires : tie.Need-begin-requires Inv-loop2 μ-loop2 Inv-loop μ-loop Inv-all μ-all
 begin-requires c κs = let s = c .before .before in (s .pre .0 .axes, (ends s, s .pre .1))
@@ -160,7 +157,7 @@ behind-requires c κs =
     let k = loop-of j in
     let s = begun2 j in (
       (ready j .axes .in2 .some, omega (arith, i .if6 .taken)),
-      band-behind (at-loop2 j) (ready j) (long j) (k .before .before .if1 .taken) (j .before .before .if2 .taken) (outer j) (b .before .if5 .taken) (b .band-at .ensures) (i .if6 .taken) (ends s .0) (ends s .1),
+      band-behind (at-loop2 j) (ready j) (long j) (k .before .before .if1 .taken) (j .before .before .if2 .taken) (outer j) (b .before .if5 .taken) (b .band-at .ensures) (i .if6 .taken) (ends s .1),
     )
 
 loop2-less : tie.Need-loop2-less Inv-loop2 μ-loop2 Inv-loop μ-loop Inv-all μ-all

@@ -6,7 +6,7 @@ use Rattle.mover.proofs.Making.{answer-fit, room-strides, axis-is, plan
 use Rattle.mover.proofs.plan.plan_of.Statement.{statement}
 use Rattle.mover.proofs.plan.plan_of.Tie as tie
 
-fit : (s : tie.Start) → Fit (s .args .c) (s .args .a)
+fit : (s : tie.Start) → Fit (s .args .t) (s .args .c) (s .args .a)
 fit s = answer-fit (s .args .t) (s .args .c) (s .pre .0) (s .pre .1)
 
 returns : tie.Need-returns

@@ -3,11 +3,11 @@ use Prim.Native.Nat.{_+_, _*_, _^_, _<_}
 use mathlib.Core.Path.{_≡_}
 use native.Mathlib.Omega.{arith}
 use Rattle.mover.specs.Private.Elements.{co0, co1, co2, co3}
-use Rattle.mover.specs.Private.Adding.{jumpsOf, beginningOf}
+use Rattle.mover.specs.Private.Adding.{beginningOf}
 use Rattle.mover.specs.Private.Ready.{InExtents}
 use Rattle.mover.proofs.Places.{axis-some}
 use Rattle.mover.proofs.ByNumber.{within-good}
-use Rattle.mover.proofs.Adding.{spot-is, begin-to, begin-at}
+use Rattle.mover.proofs.Adding.{spot-to, begin-to, Reaches, reaches}
 use Rattle.mover.proofs.start.begin.Statement.{statement}
 use Rattle.mover.proofs.start.begin.Tie as tie
 
@@ -18,50 +18,44 @@ within s =
 to : (s : tie.Start) → let p = s .args .plan in let q = s .args .from in p .base + co0 p q * p .d0 .stride + co1 p q * p .d1 .stride + co2 p q * p .d2 .stride + co3 p q * p .d3 .stride < 2 ^ 64
 to s = begin-to (s .args .plan) (within s) (s .pre .1 .0 .1)
 
-at : (s : tie.Start) → let p = s .args .plan in let q = s .args .from in
-    p .home + jumpsOf (p .d0) (co0 p q) * p .d0 .jump + jumpsOf (p .d1) (co1 p q) * p .d1 .jump + jumpsOf (p .d2) (co2 p q) * p .d2 .jump + jumpsOf (p .d3) (co3 p q) * p .d3 .jump < 2 ^ 64
-at s = begin-at (s .args .plan) (within s) (s .pre .1 .0 .0)
+far : (s : tie.Start) → Reaches (s .args .plan)
+far s = reaches (s .args .plan) (s .pre .1 .0 .0)
 
--- the start of the slab, of the layer and of the row, in sums
-slab : (c : tie.After-spot-at) → let p = c .before .args .plan in let q = c .before .args .from in
-    (c .spot-at .result .to ≡ p .base + co0 p q * p .d0 .stride) × (c .spot-at .result .at ≡ p .home + jumpsOf (p .d0) (co0 p q) * p .d0 .jump)
-slab c =
-    let s = c .before in
-    spot-is _ _ _ (omega (arith, to s)) (omega (arith, at s)) (c .spot-at .ensures)
+-- the start of the slab, of the layer and of the row in the destination, in sums
+slab : (c : tie.After-spot-at) → let p = c .before .args .plan in let q = c .before .args .from in c .spot-at .result .to ≡ p .base + co0 p q * p .d0 .stride
+slab c = spot-to _ _ _ (omega (arith, to (c .before))) (c .spot-at .ensures)
 
 layer : (c : tie.After-spot-at2) → let p = c .before .before .args .plan in let q = c .before .before .args .from in
-    (c .spot-at2 .result .to ≡ p .base + co0 p q * p .d0 .stride + co1 p q * p .d1 .stride) × (c .spot-at2 .result .at ≡ p .home + jumpsOf (p .d0) (co0 p q) * p .d0 .jump + jumpsOf (p .d1) (co1 p q) * p .d1 .jump)
+    c .spot-at2 .result .to ≡ p .base + co0 p q * p .d0 .stride + co1 p q * p .d1 .stride
 layer c =
-    let s = c .before .before in
     let b = slab (c .before) in
-    let e = spot-is _ _ _ (omega (arith, to s)) (omega (arith, at s)) (c .spot-at2 .ensures) in
-    (omega arith, omega arith)
+    let e = spot-to _ _ _ (omega (arith, to (c .before .before))) (c .spot-at2 .ensures) in
+    omega arith
 
 row : (c : tie.After-spot-at3) → let p = c .before .before .before .args .plan in let q = c .before .before .before .args .from in
-    (c .spot-at3 .result .to ≡ p .base + co0 p q * p .d0 .stride + co1 p q * p .d1 .stride + co2 p q * p .d2 .stride) × (c .spot-at3 .result .at ≡ p .home + jumpsOf (p .d0) (co0 p q) * p .d0 .jump + jumpsOf (p .d1) (co1 p q) * p .d1 .jump + jumpsOf (p .d2) (co2 p q) * p .d2 .jump)
+    c .spot-at3 .result .to ≡ p .base + co0 p q * p .d0 .stride + co1 p q * p .d1 .stride + co2 p q * p .d2 .stride
 row c =
-    let s = c .before .before .before in
     let b = layer (c .before) in
-    let e = spot-is _ _ _ (omega (arith, to s)) (omega (arith, at s)) (c .spot-at3 .ensures) in
-    (omega arith, omega arith)
+    let e = spot-to _ _ _ (omega (arith, to (c .before .before .before))) (c .spot-at3 .ensures) in
+    omega arith
 
 spot-at-requires : tie.Need-spot-at-requires
-spot-at-requires c κs = (c .pre .0 .in0 .some, (omega (arith, to c), omega (arith, at c)))
+spot-at-requires c κs = (c .pre .0 .in0 .some, (omega (arith, to c), far c .far0))
 
 spot-at-requires-2 : tie.Need-spot-at-requires-2
 spot-at-requires-2 c κs =
     let s = c .before in
-    (s .pre .0 .in1 .some, (omega (arith, to s, slab c .0), omega (arith, at s, slab c .1)))
+    (s .pre .0 .in1 .some, (omega (arith, to s, slab c), far s .far1))
 
 spot-at-requires-3 : tie.Need-spot-at-requires-3
 spot-at-requires-3 c κs =
     let s = c .before .before in
-    (s .pre .0 .in2 .some, (omega (arith, to s, layer c .0), omega (arith, at s, layer c .1)))
+    (s .pre .0 .in2 .some, (omega (arith, to s, layer c), far s .far2))
 
 spot-at-requires-4 : tie.Need-spot-at-requires-4
 spot-at-requires-4 c κs =
     let s = c .before .before .before in
-    (s .pre .0 .in3 .some, (omega (arith, to s, row c .0), omega (arith, at s, row c .1)))
+    (s .pre .0 .in3 .some, (omega (arith, to s, row c), far s .far3))
 
 returns : tie.Need-returns
 unfolding beginningOf

@@ -14,14 +14,14 @@ use Rattle.mover.proofs.stretch.advance_within.Tie as tie
 fits : (s : tie.Start) → let a = s .args in (a .source .start + a .plan .home ≤ length (a .mem .now)) × (a .destination .start + a .plan .base ≤ length (a .mem .now))
 fits s =
     let a = s .args in
-    placed-fits (a .plan) (a .source .start) (a .destination .start) (a .mem .now) (a .source .length) (a .destination .length) (s .pre .0 .0) (s .pre .0 .1) (s .pre .1 .1 .0)
+    placed-fits (a .plan) (a .source .start) (a .destination .start) (a .mem .now) (a .source .length) (a .destination .length) (s .pre .0 .0) (s .pre .0 .1) (omega arith) (s .pre .1 .1 .0)
 
 advance-requires : tie.Need-advance-requires
 unfolding placedAt planTotal
 advance-requires c κs =
     let s = c .before .before .before .before .before .before .before .before .before .before in
     let a = s .args in
-    (placed-ready (a .plan) (a .source .start) (a .destination .start) (a .mem .now) [] (a .source .length) (a .destination .length) (s .pre .0 .0) (s .pre .0 .1) (s .pre .1 .0) (s .pre .1 .1 .0), s .pre .1 .1 .1)
+    (placed-ready (a .plan) (a .source .start) (a .destination .start) (a .mem .now) [] (a .source .length) (a .destination .length) (s .pre .0 .0) (s .pre .0 .1) (omega (arith, s .good)) (s .pre .1 .0) (s .pre .1 .1 .0), s .pre .1 .1 .1)
 
 returns : tie.Need-returns
 unfolding placedAt planTotal
@@ -32,7 +32,7 @@ returns c =
     let n = v .advance .ensures .0 in (
       n,
       placed-written (a .plan) (a .source .start) (a .destination .start) (a .mem .now) (v .advance .last .1 .0) (a .source .length) (a .destination .length) (a .from) (a .budget) (v .advance .result)
-          (s .pre .0 .0) (s .pre .0 .1) (s .pre .1 .1 .0) (s .pre .1 .1 .1) n (v .advance .ensures .1),
+          (s .pre .0 .0) (s .pre .0 .1) (omega (arith, s .good)) (s .pre .1 .1 .0) (s .pre .1 .1 .1) n (v .advance .ensures .1),
     )
 
 pub advance-within-spec : {M : Type 1} → statement M

@@ -10,7 +10,7 @@ use Rattle.plane.specs.Helpers.{rankFault, subFault, subTensorOf}
 use Rattle.faults.proofs.Faults.{passed, stopped}
 use Rattle.plane.proofs.Rules.{its-fault, its-good, its-strides}
 use Rattle.plane.specs.Good.{GoodSource}
-use Rattle.plane.proofs.SubAnswers.{sub-refuses, sub-defers, sub-short, sub-long, offset-small}
+use Rattle.plane.proofs.SubAnswers.{sub-refuses, sub-defers, sub-short, sub-long, part-is}
 use Rattle.plane.proofs.sub.sub_tensor.Statement.{statement}
 use Rattle.plane.proofs.sub.sub_tensor.Tie as tie
 
@@ -63,13 +63,12 @@ returns-4 c =
 
 shrink-requires : tie.Need-shrink-requires
 shrink-requires c κs =
-    let v = c .before .before .before .before .before in
-    let o = v .before .before in
-    let i = o .before .before .before .before .before in
+    let z = c .before .before .before in
+    let i = z .before .before .before .before .before .before .before .before .before in
     let w = i .before .before .before in (
-      good i .rank .1,
+      good i,
       its-strides _ (w .source-of .ensures) (i .if1 .left),
-      offset-small (w .before .args .s) (good i) (o .offset-fault .ensures) (v .if3 .left),
+      part-is (w .before .args .s) (good i) (z .sub-size-fault .ensures) (c .before .if4 .left),
     )
 
 returns-5 : tie.Need-returns-5
