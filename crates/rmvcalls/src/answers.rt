@@ -62,11 +62,13 @@ fn unsigned(s: i32) -> u32 {
 }
 
 fn strides(out: &mut Out, p: usize, a: [i32; 4]) -> usize {
-    let mut end = p;
-    for d in 0..4 {
-        end = word(out, end, unsigned(a[d]));
-    }
-    end
+    let w = [
+        unsigned(a[0]),
+        unsigned(a[1]),
+        unsigned(a[2]),
+        unsigned(a[3]),
+    ];
+    words(out, p, w)
 }
 
 // A memory, whole.
