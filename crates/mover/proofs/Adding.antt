@@ -1,12 +1,11 @@
 -- Places by adding, as 64 bits count, and spots: one stride further, and where the sums fit; jumps up and down. Assumes nothing.
 use mathlib.Core.Path.{_≡_, sym, ap, _∙_}
 use mathlib.Core.Bool.{Bool, cond, true, false, _&&_}
-use Prim.Native.Nat.{ℕ, zero, suc, _+_, _-_, _*_, _%_, _^_, _≤_, _<_}
-use native.Mathlib.Numerals.{add-one}
-use native.Mathlib.Nat.{zero-mul, suc-mul, zero-sub, zero-min, one-mul, add-zero, add-assoc, add-mul, mul-add, mul-le-mul-right, mod-lt, mod-add-mod, mod-eq-of-lt, min-eq-left, min-le-right}
+use Prim.Native.Nat.{ℕ, _+_, _-_, _*_, _%_, _^_, _≤_, _<_}
+use native.Mathlib.Nat.{zero-mul, zero-sub, zero-min, one-mul, add-zero, add-assoc, add-mul, mul-add, mul-le-mul-right, mod-lt, mod-add-mod, mod-eq-of-lt, min-eq-left, min-le-right}
 use native.Mathlib.Decide.{decLt}
 use native.Mathlib.Omega.{arith}
-use borrow.Author.Tests.{lt-ltb, le-ltb, leb-true, leb-false, le-leb, lt-leb}
+use borrow.Author.Tests.{lt-ltb, le-ltb, le-leb, lt-leb}
 use lib.Dec.{ltb}
 use Rattle.mover.specs.declared.plan.Axis.{Axis}
 use Rattle.mover.specs.declared.plan.Plan.{Plan}

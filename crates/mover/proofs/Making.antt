@@ -14,7 +14,7 @@ use Rattle.plane.specs.declared.Source.{Source}
 use Rattle.plane.specs.declared.Answer.{Answer}
 use Rattle.plane.specs.Arrays.{at, sum}
 use Rattle.plane.specs.Numbers.{little}
-use Rattle.plane.specs.Planes.{shapeAt, downAt, up, srcStrides, sourceRules, sourceOf, sourceFault}
+use Rattle.plane.specs.Planes.{srcStrides, sourceRules, sourceOf, sourceFault}
 use Rattle.plane.specs.Moves.{count, extent, dstExtents, roomRules, roomFault, accepted}
 use Rattle.plane.proofs.Arrays.{firsts-at}
 use Rattle.plane.proofs.Bounds.{element-small}
@@ -25,7 +25,7 @@ use Rattle.plane.proofs.Good.{source-tells, config-tells, dst-tells}
 use Rattle.plane.proofs.Rules.{dst-extent, its-fault, its-strides}
 use Rattle.mover.specs.declared.plan.Axis.{Axis}
 use Rattle.mover.specs.Element.{dimOf}
-use Rattle.mover.specs.Private.Plans.{jumpBy, axisOf, axisAt, planOf, lone, axisMade, homeMade, Fit}
+use Rattle.mover.specs.Private.Plans.{axisOf, axisAt, planOf, lone, axisMade, homeMade, Fit}
 
 -- four bytes divided out of a number that has no more are its low bytes
 pub bytes-little : (n : ℕ) → n < 2 ^ 32 → n % 256 ∷ n / 256 % 256 ∷ n / 65536 % 256 ∷ n / 16777216 ∷ [] ≡ little 4 n

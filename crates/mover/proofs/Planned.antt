@@ -1,7 +1,7 @@
 -- The plan of an accepted move has four coordinates: the paper's, with zeros in front for the dimensions that the rank lacks. So the
 -- engine's fold over the plan is the paper's. Assumes nothing.
 use Prim.Native.Nat.{ℕ, zero, suc, _+_, _-_, _*_, _/_, _%_, _^_, _≤_, _<_}
-use native.Mathlib.Nat.{add-mul, mul-assoc, mul-comm, mul-pos, mul-le-mul, one-mul, div-one, mod-one, mod-lt, mod-eq-of-lt, div-div-eq-div-mul, not-suc-le-zero, le-of-suc-le-suc}
+use native.Mathlib.Nat.{add-mul, mul-assoc, mul-comm, mul-pos, mul-le-mul, one-mul, div-one, mod-one, mod-eq-of-lt, div-div-eq-div-mul, not-suc-le-zero, le-of-suc-le-suc}
 use native.Mathlib.Decide.{decLt}
 use native.Mathlib.Omega.{arith}
 use mathlib.Core.Path.{_≡_, refl, sym, ap, _∙_}

@@ -6,13 +6,12 @@ use std::num::wrapping_sub_usize;
 ghost use mathlib.Core.Path.{_≡_};
 ghost use mathlib.Core.Bool.{cond};
 ghost use Prim.Native.Nat.{ℕ, _-_, _*_, _≤_, _<_};
-ghost use Rattle.plane.specs.Planes.{up};
 ghost use lib.Dec.{ltb};
 ghost use Rattle.plane.specs.Arrays.{at, sum, product};
 ghost use Rattle.plane.specs.Numbers.{little};
+ghost use Rattle.plane.specs.Planes.{up};
 ghost use Rattle.plane.specs.Signs.{isDown};
 ghost use Rattle.plane.specs.Moves.{roomFault, accepted};
-ghost use Rattle.mover.specs.Element.{dimOf};
 ghost use Rattle.mover.specs.Private.Plans.{jumpBy, goesDown, jumpLength, planOf, axisMade, homeMade, lone, Fit};
 
 // One destination dimension.
@@ -20,7 +19,7 @@ pub(crate) struct Axis {
     pub(crate) extent: usize, // pre + count + post
     pub(crate) pre: usize, // padding before
     pub(crate) count: usize, // kept
-    pub(crate) jump: usize, // what to add from one kept element to the next: step x size of the source stride, in bytes
+    pub(crate) jump: usize, // what to add, as 64 bits count, from one kept element to the next: step x source stride, in bytes
     pub(crate) stride: usize, // destination stride, in bytes
 }
 
@@ -53,7 +52,7 @@ fn jump_by(down: bool, n: usize) -> usize
     n
 }
 
-// Whether a jump goes down.
+// Whether a jump goes down: it is 2^63 or above, and lengths are far below that.
 pub(crate) fn goes_down(jump: usize) -> bool
     ensures { λ r. ⌜ r ≡ goesDown jump ⌝ }
 {

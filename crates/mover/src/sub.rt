@@ -7,14 +7,14 @@ ghost use lib.ListN.{length};
 ghost use Rattle.plane.specs.Helpers.{subTensorOf};
 ghost use Rattle.mover.specs.SubPart.{subPart};
 
-// The numbers of the part of the plane that src holds: its shape and strides, and its first byte.
+// The numbers of the part of the plane that src holds: its shape and strides, and the byte of its lowest element.
 pub fn sub_tensor(t: Tensor, s: SubConfig, src: &[u8]) -> SubTensor
     ensures { λ r. ⌜ r ≡ subTensorOf t s (length (now (src .entry))) ⌝ }
 {
     plane::sub_tensor(t, s, src.len())
 }
 
-// The source from the sub-tensor's first byte to its end, or an empty part where sub_tensor refuses.
+// The source from the sub-tensor's byte to its end, or an empty part where sub_tensor refuses.
 pub fn sub_part(t: Tensor, s: SubConfig, src: &[u8]) -> &[u8]
     ensures { λ r. ⌜ now r ≡ subPart t s (now (src .entry)) ⌝ }
 {

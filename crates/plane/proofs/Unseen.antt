@@ -51,12 +51,20 @@ module _ (n : ℕ) (s s′ p p′ : ℕ → ℕ) (es : (d : ℕ) → d < n → s
   strides-same : strides n s p ≡ strides n s′ p′
   strides-same = firsts-same 0 n (resolved n s p) (resolved n s′ p′) resolved-same
 
--- ---- two tensor records of one rank n and one element size z, whose strides may differ in their signs
+-- two tensor records of one rank that agree but for their strides, and these resolve alike
+pub record Alike (t t′ : Tensor) : Type 0 where
+  pub rank : t .rank ≡ t′ .rank
+  pub element : t .«element_size» ≡ t′ .«element_size»
+  pub shape : (d : ℕ) → d < t .rank → shapeAt t d ≡ shapeAt t′ d
+  pub inner : (k : ℕ) → k ≤ t .rank → inner (t .rank) (shapeAt t) (strideAt t) k ≡ inner (t .rank) (shapeAt t′) (strideAt t′) k
+  pub resolved : (d : ℕ) → d < t .rank → resolved (t .rank) (shapeAt t) (strideAt t) d ≡ resolved (t .rank) (shapeAt t′) (strideAt t′) d
+
+-- ---- two such tensor records, of rank n and element size z
 
 abbrev tensor : ℕ → ℕ → List ℕ → List ℤ → Tensor
 tensor n z shape stride = record { rank = n; «element_size» = z; shape = shape; stride = stride }
 
-module _ (n z : ℕ) (s s′ : List ℕ) (p p′ : List ℤ) (a : SameSizes (tensor n z s p) (tensor n z s′ p′)) where
+module _ (n z : ℕ) (s s′ : List ℕ) (p p′ : List ℤ) (a : Alike (tensor n z s p) (tensor n z s′ p′)) where
   abbrev T : Tensor
   T = tensor n z s p
 
@@ -67,13 +75,13 @@ module _ (n z : ℕ) (s s′ : List ℕ) (p p′ : List ℤ) (a : SameSizes (ten
   shapes-same = lowest-same 3 n _ _ (λ d h. ap badShape (a .shape d h))
 
   source-same : sourceFault T ≡ sourceFault T′
-  unfolding sourceFault
+  unfolding sourceFault badStrideAt
   source-same =
       or-path refl (or-path refl (or-path shapes-same
-      (outward-same 4 n _ _ (badStrideAt-same n (shapeAt T) (shapeAt T′) (strideAt T) (strideAt T′) (a .shape) (a .stride)))))
+      (outward-same 4 n _ _ (λ d h. ap₂ badStride (a .resolved d h) (a .inner (n - suc d) (omega arith))))))
 
   src-strides-same : srcStrides T ≡ srcStrides T′
-  src-strides-same = strides-same n (shapeAt T) (shapeAt T′) (strideAt T) (strideAt T′) (a .shape) (a .stride)
+  src-strides-same = firsts-same 0 n _ _ (a .resolved)
 
   span-same : span T ≡ span T′
   unfolding span
@@ -275,11 +283,31 @@ module _ (t t′ : Tensor) (a : SameSizes t t′) where
   across : {A : Type 0} (f : Tensor → A) → f like ≡ f t′
   across f = ap₂ (λ (n z : ℕ). f (tensor n z (t′ .shape) (t′ .stride))) (a .rank) (a .element)
 
-  alike : SameSizes t like
-  alike = record { rank = refl; element = refl; shape = a .shape; stride = a .stride }
+  alike : Alike t like
+  alike = record {
+    rank = refl;
+    element = refl;
+    shape = a .shape;
+    inner = inner-same (t .rank) (shapeAt t) (shapeAt t′) (strideAt t) (strideAt t′) (a .shape) (a .stride);
+    resolved = resolved-same (t .rank) (shapeAt t) (shapeAt t′) (strideAt t) (strideAt t′) (a .shape) (a .stride);
+  }
 
   pub sizes-alike : srcStrides t′ ≡ srcStrides t
   sizes-alike = sym (src-strides-same _ _ _ _ _ _ alike ∙ across (λ (x : Tensor). srcStrides x))
+
+same-arrays : (n : ℕ) (c : Config) → SameArrays n c c
+same-arrays n c = record { each = λ k l d h. refl }
+
+-- what resolves alike is judged alike
+module _ (n z : ℕ) (s : List ℕ) (p p′ : List ℤ) (a : Alike (tensor n z s p) (tensor n z s p′)) where
+  pub alike-source : sourceOf (tensor n z s p) ≡ sourceOf (tensor n z s p′)
+  alike-source = its-same n z s s p p′ a
+
+  pub alike-strides : srcStrides (tensor n z s p) ≡ srcStrides (tensor n z s p′)
+  alike-strides = src-strides-same n z s s p p′ a
+
+  pub alike-judge : (c : Config) (sl dl : ℕ) → judgeOf (tensor n z s p) c sl dl ≡ judgeOf (tensor n z s p′) c sl dl
+  alike-judge c sl dl = judge-same n z s s p p′ a c c (same-arrays n c) sl dl
 
 -- signs are not judged
 pub signs-unjudged : SignsUnjudged
@@ -288,9 +316,6 @@ signs-unjudged = record {
   room = λ t t′ a c. room-same _ _ _ _ _ _ (alike t t′ a) c c (same-arrays (t .rank) c) ∙ across t t′ a (λ (x : Tensor). roomOf x c);
   judge = λ t t′ a c sl dl. judge-same _ _ _ _ _ _ (alike t t′ a) c c (same-arrays (t .rank) c) sl dl ∙ across t t′ a (λ (x : Tensor). judgeOf x c sl dl);
 }
-  where
-    same-arrays : (n : ℕ) (c : Config) → SameArrays n c c
-    same-arrays n c = record { each = λ k l d h. refl }
 
 pub same-sizes : {t t′ : Tensor} → SameTensor t t′ → SameSizes t t′
 same-sizes {t} {t′} a = record {
@@ -304,7 +329,7 @@ module _ (t t′ : Tensor) (e : SameTensor t t′) where
   abbrev a : SameSizes t t′
   a = same-sizes e
 
-  agrees : SameSizes t (like t t′ a)
+  agrees : Alike t (like t t′ a)
   agrees = alike t t′ a
 
   -- for the layers above: the fault of a move, and what an accepted move looks at

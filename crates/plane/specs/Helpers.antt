@@ -91,7 +91,7 @@ subFault t s srcLen = firstFault (subRules t s srcLen)
 abbrev pub resolvedAt : Tensor → ℕ → ℤ
 resolvedAt t d = signed (downAt t d) (at (srcStrides t) d)
 
--- the sizes for shapes, and the resolved strides of the whole plane
+-- the sizes for shapes, and the resolved strides of the whole plane, with their signs
 unfoldable pub subOf : Tensor → SubConfig → Tensor
 subOf t s = record {
   rank = s .rank;

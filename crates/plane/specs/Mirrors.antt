@@ -1,18 +1,17 @@
 -- What the theorems claim of signed strides: what each of them means, around 0 and at both ends of the range, and a plane mirrored.
 use Prim.Native.Nat.{ℕ, suc, _-_, _*_, _≤_, _<_}
 use mathlib.Core.Path.{_≡_}
-use mathlib.Core.List.{List}
+use mathlib.Core.Logic.{_⊎_}
 use lib.IntN.{ℤ, pos, negsuc, negℤ}
 use lib.ListN.{length, set}
 use Rattle.plane.specs.declared.Tensor.{Tensor}
 use Rattle.plane.specs.declared.Config.{Config}
 use Rattle.plane.specs.Arrays.{at}
-use Rattle.plane.specs.Signs.{sizeOf, atZ}
+use Rattle.plane.specs.Signs.{atZ}
 use Rattle.faults.specs.Faults.{fault}
-use Rattle.plane.specs.Planes.{shapeAt, strideAt, inner, badStrideAt, srcStrides, sourceAt, sourceFault, sourceOf}
-use Rattle.plane.specs.Moves.{judgeOf, roomOf}
+use Rattle.plane.specs.Planes.{elementSize, shapeAt, strideAt, inner, srcStrides, sourceAt, span, sourceFault, sourceOf}
+use Rattle.plane.specs.Moves.{refused, judgeOf, roomOf}
 use Rattle.plane.specs.Good.{FromTo}
-use Rattle.plane.specs.Planes.{elementSize}
 
 -- ---- what a sign bears on
 
@@ -41,14 +40,33 @@ pub record StrideMeans (t : Tensor) (d : ℕ) : Type 0 where
 abbrev pub StridesMean : Type 0
 StridesMean = (t : Tensor) (d : ℕ) → t .rank ≤ 4 → d < t .rank → StrideMeans t d
 
--- around 0, in the last dimension: 1 and 0 are the same, and -1 counts the same elements from the other end
+-- the same record with stride z in dimension d
+abbrev pub withStride : Tensor → ℕ → ℤ → Tensor
+withStride t d z =
+    record { rank = t .rank; «element_size» = t .«element_size»; shape = t .shape; stride = set (t .stride) d z }
+
+-- a stride of 0 may be written out: with what it resolves to, the record is judged alike, and all its elements lie where they did
+pub record WrittenOut (t : Tensor) (d : ℕ) : Type 0 where
+  pub source : sourceOf (withStride t d (pos (at (srcStrides t) d))) ≡ sourceOf t
+  pub judge : (c : Config) (srcLen dstLen : ℕ) →
+      judgeOf (withStride t d (pos (at (srcStrides t) d))) c srcLen dstLen ≡ judgeOf t c srcLen dstLen
+  pub places : (e x : ℕ) → sourceAt (withStride t d (pos (at (srcStrides t) d))) e x ≡ sourceAt t e x
+
+abbrev pub ZeroWritten : Type 0
+ZeroWritten =
+    (t : Tensor) (d : ℕ) → length (t .stride) ≡ 4 → t .rank ≤ 4 → d < t .rank → atZ (t .stride) d ≡ pos 0 → WrittenOut t d
+
+-- 1, 0 and -1 beside each other, in the last dimension: they are judged alike; 1 and 0 are the same, and -1 counts the same elements from
+-- the other end
 pub record AroundZero (t : Tensor) (d : ℕ) : Type 0 where
-  pub one : atZ (t .stride) d ≡ pos 1 → (x : ℕ) → sourceAt t d x ≡ x
-  pub zero : atZ (t .stride) d ≡ pos 0 → (x : ℕ) → sourceAt t d x ≡ x
-  pub minus-one : atZ (t .stride) d ≡ negsuc 0 → (x : ℕ) → sourceAt t d x ≡ shapeAt t d - 1 - x
+  pub alike : (sourceOf (withStride t d (pos 1)) ≡ sourceOf (withStride t d (pos 0)))
+      × (sourceOf (withStride t d (negsuc 0)) ≡ sourceOf (withStride t d (pos 0)))
+  pub one : (x : ℕ) → sourceAt (withStride t d (pos 1)) d x ≡ x
+  pub zero : (x : ℕ) → sourceAt (withStride t d (pos 0)) d x ≡ x
+  pub minus-one : (x : ℕ) → sourceAt (withStride t d (negsuc 0)) d x ≡ shapeAt t d - 1 - x
 
 abbrev pub LastAroundZero : Type 0
-LastAroundZero = (t : Tensor) (d : ℕ) → t .rank ≤ 4 → t .rank ≡ suc d → AroundZero t d
+LastAroundZero = (t : Tensor) (d : ℕ) → length (t .stride) ≡ 4 → t .rank ≤ 4 → t .rank ≡ suc d → AroundZero t d
 
 -- ---- both ends of the range
 
@@ -59,42 +77,55 @@ Largest t d = strideAt t d ≡ 2147483647
 abbrev pub Least : Tensor → ℕ → Type 0
 Least t d = atZ (t .stride) d ≡ negsuc 2147483647
 
+-- the size of the resolved stride of dimension d is not refused
+abbrev pub TakenAt : Tensor → ℕ → Type 0
+TakenAt t d = FromTo (inner (t .rank) (shapeAt t) (strideAt t) (t .rank - suc d)) 2147483647 (at (srcStrides t) d)
+
 -- rank, element size and shapes are accepted, and so are the strides of the dimensions after d: 4 at d is the next to be asked
 pub record UpTo (t : Tensor) (d : ℕ) : Type 0 where
   pub rank : FromTo 1 4 (t .rank)
   pub element : elementSize (t .«element_size») ≡ 0 → ⊥
   pub shape : (e : ℕ) → e < t .rank → FromTo 1 65535 (shapeAt t e)
-  pub inward : (e : ℕ) → d < e → e < t .rank → FromTo (inner (t .rank) (shapeAt t) (strideAt t) (t .rank - suc e)) 2147483647 (at (srcStrides t) e)
+  pub inward : (e : ℕ) → d < e → e < t .rank → TakenAt t e
 
--- the largest stride is accepted in the first dimension, whatever its shape, where the strides after it are
+-- the largest stride is not refused in any dimension whose inner product is within the limit; in the first the record is accepted with it,
+-- whatever its shape, where the strides after it are
+abbrev pub LargestTaken : Type 0
+LargestTaken =
+    (t : Tensor) (d : ℕ) → t .rank ≤ 4 → d < t .rank →
+    inner (t .rank) (shapeAt t) (strideAt t) (t .rank - suc d) ≤ 2147483647 → Largest t d → TakenAt t d
+
 abbrev pub LargestFirst : Type 0
 LargestFirst =
     (t : Tensor) → UpTo t 0 → inner (t .rank) (shapeAt t) (strideAt t) (t .rank - 1) ≤ 2147483647 → Largest t 0 →
     sourceFault t .status ≡ 0
 
--- further in, where its own shape is 1, the next one outward is accepted if it is 0 or the largest too; where it is not 1, the next one
--- outward is refused, whatever it is
+-- further in, where its own shape is 1, the next one outward has to be 0 or the largest too; where it is not 1, the next one outward is
+-- refused, whatever it is
 pub record LargestWithin (t : Tensor) (d : ℕ) : Type 0 where
-  pub alone : shapeAt t (suc d) ≡ 1 → inner (t .rank) (shapeAt t) (strideAt t) (t .rank - suc d) ≡ 2147483647
+  pub alone : shapeAt t (suc d) ≡ 1 → (strideAt t d ≡ 0) ⊎ Largest t d → TakenAt t d
+  pub unlike : shapeAt t (suc d) ≡ 1 → (strideAt t d ≡ 0 → ⊥) → (Largest t d → ⊥) → UpTo t d → sourceFault t ≡ fault 4 d
   pub else-refused : (shapeAt t (suc d) ≡ 1 → ⊥) → UpTo t d → sourceFault t ≡ fault 4 d
 
 abbrev pub LargestInward : Type 0
-LargestInward = (t : Tensor) (d : ℕ) → suc d < t .rank → Largest t (suc d) → LargestWithin t d
+LargestInward = (t : Tensor) (d : ℕ) → t .rank ≤ 4 → suc d < t .rank → Largest t (suc d) → LargestWithin t d
 
 -- the least is refused wherever it is met
 abbrev pub LeastRefused : Type 0
 LeastRefused = (t : Tensor) (d : ℕ) → d < t .rank → Least t d → UpTo t d → sourceFault t ≡ fault 4 d
 
+-- however far strides reach, 5 alone asks for the span: an accepted record with a shorter source is 5, whatever else is asked, and of a
+-- source that is long enough no answer hangs on its length
+pub record SpanAsked : Type 0 where
+  pub short : (t : Tensor) (c : Config) (srcLen dstLen : ℕ) → sourceFault t .status ≡ 0 → srcLen < span t →
+      judgeOf t c srcLen dstLen ≡ refused (fault 5 0)
+  pub long : (t : Tensor) (c : Config) (m n dstLen : ℕ) → span t ≤ m → span t ≤ n → judgeOf t c m dstLen ≡ judgeOf t c n dstLen
+
 -- ---- a plane mirrored
 
 -- the plane with the sign of one written stride changed
 abbrev pub mirrored : Tensor → ℕ → Tensor
-mirrored t d = record {
-  rank = t .rank;
-  «element_size» = t .«element_size»;
-  shape = t .shape;
-  stride = set (t .stride) d (negℤ (atZ (t .stride) d));
-}
+mirrored t d = withStride t d (negℤ (atZ (t .stride) d))
 
 -- its coordinate x in that dimension is the plane's, counted from the other end, and every other is the plane's
 pub record Mirrors (t : Tensor) (d : ℕ) : Type 0 where

@@ -26,6 +26,7 @@ fn with_sign(s: i32, size: u32) -> i32
     if s < 0 { -(size as i32) } else { size as i32 }
 }
 
+// Four numbers without their signs.
 pub(crate) fn sizes(xs: [i32; 4]) -> [u32; 4]
     ensures { λ r. ⌜ r ≡ sizes xs ⌝ }
 {

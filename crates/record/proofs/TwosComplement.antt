@@ -71,7 +71,14 @@ twos-complement = record {
 pub words-at-the-ends : WordsAtTheEnds
 unfolding twosNumber
 words-at-the-ends =
-    record { zero = refl; one = refl; minus-one = refl; most = refl; least = refl; next-to-least = refl }
+    record {
+      zero = (refl, refl);
+      one = (refl, refl);
+      minus-one = (refl, refl);
+      most = (refl, refl);
+      least = (refl, refl);
+      next-to-least = (refl, refl);
+    }
 
 -- ---- groups of them
 

@@ -53,14 +53,18 @@ pub record TwosComplement : Type 0 where
   pub word-back : (x : ℕ) → x < 4294967296 → twosWord (twosNumber x) ≡ x
   pub only-zero : (z : ℤ) → InRange z → twosWord z ≡ 0 → z ≡ pos 0
 
+-- x is the word of z, and z the number of x
+abbrev pub IsWord : ℕ → ℤ → Type 0
+IsWord x z = (twosNumber x ≡ z) × (twosWord z ≡ x)
+
 -- around 0, and at both ends of the range
 pub record WordsAtTheEnds : Type 0 where
-  pub zero : twosNumber 0 ≡ pos 0
-  pub one : twosNumber 1 ≡ pos 1
-  pub minus-one : twosNumber 4294967295 ≡ negℤ (pos 1)
-  pub most : twosNumber 2147483647 ≡ pos 2147483647
-  pub least : twosNumber 2147483648 ≡ negℤ (pos 2147483648)
-  pub next-to-least : twosNumber 2147483649 ≡ negℤ (pos 2147483647)
+  pub zero : IsWord 0 (pos 0)
+  pub one : IsWord 1 (pos 1)
+  pub minus-one : IsWord 4294967295 (negℤ (pos 1))
+  pub most : IsWord 2147483647 (pos 2147483647)
+  pub least : IsWord 2147483648 (negℤ (pos 2147483648))
+  pub next-to-least : IsWord 2147483649 (negℤ (pos 2147483647))
 
 -- ---- the sentences on records
 

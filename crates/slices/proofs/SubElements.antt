@@ -1,10 +1,10 @@
 -- The elements of a sub-tensor are the plane's, also where unit dimensions are removed: its element at x is the plane's at offset + x
 -- in the dimensions that stay, and at the offset in those that are removed. Assumes nothing.
-use Prim.Native.Nat.{ℕ, _+_, _*_, _≤_, _<_}
-use native.Mathlib.Nat.{add-zero, add-mul, add-assoc}
+use Prim.Native.Nat.{ℕ, zero, suc, _+_, _-_, _*_, _≤_, _<_}
+use native.Mathlib.Nat.{add-zero, add-mul, add-assoc, zero-mul, one-mul}
 use native.Mathlib.Omega.{arith}
 use mathlib.Core.Path.{_≡_, refl, sym, ap, _∙_}
-use mathlib.Core.Bool.{Bool, true, false}
+use mathlib.Core.Bool.{Bool, true, false, cond}
 use mathlib.Core.List.{List}
 use lib.ListN.{length, getD}
 use lib.Seq.{getD-drop}
@@ -12,14 +12,15 @@ use Rattle.plane.specs.declared.Tensor.{Tensor}
 use Rattle.plane.specs.declared.SubConfig.{SubConfig}
 use Rattle.plane.specs.declared.SubTensor.{SubTensor}
 use Rattle.plane.specs.Arrays.{at, sum}
-use Rattle.plane.specs.Planes.{shapeAt, downAt, up, srcStrides, sourceAt}
+use Rattle.plane.specs.Planes.{shapeAt, downAt, up, srcStrides, sourceAt, span}
 use Rattle.plane.specs.Helpers.{removed, staying, excess, subDim, lowestIn, subOf, subByte, subTensorOf}
 use Rattle.ready_made.specs.ReadyMade.{defaults}
 use Rattle.plane.proofs.Arrays.{sum-same}
 use Rattle.plane.specs.Good.{GoodSub}
 use Rattle.plane.proofs.Staying.{gone}
-use Rattle.plane.proofs.SubTensors.{sub-count, sub-shape, sub-size, sub-down, sub-told, sub-given}
-use Rattle.slices.specs.Claims.{Taken, wholeAt, subAt, elementByte, CopyReads, WholeStays, WholeRemoved, WholeInside, SubPlace, SubElement}
+use Rattle.plane.proofs.SubTensors.{sub-count, sub-shape, sub-size, sub-down, sub-told, sub-given, sub-accepted}
+use Rattle.plane.proofs.Good.{source-good}
+use Rattle.slices.specs.Claims.{Taken, wholeAt, subAt, elementByte, CopyReads, PlaneSpans, WholeStays, WholeRemoved, WholeInside, SubPlace, SubLowest, SubElement}
 use Rattle.mover.proofs.Sums.{sum-joined}
 use Rattle.slices.proofs.Spread.{spread, stays-at, spread-at, spread-below, spread-sum}
 use Rattle.slices.proofs.Boxes.{made, copy-place}
@@ -109,6 +110,52 @@ unfolding subOf
 sub-place t s src z x w =
     rw (its-byte t s src z, its-tensor t s src z)
     (place-whole (told t s src z) x (λ i h. rw (its-tensor t s src z) at (w i h)))
+
+-- ---- the lowest element, and the highest
+
+low-up : (down : Bool) (shape : ℕ) → up down shape (cond down (shape - 1) 0) ≡ 0
+low-up true shape = omega arith
+low-up false shape = refl
+
+high-up : (down : Bool) (shape : ℕ) → up down shape (cond down 0 (shape - 1)) ≡ shape - 1
+high-up true shape = omega arith
+high-up false shape = refl
+
+low-in : (down : Bool) (shape : ℕ) → 1 ≤ shape → cond down (shape - 1) 0 < shape
+low-in true shape h = omega arith
+low-in false shape h = h
+
+high-in : (down : Bool) (shape : ℕ) → 1 ≤ shape → cond down 0 (shape - 1) < shape
+high-in true shape h = h
+high-in false shape h = omega arith
+
+none : (n : ℕ) (f : ℕ → ℕ) → ((d : ℕ) → f d ≡ 0) → sum n f ≡ 0
+unfolding sum
+none zero f h = refl
+none (suc n) f h = omega (arith, none n f h, h n)
+
+pub plane-spans : PlaneSpans
+unfolding span
+plane-spans t z =
+    let g = source-good t z in
+    let low : ℕ → ℕ = λ d. cond (downAt t d) (shapeAt t d - 1) 0 in
+    let high : ℕ → ℕ = λ d. cond (downAt t d) 0 (shapeAt t d - 1) in
+    let e = none (t .rank) (λ d. sourceAt t d (low d)) (λ d. ap (λ (k : ℕ). k * at (srcStrides t) d) (low-up (downAt t d) (shapeAt t d)) ∙ zero-mul (at (srcStrides t) d)) in
+    let f = sum-same (t .rank) (λ d. sourceAt t d (high d)) (λ d. (shapeAt t d - 1) * at (srcStrides t) d) (λ d h. ap (λ (k : ℕ). k * at (srcStrides t) d) (high-up (downAt t d) (shapeAt t d))) in
+    record {
+      lowest = (low, λ d h. low-in (downAt t d) (shapeAt t d) (g .shape d h .0), rw e (zero-mul (t .«element_size»)));
+      highest = (high, λ d h. high-in (downAt t d) (shapeAt t d) (g .shape d h .0), rw (f, add-mul, one-mul) (omega arith));
+    }
+
+pub sub-lowest : SubLowest
+unfolding subOf
+sub-lowest t s src z =
+    let r : subAt t s src .rank ≡ s .rank = ap (λ (a : SubTensor). a .tensor .rank) (sub-given t s (length src) z) in
+    let w = plane-spans (subAt t s src) (sub-accepted t s (length src) z) .lowest in
+    record {
+      there = (w .0, w .1, sym (add-zero _) ∙ ap (λ (k : ℕ). subTensorOf t s (length src) .byte + k) (sym (w .2)) ∙ sub-place t s src z (w .0) (λ i h. w .1 i (omega arith)));
+      lowest = λ x h. omega (arith, sub-place t s src z x (λ i l. h i (omega arith)));
+    }
 
 pub sub-element : SubElement
 sub-element t s src z x w b =

@@ -9,7 +9,7 @@ use Rattle.plane.specs.declared.Tensor.{Tensor}
 use Rattle.plane.specs.declared.Config.{Config}
 use Rattle.plane.specs.declared.SubConfig.{SubConfig}
 use Rattle.plane.specs.Arrays.{at, zeros, sum}
-use Rattle.plane.specs.Planes.{shapeAt, sourceAt}
+use Rattle.plane.specs.Planes.{shapeAt, sourceAt, span, sourceFault}
 use Rattle.plane.specs.Helpers.{removed, staying, excess, subDim, subTensorOf}
 use Rattle.ready_made.specs.ReadyMade.{copyOf, sliceOf}
 use Rattle.mover.specs.Moved.{moveMemory}
@@ -48,6 +48,19 @@ elementByte t y = sum (t .rank) (λ d. sourceAt t d (y d)) * t .«element_size»
 abbrev pub CopyReads : Type 0
 CopyReads = (t : Tensor) → 1 ≤ t .rank → t .rank ≤ 4 → (y : ℕ → ℕ) → sourceByte t (copyConfig (t .rank)) y ≡ elementByte t y
 
+-- y are coordinates of a plane
+abbrev pub Inside : Tensor → (ℕ → ℕ) → Type 0
+Inside t y = (d : ℕ) → d < t .rank → y d < shapeAt t d
+
+-- a plane's lowest element stands at byte 0, whatever the signs of its strides, and its highest ends where the span does
+pub record SpanMet (t : Tensor) : Type 0 where
+  pub lowest : (y : ℕ → ℕ) × Inside t y × (elementByte t y ≡ 0)
+  pub highest : (y : ℕ → ℕ) × Inside t y × (elementByte t y + t .«element_size» ≡ span t)
+
+-- of every accepted one
+abbrev pub PlaneSpans : Type 0
+PlaneSpans = (t : Tensor) → sourceFault t .status ≡ 0 → SpanMet t
+
 -- ---- the sentences
 
 -- in a dimension that stays the plane's coordinate is the offset and the sub-tensor's own
@@ -75,7 +88,15 @@ SubPlace =
     ((i : ℕ) → i < s .rank → x i < shapeAt (subAt t s src) i) →
     subTensorOf t s (length src) .byte + elementByte (subAt t s src) x ≡ elementByte t (wholeAt t s x)
 
--- so each byte of it, in the part of the source that the second call hands back, is the plane's
+-- so the byte at which it starts is that of its lowest element
+pub record StartsLowest (t : Tensor) (s : SubConfig) (src : List ℕ) : Type 0 where
+  pub there : (x : ℕ → ℕ) × Inside (subAt t s src) x × (subTensorOf t s (length src) .byte ≡ elementByte t (wholeAt t s x))
+  pub lowest : (x : ℕ → ℕ) → Inside (subAt t s src) x → subTensorOf t s (length src) .byte ≤ elementByte t (wholeAt t s x)
+
+abbrev pub SubLowest : Type 0
+SubLowest = (t : Tensor) (s : SubConfig) (src : List ℕ) → Taken t s src → StartsLowest t s src
+
+-- and each byte of it, in the part of the source that the second call hands back, is the plane's
 abbrev pub SubElement : Type 0
 SubElement =
     (t : Tensor) (s : SubConfig) (src : List ℕ) → Taken t s src → (x : ℕ → ℕ) →

@@ -68,8 +68,8 @@ inwardOf w i x =
     let c = w .config in
     let a = w .answer in
     let s = dimOf c i in
-    let y = at (c .offset) s + (x - at (c .pre) s) * at (c .step) s in
     let pre = at (c .pre) s in
+    let y = at (c .offset) s + (x - pre) * at (c .step) s in
     let kept = w .kept && leb pre x && ltb x (pre + count (w .tensor) c s) in
     record {
       tensor = w .tensor;

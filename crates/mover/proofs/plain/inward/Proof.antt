@@ -5,8 +5,8 @@ use mathlib.Core.Path.{_≡_, sym, _∙_}
 use mathlib.Core.Logic.{⊎-elim}
 use mathlib.Core.Bool.{true}
 use borrow.Author.Needs.{needs}
-use Rattle.plane.specs.Signs.{isDown, atZ}
-use Rattle.plane.specs.Planes.{shapeAt, downAt, up}
+use Rattle.plane.specs.Signs.{atZ}
+use Rattle.plane.specs.Planes.{shapeAt, up}
 use Rattle.plane.proofs.Signed.{tested}
 use Rattle.mover.specs.Element.{dimOf}
 use Rattle.mover.specs.Private.Rows.{inwardOf}

@@ -1,6 +1,5 @@
 -- `plane::signs::size_of` meets its contract. Assumes nothing.
-use Prim.Native.Nat.{ℕ}
-use mathlib.Core.Path.{_≡_, ap}
+use mathlib.Core.Path.{ap}
 use native.Mathlib.Omega.{arith}
 use lib.IntN.{natAbs}
 use Rattle.plane.proofs.Signed.{bound, down-fits, down-casts, down-number, down-is, up-casts, up-number, up-is}

@@ -1,5 +1,5 @@
 -- `plane::signs::sizes` meets its contract. Assumes nothing.
-use mathlib.Core.Path.{_≡_, refl, _∙_}
+use mathlib.Core.Path.{_≡_}
 use borrow.Author.Needs.{needs}
 use lib.ListN.{length}
 use Rattle.plane.specs.Signs.{atZ}

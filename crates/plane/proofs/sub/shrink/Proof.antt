@@ -1,11 +1,11 @@
 -- `plane::sub::shrink` answers 14 and 15, else the sub-tensor. Assumes nothing.
 use Prim.Native.Nat.{ℕ, _≤_}
-use mathlib.Core.Path.{_≡_, ap, subst⁻¹, _∙_}
+use mathlib.Core.Path.{subst⁻¹}
 use mathlib.Core.List.{List}
 use native.Mathlib.Omega.{arith}
 use native.Mathlib.Nat.{mul-le-mul}
 use borrow.Author.Needs.{needs}
-use Rattle.plane.specs.Arrays.{at, firsts}
+use Rattle.plane.specs.Arrays.{at}
 use Rattle.plane.specs.Helpers.{rankFault}
 use Rattle.faults.proofs.Faults.{given}
 use Rattle.plane.proofs.SubAnswers.{sub-refuses, rank-fits, rank-lacking, sub-given, strides-most, low-small}

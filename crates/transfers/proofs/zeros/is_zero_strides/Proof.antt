@@ -1,5 +1,4 @@
 -- `transfers::zeros::is_zero_strides` tells whether four strides are all 0. Assumes nothing.
-use mathlib.Core.Path.{_≡_, refl, sym, ap, _∙_}
 use borrow.Author.Needs.{needs}
 use Rattle.plane.specs.Arrays.{every}
 use Rattle.plane.specs.Signs.{atZ}
