@@ -85,6 +85,21 @@ fn turned() -> Config {
     turn.config
 }
 
+// The stride of a dimension that counts down, n elements a coordinate; 0 where n has no negative.
+fn down(n: u32) -> i32 {
+    if 2147483647 < n {
+        return 0;
+    }
+    -(n as i32)
+}
+
+// A compact plane from its last row up: the stride from row to row, written with its sign.
+fn upside_down(t: Tensor) -> Tensor {
+    let row = down(t.shape[1]);
+    let stride = [row, 0, 0, 0];
+    Tensor { stride, ..t }
+}
+
 fn print_number(text: &[u8], number: u64) {
     io::write_all(STDOUT_FILENO, text);
     io::write_all(STDOUT_FILENO, b" ");
@@ -364,6 +379,7 @@ fn main() {
     let pixels = PIXELS;
     let mut mem = [0u8; MEMORY];
     move_into(picture(), thumbnail(), &pixels, &mut mem);
+    move_into(upside_down(picture()), thumbnail(), &pixels, &mut mem);
     let mut joined = [0u8; JOINED];
     join(&mut joined);
     // The picture itself, at the memory's start: the transfers read it there.
