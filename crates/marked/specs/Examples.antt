@@ -199,13 +199,14 @@ alike a = a ∷ a ∷ a ∷ a ∷ []
 abbrev pub compact : ℕ → ℕ → List ℕ → Tensor
 compact n size shape = record { rank = n; «element_size» = size; shape = shape; stride = zerosZ }
 
--- a plane with its strides: -n is `minus n`, and strides past the rank are -9
+-- a plane with its strides; -n is `minus n`
 abbrev pub strided : ℕ → ℕ → List ℕ → List ℤ → Tensor
 strided n size shape stride = record { rank = n; «element_size» = size; shape = shape; stride = stride }
 
 abbrev pub minus : ℕ → ℤ
 minus n = negℤ (pos n)
 
+-- the strides of rank 1, and of rank 2; past the rank they are -9
 abbrev pub stride1 : ℤ → List ℤ
 stride1 a = a ∷ minus 9 ∷ minus 9 ∷ minus 9 ∷ []
 

@@ -22,7 +22,7 @@ pub record SameSizes (t t′ : Tensor) : Type 0 where
   pub shape : (d : ℕ) → d < t .rank → shapeAt t d ≡ shapeAt t′ d
   pub stride : (d : ℕ) → d < t .rank → strideAt t d ≡ strideAt t′ d
 
--- are refused alike, and have the same resolved sizes, span, extents and need: a sign bears on source places alone
+-- are refused alike, and have the same resolved sizes, span, extents and need: of a move, a sign bears on source places alone
 pub record SignsUnjudged : Type 0 where
   pub source : (t t′ : Tensor) → SameSizes t t′ → sourceOf t ≡ sourceOf t′
   pub room : (t t′ : Tensor) → SameSizes t t′ → (c : Config) → roomOf t c ≡ roomOf t′ c
@@ -56,8 +56,8 @@ abbrev pub ZeroWritten : Type 0
 ZeroWritten =
     (t : Tensor) (d : ℕ) → length (t .stride) ≡ 4 → t .rank ≤ 4 → d < t .rank → atZ (t .stride) d ≡ pos 0 → WrittenOut t d
 
--- 1, 0 and -1 beside each other, in the last dimension: they are judged alike; 1 and 0 are the same, and -1 counts the same elements from
--- the other end
+-- 1, 0 and -1 beside each other, in the last dimension: as tensor records by themselves they are answered alike; 1 and 0 are the same, and
+-- -1 counts the same elements from the other end
 pub record AroundZero (t : Tensor) (d : ℕ) : Type 0 where
   pub alike : (sourceOf (withStride t d (pos 1)) ≡ sourceOf (withStride t d (pos 0)))
       × (sourceOf (withStride t d (negsuc 0)) ≡ sourceOf (withStride t d (pos 0)))
@@ -88,8 +88,8 @@ pub record UpTo (t : Tensor) (d : ℕ) : Type 0 where
   pub shape : (e : ℕ) → e < t .rank → FromTo 1 65535 (shapeAt t e)
   pub inward : (e : ℕ) → d < e → e < t .rank → TakenAt t e
 
--- the largest stride is not refused in any dimension whose inner product is within the limit; in the first the record is accepted with it,
--- whatever its shape, where the strides after it are
+-- the largest stride is not refused in any dimension whose inner product is within the limit; in such a first dimension the record is
+-- accepted with it, whatever its shape, if rank, element size, shapes and the strides after it are
 abbrev pub LargestTaken : Type 0
 LargestTaken =
     (t : Tensor) (d : ℕ) → t .rank ≤ 4 → d < t .rank →

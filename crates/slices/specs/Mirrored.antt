@@ -71,8 +71,8 @@ MirroredSource =
 
 -- ---- its copy
 
--- after an accepted one each byte of the element at x is what after the plane's copy is that of the element at x counted back; all other
--- bytes are as they were (`AcceptedMeant` of mover)
+-- after an accepted copy, each byte of the element at x is the byte that the plane's copy leaves in the element at x counted back. (That
+-- all other bytes are as they were is `AcceptedMeant` of mover)
 abbrev pub MirroredCopy : Type 0
 MirroredCopy =
     (t : Tensor) (d : ℕ) → Mirrorable t d → (src dst : List ℕ) →

@@ -16,7 +16,7 @@ use Rattle.mover.specs.Private.Plans.{jumpLength}
 use Rattle.plane.specs.Planes.{Sized}
 use Rattle.mover.specs.Private.Runs.{BytesApart}
 
--- how many bytes lie between the lowest source element that can be kept and the highest
+-- how many bytes the highest source element that can be kept starts above the lowest
 unfoldable pub reachOf : Plan → ℕ
 reachOf p =
     summed 0
