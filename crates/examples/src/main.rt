@@ -1,6 +1,8 @@
 // Runs the paper's examples through the public calls, and prints what each answers: A to J (moves, some by the plain engine too, and D
 // by stretches of either), K (a sub-tensor), L (two transfers), those that the paper only runs, single pixels, and transfers off boundaries and on
 // them.
+#![tactic(auto)]
+
 use libc::STDOUT_FILENO;
 use plane::{Config, SubConfig, Tensor};
 use transfers::{Job, Part, Table};

@@ -1,5 +1,6 @@
 // Room in a working memory: which of its 64 blocks are taken, as one word that the caller keeps. Calls take the word by value; each that
 // changes it hands back the one for the next call. No call asks anything of its caller, and none changes a table or a memory.
+#![tactic(auto)]
 
 mod words; // the word: how many blocks are free, and runs of blocks
 mod runs; // which runs there are, and the part of a memory that one is
@@ -13,7 +14,7 @@ pub use transfers::{Part, Table};
 pub use words::{free_before_first_taken, free_blocks};
 
 // What a request answers: the first block of the run, and the word with it taken.
-#[derive(Drop)]
+#[derive(Clone, Copy)]
 pub struct Granted {
     pub status: u8,
     pub first: u32,
@@ -21,14 +22,14 @@ pub struct Granted {
 }
 
 // What giving back answers: the word with the run free.
-#[derive(Drop)]
+#[derive(Clone, Copy)]
 pub struct GivenBack {
     pub status: u8,
     pub word: u64,
 }
 
 // What part_of answers: the part of the memory that the run is.
-#[derive(Drop)]
+#[derive(Clone, Copy)]
 pub struct Placed {
     pub status: u8,
     pub part: Part,

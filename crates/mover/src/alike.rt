@@ -18,7 +18,7 @@ pub(crate) fn kept(outer: bool, x: Axis, c: usize) -> bool
 }
 
 // Neighbours in a row, or rows, that are all kept or all padding.
-#[derive(Drop)]
+#[derive(Clone, Copy)]
 pub(crate) struct Run {
     pub(crate) kept: bool,
     pub(crate) n: usize,

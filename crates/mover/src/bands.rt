@@ -16,7 +16,7 @@ use crate::ways::{copy_patch, pad_patch};
 use std::num::wrapping_add_usize;
 
 // Whole rows that are all kept or all padding, as far as the coordinates outside of them tell.
-#[derive(Drop)]
+#[derive(Clone, Copy)]
 pub(crate) struct Band {
     pub(crate) kept: bool,
     pub(crate) rows: usize,
@@ -25,7 +25,7 @@ pub(crate) struct Band {
 
 // What is the same for all bands of a step: how many rows one has at the most; and of each row, in bytes from its start, where what is
 // kept begins, and where padding goes on behind it, if there is any.
-#[derive(Drop)]
+#[derive(Clone, Copy)]
 pub(crate) struct Frame {
     pub(crate) most: usize,
     pub(crate) front: usize,

@@ -9,7 +9,7 @@ ghost use Rattle.mover.specs.Private.Runs.{element_copied, run_copied, run_padde
 use std::num::wrapping_add_usize;
 
 // Where the source's bytes stand: in the slice lent for reading, or in the destination's own.
-#[derive(Drop)]
+#[derive(Clone, Copy)]
 pub(crate) enum Origin {
     Lent,
     Inside,
@@ -17,7 +17,7 @@ pub(crate) enum Origin {
 
 // A run: n elements of `size` bytes, the first from `at` to `to`, each a jump and a stride further, in bytes. A
 // padded element holds the first bytes of `pad`.
-#[derive(Drop)]
+#[derive(Clone, Copy)]
 pub(crate) struct Course {
     pub(crate) at: usize,
     pub(crate) jump: usize,

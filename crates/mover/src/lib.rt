@@ -1,5 +1,6 @@
 // The mover: an accepted move puts into each destination element the source element, or the fill in padding, that the record names,
 // and changes no other byte. Between two lent slices, or between two parts of one memory, from any element on.
+#![tactic(auto)]
 
 mod plan; // an accepted move as the engine wants it
 mod spots; // where an element stands, and where the next row, layer and slab start
@@ -33,7 +34,7 @@ pub use sub::{sub_part, sub_tensor};
 pub use within::{advance, judge_job, meets};
 
 // A move between two parts of one memory.
-#[derive(Drop)]
+#[derive(Clone, Copy)]
 pub struct Job {
     pub source: Part,
     pub destination: Part,
@@ -42,7 +43,7 @@ pub struct Job {
 }
 
 // What a job comes to over a memory: a number of refusal with its dimension, or how many elements there are to move.
-#[derive(Drop)]
+#[derive(Clone, Copy)]
 pub struct Verdict {
     pub status: u8,
     pub dim: u8,
@@ -50,7 +51,7 @@ pub struct Verdict {
 }
 
 // How many elements were moved.
-#[derive(Drop)]
+#[derive(Clone, Copy)]
 pub struct Advanced {
     pub status: u8,
     pub dim: u8,
@@ -58,7 +59,7 @@ pub struct Advanced {
 }
 
 // One element of a destination: its bytes, 0 past the element size, and whether it is padding.
-#[derive(Drop)]
+#[derive(Clone, Copy)]
 pub struct PixelAnswer {
     pub status: u8,
     pub dim: u8,

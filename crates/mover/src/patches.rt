@@ -9,7 +9,7 @@ use crate::elements::{Course, Origin, copy_each, pad_run};
 use std::num::wrapping_add_usize;
 
 // Element (i, j) stands i rows and j columns on from the first, in source and destination, in bytes.
-#[derive(Drop)]
+#[derive(Clone, Copy)]
 pub(crate) struct Patch {
     pub(crate) at: usize, // the first, in the source
     pub(crate) to: usize, // and in the destination

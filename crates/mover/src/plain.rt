@@ -13,7 +13,7 @@ use plane::{Config, Tensor};
 
 // A row: the elements of the destination that have the same coordinates in its first dimensions. Its depth is how many dimensions are
 // left: with one it is a row of the paper, with none an element, with all of them the destination.
-#[derive(Drop)]
+#[derive(Clone, Copy)]
 pub(crate) struct Row {
     pub(crate) tensor: Tensor,
     pub(crate) config: Config,

@@ -11,7 +11,7 @@ use plane::{Answer, Config, Tensor};
 use std::num::wrapping_sub_usize;
 
 // One destination dimension.
-#[derive(Drop)]
+#[derive(Clone, Copy)]
 pub(crate) struct Axis {
     pub(crate) extent: usize, // pre + count + post
     pub(crate) pre: usize, // padding before
@@ -21,7 +21,7 @@ pub(crate) struct Axis {
 }
 
 // The move, widened to four destination dimensions: those that the rank lacks stand first, with extent and count 1.
-#[derive(Drop)]
+#[derive(Clone, Copy)]
 pub(crate) struct Plan {
     pub(crate) size: usize, // bytes of an element
     pub(crate) pad: [u8; 4], // the bytes of the fill, the lowest first: a padded element holds the first of them

@@ -7,7 +7,7 @@ use std::num::wrapping_add_usize;
 
 // Two places: `to` is the byte of an element in the destination, `at` that of its source element. In padding, and behind a run, `at`
 // stays at one that is kept.
-#[derive(Drop)]
+#[derive(Clone, Copy)]
 pub(crate) struct Spot {
     pub(crate) to: usize,
     pub(crate) at: usize,
@@ -15,7 +15,7 @@ pub(crate) struct Spot {
 
 // The spots of an element: where its slab, its layer and its row start, and its own. A row goes over the last coordinate, a layer over
 // the last two, a slab over the last three.
-#[derive(Drop)]
+#[derive(Clone, Copy)]
 pub(crate) struct Spots {
     pub(crate) slab: Spot,
     pub(crate) layer: Spot,

@@ -11,7 +11,7 @@ use crate::spots::{Spot, Spots};
 use std::num::{wrapping_add_usize, wrapping_sub_usize};
 
 // The coordinates of an element, and its spots.
-#[derive(Drop)]
+#[derive(Clone, Copy)]
 pub(crate) struct Beginning {
     pub(crate) c0: usize,
     pub(crate) c1: usize,

@@ -8,7 +8,7 @@ use crate::tiles::{Tile, copy_tile};
 use std::num::wrapping_add_usize;
 
 // From a tile to the next: how many columns, and how far in source and destination.
-#[derive(Drop)]
+#[derive(Clone, Copy)]
 pub(crate) struct Step {
     pub(crate) columns: usize,
     pub(crate) jump: usize,

@@ -11,7 +11,7 @@ use crate::patches::Patch;
 use crate::shuffles::{merge, split, turn_fours, turn_ones, turn_twos};
 
 // What rows and columns of a tile are.
-#[derive(Drop)]
+#[derive(Clone, Copy)]
 pub(crate) enum Tile {
     Turned, // 16 bytes of a row stand in a column of the source
     Split, // three rows are the channels of pixels that stand side by side

@@ -1,5 +1,6 @@
 // The rules of a plane and of a move: what is refused, with which number and at which dimension, and what an accepted
 // move answers. No call here touches a plane's bytes, asks anything of its caller, or sets memory aside.
+#![tactic(auto)]
 
 mod refusals; // a rule each: 1, and the dimension at fault for 3, 6, 7, 8, 9 and 12
 mod signs; // signed numbers: size and sign
@@ -22,7 +23,7 @@ pub use verdict::{judge, room};
 
 // A plane in memory: dimension 0 has the stride of the largest size. Shapes and strides are in elements, the element size in bytes;
 // stride 0 stands for the inner product, and a dimension whose stride is below 0 counts down.
-#[derive(Drop)]
+#[derive(Clone, Copy)]
 pub struct Tensor {
     pub rank: u8,
     pub element_size: u8,
@@ -32,7 +33,7 @@ pub struct Tensor {
 
 // How a plane is to be laid out. By source dimension: offset, size, step, pre and post. By destination dimension:
 // dst_offset, dst_stride and perm, which names the source dimension. Of fill, a padded element holds the low bytes.
-#[derive(Drop)]
+#[derive(Clone, Copy)]
 pub struct Config {
     pub offset: [u32; 4],
     pub size: [u32; 4],
@@ -47,7 +48,7 @@ pub struct Config {
 
 // What a tensor record by itself comes to: the sizes of its resolved strides, whose signs are those of the record, and the bytes that it
 // spans; zeros besides a fault.
-#[derive(Drop)]
+#[derive(Clone, Copy)]
 pub struct Source {
     pub fault: Fault,
     pub stride: [u32; 4],
@@ -55,7 +56,7 @@ pub struct Source {
 }
 
 // What a move answers: extents and resolved strides in destination order, and the bytes that it needs.
-#[derive(Drop)]
+#[derive(Clone, Copy)]
 pub struct Answer {
     pub status: u8,
     pub dim: u8,
@@ -67,14 +68,14 @@ pub struct Answer {
 }
 
 // What a room question answers: the move's answer, and the bytes that the source spans.
-#[derive(Drop)]
+#[derive(Clone, Copy)]
 pub struct RoomAnswer {
     pub answer: Answer,
     pub span: u64,
 }
 
 // How many elements there are.
-#[derive(Drop)]
+#[derive(Clone, Copy)]
 pub struct Count {
     pub status: u8,
     pub dim: u8,
@@ -82,7 +83,7 @@ pub struct Count {
 }
 
 // Which part of a plane a sub-tensor is, and of which rank it is to be.
-#[derive(Drop)]
+#[derive(Clone, Copy)]
 pub struct SubConfig {
     pub offset: [u32; 4],
     pub size: [u32; 4],
@@ -90,7 +91,7 @@ pub struct SubConfig {
 }
 
 // A part of a plane as a tensor of its own, which starts, with its lowest element, at a byte of the plane's source.
-#[derive(Drop)]
+#[derive(Clone, Copy)]
 pub struct SubTensor {
     pub status: u8,
     pub dim: u8,

@@ -7,7 +7,7 @@ use crate::Fault;
 use crate::zeros::no_fault;
 
 // Resolved strides, or the fault of the first that is refused, with zeros.
-#[derive(Drop)]
+#[derive(Clone, Copy)]
 pub(crate) struct Strides {
     pub(crate) fault: Fault,
     pub(crate) stride: [u32; 4],

@@ -30,7 +30,7 @@ fn sub_size_fault(n: u8, shape: [u32; 4], offset: [u32; 4], size: [u32; 4]) -> F
 }
 
 // The dimensions that stay, and how many of those that should go are lacking.
-#[derive(Drop)]
+#[derive(Clone, Copy)]
 pub(crate) struct Staying {
     pub(crate) lacking: u8,
     pub(crate) shape: [u32; 4],

@@ -2,6 +2,8 @@
 // first a whole move between two lent slices, then two planes joined by two moves, then two transfers that take turns over one memory,
 // then one in room that a keeper grants, then the same two moves as a list of records, written and gone through, then single pixels of a
 // thumbnail in a frame, and its record by itself, and at last a record that asks for more than anybody would lend.
+#![tactic(auto)]
+
 use libc::STDOUT_FILENO;
 use plane::{Config, Tensor};
 use record::Reading;

@@ -1,5 +1,7 @@
 // The ready-made configurations, with the arguments of the MLI text. All but the pads are made for a rank, and refuse a wrong
 // one; all have fill 0, which a setting changes. No call here asks anything of its caller.
+#![tactic(auto)]
+
 ghost use Rattle.std.specs.Prelude.{◌≡◌, ◌≤◌};
 ghost use Rattle.plane.specs.Arrays.{at, firsts};
 ghost use Rattle.ready_made.specs.ReadyMade.{defaults, cut_to, made_for, copy_of, slice_of, concatenate_of, subsample_of, permute_of, pad_chw_of, pad_hwc_of, all_of};
@@ -7,7 +9,7 @@ ghost use Rattle.ready_made.specs.ReadyMade.{defaults, cut_to, made_for, copy_of
 use plane::{Config, rank_is_bad};
 
 // A configuration made for a rank, or 1 and zeros.
-#[derive(Drop)]
+#[derive(Clone, Copy)]
 pub struct Made {
     pub status: u8,
     pub config: Config,

@@ -1,5 +1,6 @@
 // The move record: a tensor record and a configuration as 131 bytes, or with a fill as 135, read and written. No call here asks
 // anything of its caller or sets memory aside.
+#![tactic(auto)]
 
 mod layout; // where each field stands
 mod numbers; // groups of four numbers, to and from bytes
@@ -16,7 +17,7 @@ pub use versions::{length_for, length_in};
 pub use writer::write;
 
 // What bytes hold: status 0 with the fields, or a number of refusal with its dimension and zeros besides.
-#[derive(Drop)]
+#[derive(Clone, Copy)]
 pub struct Reading {
     pub status: u8,
     pub dim: u8,

@@ -8,7 +8,7 @@ use crate::layout::{BODY, NO_CALL};
 use libc::STDOUT_FILENO;
 
 // A line so far: how many digits it has, the reason why it is no call, or 0, and whether every answer before it was written.
-#[derive(Drop)]
+#[derive(Clone, Copy)]
 pub(crate) struct Line {
     pub(crate) digits: usize,
     pub(crate) reason: u8,

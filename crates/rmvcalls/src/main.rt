@@ -1,5 +1,7 @@
 // rmvcalls: makes the public calls that standard input asks for, a line each, and prints each answer whole. docs/CALLS.md
 // says what the lines are. Nothing is kept from one line to the next.
+#![tactic(auto)]
+
 use answers::Out;
 use args::Body;
 use layout::{BODY, OUT};

@@ -50,7 +50,7 @@ fn release(b: &Body, mem: &[u8], out: &mut Out) -> usize {
 }
 
 // A poll in the paper's numbers.
-#[derive(Drop)]
+#[derive(Clone, Copy)]
 struct Told {
     status: u8,
     state: u8,

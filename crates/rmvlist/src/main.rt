@@ -1,4 +1,6 @@
 // rmvlist: reads a list of moves from standard input, and tells of each record what it holds and what room it asks for.
+#![tactic(auto)]
+
 use libc::{STDIN_FILENO, STDOUT_FILENO};
 
 mod lines; // what is printed

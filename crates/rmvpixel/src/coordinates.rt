@@ -8,7 +8,7 @@ const LARGEST: u64 = 4294967295; // the largest number of 32 bits
 const NO_NUMBER: u64 = LARGEST + 1;
 
 // One to four numbers, with 0 behind them. Where the arguments are no such, the count is 0.
-#[derive(Drop)]
+#[derive(Clone, Copy)]
 pub(crate) struct Coordinate {
     pub(crate) count: u8,
     pub(crate) at: [u32; 4],

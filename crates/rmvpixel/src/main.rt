@@ -1,5 +1,7 @@
 // rmvpixel: takes a coordinate as its arguments, reads one move record and then its source from standard input, and shows the element
 // that the move would store there. Nothing is moved.
+#![tactic(auto)]
+
 ghost use Rattle.std.specs.Prelude.{◌≡◌, ◌+◌, ◌≤◌, min, length};
 ghost use Rattle.record.specs.Layout.{length_of};
 

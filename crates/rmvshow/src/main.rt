@@ -1,4 +1,6 @@
 // rmvshow: reads one move record and then its source from standard input, moves, and shows what came out.
+#![tactic(auto)]
+
 ghost use Rattle.std.specs.Prelude.{◌≡◌, ◌≤◌, length};
 ghost use Rattle.record.specs.Layout.{length_of};
 

@@ -1,5 +1,6 @@
 // Four transfers over one memory: each is prepared, started, moved a stretch at a time, and released. No call here asks anything
 // of its caller; a table that is handed in is looked at first, and refused where it is not sound.
+#![tactic(auto)]
 
 mod slots; // slots, and a table with one of them changed
 mod zeros; // whether a job is all zero
@@ -21,7 +22,7 @@ pub const DONE: u8 = 3;
 pub const LIMIT: u64 = 2147483647;
 
 // A transfer, or a place for one.
-#[derive(Drop)]
+#[derive(Clone, Copy)]
 pub struct Slot {
     pub state: u8,
     pub job: Job,
@@ -29,21 +30,21 @@ pub struct Slot {
 }
 
 // Four slots, for a memory of length bytes.
-#[derive(Drop)]
+#[derive(Clone, Copy)]
 pub struct Table {
     pub length: u64,
     pub slots: [Slot; 4],
 }
 
 // What fresh answers.
-#[derive(Drop)]
+#[derive(Clone, Copy)]
 pub struct FreshTable {
     pub status: u8,
     pub table: Table,
 }
 
 // What prepare answers: the slot's number as the handle, and the next table.
-#[derive(Drop)]
+#[derive(Clone, Copy)]
 pub struct Prepared {
     pub status: u8,
     pub dim: u8,
@@ -52,14 +53,14 @@ pub struct Prepared {
 }
 
 // What start and release answer.
-#[derive(Drop)]
+#[derive(Clone, Copy)]
 pub struct Changed {
     pub status: u8,
     pub table: Table,
 }
 
 // What a step answers: how many elements it moved, and the next table.
-#[derive(Drop)]
+#[derive(Clone, Copy)]
 pub struct Stepped {
     pub status: u8,
     pub count: u64,
@@ -67,7 +68,7 @@ pub struct Stepped {
 }
 
 // What a slot is, with how many elements are left.
-#[derive(Drop)]
+#[derive(Clone, Copy)]
 pub enum Poll {
     Free,
     Prepared(u64),
