@@ -1,0 +1,17 @@
+use Prim.Native.Nat.{◌-◌}
+use borrow.Author.Tests.{le-leb, lt-leb}
+use native.Mathlib.Omega.{arith}
+use Rattle.faults.proofs.Faults.{searched_start, searched_more, searched_found, searched_end}
+use Rattle.plane.proofs.refusals.offset_fault.Goals as goal
+
+pub returns-then-shape-k : goal.returns-then-shape-k
+returns-then-shape-k c = searched_found c.loop-d.invariant (omega arith) c.loop-d-test.true (le-leb _ _ c.if-shape-k.true)
+
+pub loop-d-preserved : goal.loop-d-preserved
+loop-d-preserved c = searched_more c.loop-d.invariant c.loop-d-test.true (lt-leb _ _ c.if-shape-k.false)
+
+pub returns : goal.returns
+returns c = searched_end c.loop-d.invariant c.loop-d-test.false c.no_fault.ensures
+
+pub loop-d-init : goal.loop-d-init
+loop-d-init c = searched_start

@@ -1,0 +1,18 @@
+use Prim.Native.Nat.{◌-◌}
+use mathlib.Core.Path.{sym, ◌∙◌}
+use native.Mathlib.Omega.{arith}
+use Rattle.faults.proofs.Faults.{searched_start, searched_more, searched_found, searched_end}
+use Rattle.plane.proofs.refusals.size_fault.Goals as goal
+
+pub returns-then-size_is_bad : goal.returns-then-size_is_bad
+returns-then-size_is_bad c =
+    searched_found c.loop-d.invariant (omega arith) c.loop-d-test.true (sym c.size_is_bad.ensures ∙ c.if-size_is_bad.true)
+
+pub loop-d-preserved : goal.loop-d-preserved
+loop-d-preserved c = searched_more c.loop-d.invariant c.loop-d-test.true (sym c.size_is_bad.ensures ∙ c.if-size_is_bad.false)
+
+pub returns : goal.returns
+returns c = searched_end c.loop-d.invariant c.loop-d-test.false c.no_fault.ensures
+
+pub loop-d-init : goal.loop-d-init
+loop-d-init c = searched_start

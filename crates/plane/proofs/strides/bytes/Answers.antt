@@ -1,0 +1,32 @@
+-- `plane::strides::bytes` meets its contract. Assumes nothing.
+use Prim.Native.Nat.{ℕ, ◌+◌, ◌-◌, ◌*◌, ◌≤◌, ◌<◌}
+use mathlib.Core.Path.{◌≡◌, ap, ◌∙◌}
+use mathlib.Core.List.{List}
+use native.Mathlib.Omega.{arith}
+use native.Mathlib.Nat.{mul-le-mul}
+use Rattle.plane.specs.Arrays.{at}
+use Rattle.plane.proofs.Arrays.{firsts_at, sum_same}
+use Rattle.plane.proofs.strides.bytes.Goals as goal
+use Rattle.plane.proofs.strides.bytes.Goals.{After-last}
+
+-- the last coordinate is the offset and the extent less 1
+last-at : (c : After-last) (d : ℕ) → d < c.args.n → at c.last.result d ≡ at c.args.offset d + at c.args.extent d - 1
+last-at c d h = ap (λ (l : List ℕ). at l d) c.last.ensures ∙ firsts_at 0 _ _ d c.requires.0 h
+
+pub distance-requires : goal.distance-requires
+distance-requires c = (
+  c.requires.0,
+  λ d h. let e = last-at c d h in let p = c.requires.1 d h in omega arith,
+)
+
+pub overflow_mul-result : goal.overflow_mul-result
+overflow_mul-result c =
+    let s : c.args.size ≤ 255 = omega arith in
+    let l : 1 + c.distance.result ≤ 1 + 4 * (131072 * 4294967295) = omega (arith, c.distance.ensures.1) in
+    omega (arith, mul-le-mul l s)
+
+pub returns : goal.returns
+returns c =
+    let s = c.args in
+    ap (λ (x : ℕ). (1 + x) * s.size)
+    (c.distance.ensures.0 ∙ sum_same s.n _ _ (λ d h. ap (λ (x : ℕ). x * at s.stride d) (last-at c.before d h)))

@@ -1,0 +1,21 @@
+use Prim.Native.Nat.{◌-◌}
+use native.Mathlib.Omega.{arith}
+use Rattle.plane.specs.Arrays.{at}
+use Rattle.faults.proofs.Faults.{searched_start, searched_more, searched_found, searched_end}
+use Rattle.plane.proofs.sub.sub_size_fault.Goals as goal
+
+pub returns-then-size-k : goal.returns-then-size-k
+returns-then-size-k c =
+    searched_found c.loop-d.invariant (omega arith) c.loop-d-test.true
+    (rw c.size_is_bad.ensures at c.if-size-k.true)
+
+pub loop-d-preserved : goal.loop-d-preserved
+loop-d-preserved c =
+    searched_more c.loop-d.invariant c.loop-d-test.true
+    (rw c.size_is_bad.ensures at c.if-size-k.false)
+
+pub returns : goal.returns
+returns c = searched_end c.loop-d.invariant c.loop-d-test.false c.no_fault.ensures
+
+pub loop-d-init : goal.loop-d-init
+loop-d-init c = searched_start

@@ -1,0 +1,25 @@
+use Prim.Native.Nat.{◌-◌}
+use Rattle.plane.specs.Signs.{at_z}
+use Rattle.plane.proofs.Signed.{read_back}
+use Rattle.plane.proofs.Staying.{shrunk_start, shrunk_lacks, shrunk_gone, shrunk_kept, shrunk_end}
+use Rattle.plane.proofs.sub.without_units.Goals as goal
+use Rattle.plane.proofs.sub.without_units.Goals.{else-size-i, then-size-i}
+
+pub overflow_sub-lacking : goal.overflow_sub-lacking
+overflow_sub-lacking c = shrunk_lacks _ _ _ _ c.loop-d.invariant c.loop-d-test.true c.if-size-i.true
+
+pub loop-d-preserved : goal.loop-d-preserved
+loop-d-preserved c =
+    let w = c.loop-d.invariant in
+    let h = c.loop-d-test.true in
+    elim c.if-size-i.branch [
+      | then-size-i v ↦ rw (v.shape-is, v.out-is, v.lacking-is, v.k-is) (shrunk_gone _ _ _ _ w h v.if-size-i.true)
+      | else-size-i v ↦ rw (v.shape-is, v.out-is, v.lacking-is, v.k-is, read_back (at_z c.args.stride c.loop-d.d) v.out-1.given)
+          (shrunk_kept _ _ _ _ w h c.requires v.if-size-i.false)
+    ]
+
+pub returns : goal.returns
+returns c = shrunk_end _ _ _ _ c.loop-d.invariant c.loop-d-test.false
+
+pub loop-d-init : goal.loop-d-init
+loop-d-init c = shrunk_start _ _ _ _
