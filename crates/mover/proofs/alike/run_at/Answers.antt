@@ -1,0 +1,19 @@
+-- `mover::alike::run_at` finds where what is kept, or the padding, ends. Assumes nothing.
+use Rattle.std.proofs.Common.{inl, inr, ⊎_elim}
+use Rattle.mover.proofs.Runs.{run_before, run_kept, run_behind}
+use Rattle.mover.proofs.alike.run_at.Goals as goal
+
+pub returns-then-c-x : goal.returns-then-c-x
+returns-then-c-x c =
+    rw c.if-outer.true
+    (run_before c.args.x c.args.c c.args.most c.requires.count_bound c.requires.c_lt_extent c.requires.most_nonzero c.if-c-x.true c.least.ensures)
+
+pub returns-then-c-x-2 : goal.returns-then-c-x-2
+returns-then-c-x-2 c =
+    rw c.if-outer.true
+    (run_kept c.args.x c.args.c c.args.most c.requires.count_bound c.requires.c_lt_extent c.requires.most_nonzero c.if-c-x.false c.if-c-x-2.true c.least-then-c-x-2.ensures)
+
+pub returns : goal.returns
+returns c =
+    run_behind c.args.x c.args.c c.args.most c.requires.count_bound c.requires.c_lt_extent c.requires.most_nonzero
+    (⊎_elim (λ w. inr (w.2.left, w.5.left)) (λ w. inl w.left) c.if-outer.branch) c.least-2.ensures

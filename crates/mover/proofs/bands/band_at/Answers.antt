@@ -1,0 +1,17 @@
+-- `mover::bands::band_at` takes the rows that are alike and paid for. Assumes nothing.
+use Rattle.std.proofs.Common.{◌≡◌, ℕ, ◌/◌, min, ap, ◌∙◌, arith}
+use Rattle.mover.proofs.Banding.{band_some, rows_fit}
+use Rattle.mover.proofs.bands.band_at.Goals as goal
+use Rattle.mover.proofs.bands.band_at.Goals.{After-least-rows}
+
+-- the rows taken
+some : (c : After-least-rows) → let r = c.run_at-run.result in c.least-rows.result ≡ min (min r.n c.args.most) (c.args.left / c.args.e)
+some c = c.least-rows.ensures ∙ ap (λ (n : ℕ). min n (c.args.left / c.args.e)) c.least.ensures
+
+pub overflow_mul-elements : goal.overflow_mul-elements
+overflow_mul-elements c =
+    omega (arith, rows_fit c.args.e c.args.left (min c.run_at-run.result.n c.args.most) (some c), c.well_formed)
+
+pub returns : goal.returns
+returns c =
+    band_some c.args.x c.args.e c.args.outer c.args.c c.args.left c.args.most c.run_at-run.ensures (some c)

@@ -1,0 +1,71 @@
+use Rattle.std.proofs.Common.{◌+◌, ◌-◌, ◌^◌, ◌<◌, ◌≤◌, length, ap, ◌∙◌, arith}
+use lib.Seq.{sets}
+use Rattle.mover.specs.Private.Elements.{source_bytes}
+use Rattle.mover.specs.Private.Runs.{kept_bytes}
+use Rattle.mover.proofs.Bytes.{source_long}
+use Rattle.mover.proofs.Runs.{length_run}
+use Rattle.mover.proofs.Evening.{evened_start, evened_asks, evened_end, evened_reads, evened_writes, evened_more}
+use Rattle.mover.proofs.courses.copy_evens.Goals as goal
+use Rattle.mover.proofs.courses.copy_evens.Goals.{At-loop-k, In-loop-k}
+
+-- the pairs lie in the source, and both memories are short enough
+lies : (l : At-loop-k) → let n = l.pairs_in-n.result in
+    0 < n → l.args.c.at + n + n ≤ length (source_bytes l.args.origin l.args.src.now l.args.dst.now)
+lies l p = omega (arith, l.pairs_in-n.ensures.1 p, l.source_length.ensures)
+
+short-source : (l : At-loop-k) → length (source_bytes l.args.origin l.args.src.now l.args.dst.now) < 2 ^ 64
+short-source l = omega (arith, source_long l.args.origin l.args.src.now l.args.dst.now, l.well_formed)
+
+short : (l : At-loop-k) → length l.args.dst.now < 2 ^ 64
+short l = omega (arith, l.well_formed)
+
+sixteen : (c : In-loop-k) → c.loop-k.k + 16 ≤ c.pairs_in-n.result
+sixteen c = omega (arith, c.loop-k-test, c.loop-k.invariant.stored.within)
+
+pub evens-a-requires : goal.evens-a-requires
+evens-a-requires c =
+    evened_reads c.loop-k.invariant c.requires.writable c.requires.readable c.pairs_in-n.ensures.0 c.requires.evens (lies (goal.at-evens-a-requires c).At-loop-k) (short-source (goal.at-evens-a-requires c).At-loop-k) (short (goal.at-evens-a-requires c).At-loop-k) (sixteen c)
+
+pub write_sixteen-requires : goal.write_sixteen-requires
+write_sixteen-requires c =
+    evened_writes c.loop-k.invariant c.requires.writable c.requires.readable c.pairs_in-n.ensures.0 c.requires.evens (lies (goal.at-write_sixteen-requires c).At-loop-k) (short-source (goal.at-write_sixteen-requires c).At-loop-k) (short (goal.at-write_sixteen-requires c).At-loop-k) (sixteen (goal.at-write_sixteen-requires c).In-loop-k)
+
+pub overflow_add-k : goal.overflow_add-k
+overflow_add-k c =
+    omega (arith, sixteen (goal.at-overflow_add-k c).In-loop-k, c.pairs_in-n.ensures.0, c.well_formed)
+
+pub loop-k-preserved : goal.loop-k-preserved
+loop-k-preserved c =
+    evened_more c.loop-k.invariant c.requires.writable c.requires.readable c.pairs_in-n.ensures.0 c.requires.evens (lies (goal.at-loop-k-preserved c).At-loop-k) (short-source (goal.at-loop-k-preserved c).At-loop-k) (short (goal.at-loop-k-preserved c).At-loop-k) (sixteen (goal.at-loop-k-preserved c).In-loop-k)
+    (c.write_sixteen.ensures ∙ ap (sets c.loop-k.dst c.loop-k.to) c.evens-a.ensures) c.wrapping_add_usize-at.ensures c.wrapping_add_usize-to.ensures
+
+pub copy_each-requires : goal.copy_each-requires
+copy_each-requires c =
+    let told = evened_asks c.loop-k.invariant c.requires.writable c.requires.readable c.pairs_in-n.ensures.0 c.requires.evens in record {
+      writable = told.0;
+      readable = told.1;
+    }
+
+pub returns : goal.returns
+returns c =
+    let told = evened_end c.loop-k.invariant c.requires.writable c.requires.readable c.pairs_in-n.ensures.0 c.requires.evens c.copy_each.ensures.next c.copy_each.ensures.written in record {
+      next = told.0;
+      written = told.1;
+    }
+
+pub shape_of-dst : goal.shape_of-dst
+shape_of-dst c =
+    ap length (returns c).written ∙ length_run (kept_bytes (source_bytes c.args.origin c.args.src.now c.args.dst.now) c.args.c) c.args.c.to c.args.c.stride c.args.c.n c.args.dst.now
+
+pub loop-k-init : goal.loop-k-init
+loop-k-init c =
+    evened_start c.args.origin c.args.src.now c.args.dst.now c.args.c c.pairs_in-n.result (omega (arith, c.well_formed)) (omega (arith, c.well_formed))
+
+pub overflow_sub-n : goal.overflow_sub-n
+overflow_sub-n c = c.loop-k.invariant.stored.within
+
+pub loop-k-smaller : goal.loop-k-smaller
+loop-k-smaller c = omega (arith, sixteen (goal.at-loop-k-smaller c).In-loop-k)
+
+pub overflow_sub-rest : goal.overflow_sub-rest
+overflow_sub-rest c = omega (arith, c.loop-k.invariant.stored.within, c.pairs_in-n.ensures.0)

@@ -1,0 +1,231 @@
+use Rattle.std.proofs.Common.{◌≡◌, ℕ, ◌+◌, ◌-◌, ◌^◌, ◌<◌, ◌≤◌, Bool, ◌&&◌, List, length, ap, ◌∙◌, ⊎_elim, pos_of_ne-zero, arith}
+use Rattle.mover.specs.declared.spots.Spots.{Spots}
+use Rattle.mover.specs.Private.Elements.{axis_kept}
+use Rattle.mover.specs.Private.Adding.{after_run}
+use Rattle.mover.specs.Private.Ready.{reach_of, place_end, Ready, InExtents}
+use Rattle.mover.proofs.Places.{axis_some}
+use Rattle.mover.proofs.Turns.{At, Over, Cut, cut_row, start, start_row, row_turn, next_row_lem, next_layer_lem, next_slab_lem, at_below, at_spent, at_end, at_length, at_ready}
+use Rattle.mover.proofs.Banded.{row_end, band_asks, band_behind, band_turn}
+use Rattle.mover.proofs.layers.by_bands.Goals as goal
+use Rattle.mover.proofs.layers.by_bands.Goals.{After-least-n, After-slice_known-in-loop-c2-1, At-all, At-loop-c1, At-loop-c2, Else-left-eq0, Left-all, Start}
+
+-- where the loops stand, from the destination that the function began with
+abbrev Now : Start → List ℕ → ℕ → ℕ → ℕ → ℕ → ℕ → Spots → Type 0
+Now s d c0 c1 c2 c3 left spots =
+    At s.args.origin s.args.plan s.args.src.now s.args.dst.now s.args.from s.args.budget d c0 c1 c2 c3 left spots
+
+at_all : (c : At-all) → let a = c.all in Now c.before.before.before.before.before.before.before a.dst a.c0 a.c1 a.c2 a.c3 a.left a.spots
+at_all c =
+    c.all.invariant.0 c.args.dst.now
+    (start c.args.origin c.args.plan c.args.src.now c.args.dst.now c.args.from c.args.budget c.requires.ready c.requires.from_bound c.begin-start.ensures)
+
+at-loop : (c : At-loop-c1) → let a = c.loop-c1 in Now c.before.before.before.before.before.before.before.before.before.before.before.before a.dst c.all.c0 a.c1 a.c2 a.c3 a.left a.spots
+at-loop c = c.loop-c1.invariant.0 c.args.dst.now (at_all c.before.before.before.before.before.before)
+
+at-loop2 : (c : At-loop-c2) → let a = c.loop-c2 in Now c.before.before.before.before.before.before.before.before.before.before.before.before.before.before.before.before.before a.dst c.all.c0 c.loop-c1.c1 a.c2 a.c3 a.left a.spots
+at-loop2 c = c.loop-c2.invariant.0 c.args.dst.now (at-loop c.before.before.before.before.before.before)
+
+-- the last coordinate is one of a row
+in_row : (c : At-loop-c2) → c.loop-c2.c3 < c.args.plan.d3.extent
+in_row c =
+    c.loop-c2.invariant.1 (c.loop-c1.invariant.1 (c.all.invariant.1 (start_row c.args.plan c.args.from c.requires.ready.axes c.begin-start.ensures)))
+
+ready : (c : At-loop-c2) → Ready c.args.origin c.args.plan c.args.src.now c.loop-c2.dst
+ready c = at_ready (at-loop2 c) c.requires.ready
+
+long : (c : At-loop-c2) → length c.args.src.now + length c.loop-c2.dst < 2 ^ 64
+long c = omega (arith, c.well_formed, at_length (at-loop2 c))
+
+-- whether the outer coordinates are kept
+outer : (c : At-loop-c2) → let p = c.args.plan in c.kept-kept1.result ≡ (axis_kept p.d0 c.all.c0 && axis_kept p.d1 c.loop-c1.c1)
+outer c =
+    let p = c.args.plan in
+    c.kept-kept1.ensures ∙ ap (λ (x : Bool). x && axis_kept p.d1 c.loop-c1.c1) c.kept-kept0.ensures
+
+-- all places fit
+ends : (s : Start) → (reach_of s.args.plan < 2 ^ 64) × (place_end s.args.plan < 2 ^ 64)
+ends s = let r = s.requires.ready in (r.reach, omega (arith, r.need, s.well_formed))
+
+pub begin-start-requires : goal.begin-start-requires
+begin-start-requires c =
+    record {
+      good_axes = c.requires.ready.axes;
+      plan_bound = ends (goal.at-begin-start-requires c).Start;
+      from_bound = c.requires.from_bound;
+    }
+
+pub frame_of-frame-requires : goal.frame_of-frame-requires
+frame_of-frame-requires c =
+    record {
+      good_axis = c.requires.ready.axes.in3;
+      stride_bound = row_end c.args.plan (ends (goal.at-frame_of-frame-requires c).Start).1;
+    }
+
+pub band_at-band-requires : goal.band_at-band-requires
+band_at-band-requires c =
+    let r = ready (goal.at-band_at-band-requires c).At-loop-c2 in record {
+      count_bound = r.axes.in2.within;
+      c_lt_extent = (c.loop-c2-test.true, axis_some r.axes.in3);
+      left_nonzero = pos_of_ne-zero c.if-left-eq0.false;
+    }
+
+pub move_band-requires : goal.move_band-requires
+move_band-requires c =
+    record {
+      framed = c.frame_of-frame.ensures;
+      banded = band_asks (at-loop2 (goal.at-move_band-requires c).At-loop-c2) (ready (goal.at-move_band-requires c).At-loop-c2) (long (goal.at-move_band-requires c).At-loop-c2) c.all-test.true c.loop-c1-test.true (outer (goal.at-move_band-requires c).At-loop-c2) c.if-c3-eq0.true c.band_at-band.ensures c.if-band-gt0.true;
+    }
+
+pub overflow_add-c2 : goal.overflow_add-c2
+overflow_add-c2 c =
+    omega (arith, c.band_at-band.ensures.within, c.well_formed)
+
+pub behind-spots-requires : goal.behind-spots-requires
+behind-spots-requires c =
+    let told = band_behind (at-loop2 (goal.at-behind-spots-requires c).At-loop-c2) (ready (goal.at-behind-spots-requires c).At-loop-c2) (long (goal.at-behind-spots-requires c).At-loop-c2) c.all-test.true c.loop-c1-test.true (outer (goal.at-behind-spots-requires c).At-loop-c2) c.if-c3-eq0.true c.band_at-band.ensures c.if-band-gt0.true (ends (goal.at-behind-spots-requires c).Start).1 in record {
+      count_nonzero = ((ready (goal.at-behind-spots-requires c).At-loop-c2).axes.in2.some, omega (arith, c.if-band-gt0.true));
+      stride_bound = told.0;
+      jump_bound = told.1;
+    }
+
+pub loop-c2-smaller-then-band-gt0 : goal.loop-c2-smaller-then-band-gt0
+loop-c2-smaller-then-band-gt0 c =
+    omega (arith, c.if-band-gt0.true, c.band_at-band.ensures.within)
+
+pub loop-c2-preserved-then-band-gt0 : goal.loop-c2-preserved-then-band-gt0
+loop-c2-preserved-then-band-gt0 c =
+    (
+      λ d₀ a.
+          band_turn (c.loop-c2.invariant.0 d₀ a) (ready (goal.at-loop-c2-preserved-then-band-gt0 c).At-loop-c2) (long (goal.at-loop-c2-preserved-then-band-gt0 c).At-loop-c2) c.all-test.true c.loop-c1-test.true (outer (goal.at-loop-c2-preserved-then-band-gt0 c).At-loop-c2) c.if-c3-eq0.true c.band_at-band.ensures c.if-band-gt0.true
+          c.move_band.ensures c.behind-spots.ensures,
+      c.loop-c2.invariant.1,
+    )
+
+within : (c : Else-left-eq0) → InExtents c.args.plan c.all.c0 c.loop-c1.c1 c.loop-c2.c2 c.loop-c2.c3
+within c =
+    record { in0 = c.all-test.true; in1 = c.loop-c1-test.true; in2 = c.loop-c2-test.true; in3 = in_row c.before.before.before.before }
+
+cut : (c : After-least-n) → Cut c.args.plan.d3.extent c.loop-c2.c3 c.loop-c2.left c.least-n.result
+cut c =
+    cut_row c.args.plan.d3.extent c.loop-c2.c3 c.loop-c2.left (in_row c.before.before.before.before.before.before.before) (pos_of_ne-zero c.if-left-eq0.false) c.least-n.ensures
+
+pub overflow_sub-plan : goal.overflow_sub-plan
+overflow_sub-plan c =
+    let h : c.loop-c2.c3 ≤ c.args.plan.d3.extent = omega (arith, in_row (goal.at-overflow_sub-plan c).At-loop-c2) in
+    h
+
+pub overflow_add-from : goal.overflow_add-from
+overflow_add-from c =
+    omega (arith, (at-loop2 (goal.at-overflow_add-from c).At-loop-c2).most, c.requires.ready.few)
+
+pub by_runs-requires : goal.by_runs-requires
+by_runs-requires c =
+    record {
+      ready = ready (goal.at-by_runs-requires c).At-loop-c2;
+      from_bound = at_below (at-loop2 (goal.at-by_runs-requires c).At-loop-c2) (within (goal.at-by_runs-requires c).Else-left-eq0);
+    }
+
+-- where it was, the loops stand behind it
+turned : (c : After-slice_known-in-loop-c2-1) (d₀ : List ℕ) → let a = c.loop-c2 in
+    At c.args.origin c.args.plan c.args.src.now d₀ c.args.from c.args.budget a.dst c.all.c0 c.loop-c1.c1 a.c2 a.c3 a.left a.spots
+    → At c.args.origin c.args.plan c.args.src.now d₀ c.args.from c.args.budget c.by_runs.new.dst c.all.c0 c.loop-c1.c1 a.c2 (a.c3 + c.least-n.result) (a.left - c.least-n.result) (after_run a.spots c.args.plan.d3 c.least-n.result)
+turned c d₀ a =
+    row_turn a (within (goal.at-overflow_sub-left-in-loop-c2 c).Else-left-eq0) (cut (goal.at-overflow_sub-left-in-loop-c2 c).After-least-n) (ready (goal.at-overflow_sub-left-in-loop-c2 c).At-loop-c2) c.by_runs.ensures.counted c.by_runs.ensures.written
+
+pub loop-c2-preserved : goal.loop-c2-preserved
+loop-c2-preserved c =
+    let w : c.args.plan.d3.extent ≤ c.loop-c2.c3 + c.least-n.result = omega (arith, (cut (goal.at-loop-c2-preserved c).After-least-n).full (pos_of_ne-zero c.if-left-eq0-2.false)) in (
+      λ d₀ a. next_row_lem (turned (goal.at-loop-c2-preserved c).After-slice_known-in-loop-c2-1 d₀ (c.loop-c2.invariant.0 d₀ a)) (within (goal.at-loop-c2-preserved c).Else-left-eq0).in1 (within (goal.at-loop-c2-preserved c).Else-left-eq0).in2 w c.next_row-spots.ensures,
+      λ _. axis_some (ready (goal.at-loop-c2-preserved c).At-loop-c2).axes.in3,
+    )
+
+pub loop-c1-preserved : goal.loop-c1-preserved
+loop-c1-preserved c =
+    (
+      λ d₀ a. next_layer_lem (c.loop-c2.invariant.0 d₀ (c.loop-c1.invariant.0 d₀ a)) c.loop-c1-test.true c.loop-c2-test.false c.next_layer-spots.ensures,
+      λ h. c.loop-c2.invariant.1 (c.loop-c1.invariant.1 h),
+    )
+
+pub all-preserved : goal.all-preserved
+all-preserved c =
+    (
+      λ d₀ a. next_slab_lem (c.loop-c1.invariant.0 d₀ (c.all.invariant.0 d₀ a)) c.loop-c1-test.false c.next_slab-spots.ensures,
+      λ h. c.loop-c1.invariant.1 (c.all.invariant.1 h),
+    )
+
+-- the budget is spent: before a part of a row, or behind it
+spent : (c : At-loop-c2) → c.loop-c2.left ≡ 0 → Over c.args.origin c.args.plan c.args.src.now c.args.dst.now c.args.from c.args.budget c.loop-c2.dst c.loop-c2.left
+spent c e = at_spent (at-loop2 c) e
+
+spent-behind : (c : After-slice_known-in-loop-c2-1) → c.loop-c2.left - c.least-n.result ≡ 0
+    → Over c.args.origin c.args.plan c.args.src.now c.args.dst.now c.args.from c.args.budget c.by_runs.new.dst (c.loop-c2.left - c.least-n.result)
+spent-behind c e =
+    at_spent (turned c c.args.dst.now (at-loop2 (goal.at-overflow_sub-left-in-loop-c2 c).At-loop-c2)) e
+
+-- where the ways out of the loops meet: at the end of the outermost, and by the label
+over : (c : Left-all) → Over c.args.origin c.args.plan c.args.src.now c.args.dst.now c.args.from c.args.budget c.all-test.dst c.all-test.false
+over c =
+    ⊎_elim
+    (λ w. rw (w.1, w.5) (at_end (at_all c.before.before.before) w.0.left))
+    (⊎_elim
+    (λ w.
+    let l1 : At-loop-c1 = record { before = record { before = record { before = c.before.before; if1 = w.0 }; kept = w.1 }; loop = w.2 } in
+    let l2 : At-loop-c2 = record { before = record { before = record { before = record { before = l1; struct-known2 = w.3 }; if2 = w.4 }; kept2 = w.5 }; loop2 = w.6 } in
+    rw (w.10, w.14) (spent l2 w.9.taken))
+    (λ w.
+    let l1 : At-loop-c1 = record { before = record { before = record { before = c.before.before; if1 = w.0 }; kept = w.1 }; loop = w.2 } in
+    let l2 : At-loop-c2 = record { before = record { before = record { before = record { before = l1; struct-known2 = w.3 }; if2 = w.4 }; kept2 = w.5 }; loop2 = w.6 } in
+    let i : Else-left-eq0 = record { before = record { before = record { before = l2; struct-known3 = w.7 }; if3 = w.8 }; if4 = w.9 } in
+    let l : After-least-n = record { before = record { before = record { before = i; if5 = w.10 }; struct-known7 = w.11 }; least = w.12 } in
+    let m : After-slice_known-in-loop-c2-1 = record { before = record { before = record { before = record { before = l; by-runs-arg = w.13 }; by_runs = w.14 }; dst2 = w.15 }; slice-known3 = w.16 } in
+    rw (w.18, w.22) (spent-behind m w.17.taken)))
+    c.all-test.branch
+
+pub all-init : goal.all-init
+all-init c = (λ d a. a, λ h. h)
+
+pub loop-c1-init : goal.loop-c1-init
+loop-c1-init c = (λ d a. a, λ h. h)
+
+pub loop-c2-init : goal.loop-c2-init
+loop-c2-init c = (λ d a. a, λ h. h)
+
+pub overflow_sub-left : goal.overflow_sub-left
+overflow_sub-left c = c.band_at-band.ensures.paid
+
+pub overflow_sub-budget : goal.overflow_sub-budget
+overflow_sub-budget c = (at-loop2 (goal.at-overflow_sub-budget c).At-loop-c2).fund
+
+pub overflow_sub-left-in-loop-c2 : goal.overflow_sub-left-in-loop-c2
+overflow_sub-left-in-loop-c2 c = (cut (goal.at-overflow_sub-left-in-loop-c2 c).After-least-n).paid
+
+pub overflow_add-c2-in-loop-c2 : goal.overflow_add-c2-in-loop-c2
+overflow_add-c2-in-loop-c2 c = omega (arith, c.loop-c2-test.true, c.well_formed)
+
+pub loop-c2-smaller : goal.loop-c2-smaller
+loop-c2-smaller c = omega (arith, c.loop-c2-test.true)
+
+pub overflow_add-c1 : goal.overflow_add-c1
+overflow_add-c1 c = omega (arith, c.loop-c1-test.true, c.well_formed)
+
+pub loop-c1-smaller : goal.loop-c1-smaller
+loop-c1-smaller c = omega (arith, c.loop-c1-test.true)
+
+pub overflow_add-c0 : goal.overflow_add-c0
+overflow_add-c0 c = omega (arith, c.all-test.true, c.well_formed)
+
+pub all-smaller : goal.all-smaller
+all-smaller c = omega (arith, c.all-test.true)
+
+pub overflow_sub-result : goal.overflow_sub-result
+overflow_sub-result c = (over (goal.at-overflow_sub-result c).Left-all).fund
+
+pub shape_of-dst : goal.shape_of-dst
+shape_of-dst c = (over (goal.at-shape_of-dst c).Left-all).long
+
+pub returns : goal.returns
+returns c =
+    record {
+      counted = (over (goal.at-returns c).Left-all).count;
+      written = (over (goal.at-returns c).Left-all).bytes;
+    }

@@ -1,0 +1,10 @@
+-- `mover::patches::copy_lines` copies one row after the other, each as a run of bytes. Assumes nothing.
+use Rattle.std.proofs.Common.{◌-◌}
+use Rattle.mover.proofs.Patched.{Rowed}
+use Rattle.mover.proofs.patches.copy_lines.Given as goal
+
+abbrev pub invariant-loop-i : goal.invariant-loop-i
+invariant-loop-i l = Rowed l.origin l.src l.initial.dst l.p l.dst l.at l.to l.i
+
+abbrev pub decreases-loop-i : goal.decreases-loop-i
+decreases-loop-i l = l.p.rows - l.i

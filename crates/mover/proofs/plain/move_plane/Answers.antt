@@ -1,0 +1,35 @@
+-- `mover::plain::move_plane` stores all the elements of an accepted move, and none of a refused one. Assumes nothing.
+use Rattle.std.proofs.Common.{length, sym, arith}
+use Rattle.plane.specs.Good.{GoodMove}
+use Rattle.mover.specs.declared.elements.Origin.TheVariants.{Lent}
+use Rattle.mover.proofs.Laws.{moved_refused}
+use Rattle.mover.proofs.Judged.{judged_stopped, judged_move}
+use Rattle.mover.proofs.WholeRows.{starts_before, move_stands, move_stored, total_most}
+use Rattle.mover.proofs.plain.move_plane.Goals as goal
+use Rattle.mover.proofs.plain.move_plane.Goals.{Then-a-eq0}
+
+-- past the check, the move is accepted
+good : (c : Then-a-eq0) → GoodMove c.args.t c.args.config (length c.args.src.now) (length c.args.dst.now)
+good c =
+    judged_move c.args.t c.args.config _ _ c.judge-a.ensures c.if-a-eq0.true
+
+pub store_row-requires : goal.store_row-requires
+store_row-requires c =
+    rw c.outermost-row.ensures (record {
+      stands = move_stands c.args.t c.args.config c.args.src.now c.args.dst.now (good (goal.at-store_row-requires c).Then-a-eq0);
+      depth_bound = starts_before c.args.t c.args.config Lent 0 0 18446744073709551615 (omega arith);
+    })
+
+pub returns-then-a-eq0 : goal.returns-then-a-eq0
+returns-then-a-eq0 c =
+    record {
+      answered = c.judge-a.ensures;
+      written = move_stored c.args.t c.args.config c.args.src.now c.args.dst.now (good (goal.at-returns-then-a-eq0 c).Then-a-eq0) 18446744073709551615 (total_most (good (goal.at-returns-then-a-eq0 c).Then-a-eq0)) c.outermost-row.ensures c.store_row.ensures.stored;
+    }
+
+pub returns-else-a-eq0 : goal.returns-else-a-eq0
+returns-else-a-eq0 c =
+    record {
+      answered = c.judge-a.ensures;
+      written = sym (moved_refused c.args.t c.args.config c.args.src.now c.args.dst.now (judged_stopped c.args.t c.args.config _ _ c.judge-a.ensures c.if-a-eq0.false));
+    }

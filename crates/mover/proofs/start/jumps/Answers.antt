@@ -1,0 +1,12 @@
+-- `mover::start::jumps` takes the coordinate, or the nearest that is kept. Assumes nothing.
+use Rattle.std.proofs.Common.{arith}
+use Rattle.mover.proofs.start.jumps.Goals as goal
+
+pub returns-then-c-x : goal.returns-then-c-x
+returns-then-c-x c = omega arith
+
+pub returns-then-c-x-2 : goal.returns-then-c-x-2
+returns-then-c-x-2 c = omega arith
+
+pub returns : goal.returns
+returns c = omega arith

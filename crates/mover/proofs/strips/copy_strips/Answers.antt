@@ -1,0 +1,94 @@
+use Rattle.std.proofs.Common.{◌≡◌, ℕ, ◌+◌, ◌-◌, ◌<◌, ◌≤◌, List, length, sym, refl, ap, ◌∙◌, arith}
+use Rattle.mover.specs.Private.Adding.{along}
+use Rattle.mover.specs.Private.Patches.{patch_copied, sixteenth_of, PatchFits, PatchReads}
+use Rattle.mover.proofs.Crossing.{length_rows}
+use Rattle.mover.proofs.Patched.{Rowed, some_rows, rows_start, rows_length, rows_more, rows_end, some_fit, some_read}
+use Rattle.mover.proofs.Stepping.{sixteenth_some, sixteen_on, far}
+use Rattle.mover.proofs.strips.copy_strips.Goals as goal
+use Rattle.mover.proofs.strips.copy_strips.Goals.{At-loop-k}
+
+-- how many rows a strip has
+abbrev rows : At-loop-k → ℕ
+rows l = l.before.before.sixteenth.result
+
+rows_are : (l : At-loop-k) → rows l ≡ sixteenth_of l.args.p.size
+rows_are l = l.sixteenth-n.ensures
+
+pub loop-k-init : goal.loop-k-init
+loop-k-init c =
+    rows_start c.args.origin c.args.src.now c.args.dst.now c.args.p (omega (arith, c.well_formed)) (omega (arith, c.well_formed))
+
+-- the next n rows
+module _ (l : At-loop-k) (n : ℕ) (h : l.loop-k.k + n ≤ l.args.p.rows) where
+  its-fit : PatchFits l.loop-k.dst (some_rows l.args.p l.loop-k.at l.loop-k.to n)
+  its-fit = let g = l.requires.1 in some_fit l.loop-k.invariant g.0 g.1 n h
+
+  its-read : PatchReads l.args.origin l.args.src.now l.loop-k.dst (some_rows l.args.p l.loop-k.at l.loop-k.to n)
+  its-read = let g = l.requires.1 in some_read l.loop-k.invariant g.0 g.1 n h
+
+  its-next : {at to : ℕ} {d : List ℕ} → d ≡ patch_copied l.args.origin l.args.src.now l.loop-k.dst (some_rows l.args.p l.loop-k.at l.loop-k.to n)
+      → at ≡ along l.loop-k.at l.args.p.row_jump n → to ≡ along l.loop-k.to l.args.p.row_stride n
+      → Rowed l.args.origin l.args.src.now l.args.dst.now l.args.p d at to (l.loop-k.k + n)
+  its-next e x y = let g = l.requires.1 in rows_more l.loop-k.invariant g.0 g.1 n h e x y
+
+within : (l : At-loop-k) → rows l ≤ l.args.p.rows - l.loop-k.k → l.loop-k.k + rows l ≤ l.args.p.rows
+within l h = omega (arith, h, l.loop-k.invariant.within)
+
+pub copy_strip-requires : goal.copy_strip-requires
+copy_strip-requires c =
+    let g = c.requires.turns in
+    let h = within (goal.at-copy_strip-requires c).At-loop-k c.loop-k-test.true in record {
+      tiled = record { turns = record { size = g.size; jump = g.jump; stride = g.stride }; rows = rows_are (goal.at-copy_strip-requires c).At-loop-k };
+      patch_fits = its-fit (goal.at-copy_strip-requires c).At-loop-k (rows (goal.at-copy_strip-requires c).At-loop-k) h;
+      patch_reads = its-read (goal.at-copy_strip-requires c).At-loop-k (rows (goal.at-copy_strip-requires c).At-loop-k) h;
+    }
+
+pub loop-k-preserved : goal.loop-k-preserved
+loop-k-preserved c =
+    let p = c.args.p in
+    let g = c.requires.turns in
+    its-next (goal.at-loop-k-preserved c).At-loop-k (rows (goal.at-loop-k-preserved c).At-loop-k) (within (goal.at-loop-k-preserved c).At-loop-k c.loop-k-test.true) c.copy_strip.ensures
+    (sixteen_on c.loop-k.at p.size p.row_jump c.requires.patch_fits.sized g.size g.jump c.wrapping_add_usize-at.ensures ∙ ap (along c.loop-k.at p.row_jump) (sym (rows_are (goal.at-loop-k-preserved c).At-loop-k)))
+    (far c.loop-k.to (sixteenth_of p.size) p.row_stride c.across-further.ensures c.wrapping_add_usize-to.ensures ∙ ap (along c.loop-k.to p.row_stride) (sym (rows_are (goal.at-loop-k-preserved c).At-loop-k)))
+
+rest : (l : At-loop-k) → l.loop-k.k < l.args.p.rows → l.loop-k.k + (l.args.p.rows - l.loop-k.k) ≤ l.args.p.rows
+rest l h = omega arith
+
+pub copy_rows-requires : goal.copy_rows-requires
+copy_rows-requires c =
+    let n = c.args.p.rows - c.loop-k.k in
+    let h = rest (goal.at-copy_rows-requires c).At-loop-k c.if-k-p.true in record {
+      patch_fits = its-fit (goal.at-copy_rows-requires c).At-loop-k n h;
+      patch_reads = its-read (goal.at-copy_rows-requires c).At-loop-k n h;
+    }
+
+whole : (l : At-loop-k) {d : List ℕ} {at to k : ℕ} → Rowed l.args.origin l.args.src.now l.args.dst.now l.args.p d at to k
+    → l.args.p.rows ≤ k → d ≡ patch_copied l.args.origin l.args.src.now l.args.dst.now l.args.p
+whole l r h = let g = l.requires.1 in rows_end r g.0 g.1 h
+
+pub returns-then-k-p : goal.returns-then-k-p
+returns-then-k-p c =
+    let n = c.args.p.rows - c.loop-k.k in
+    whole (goal.at-returns-then-k-p c).At-loop-k (its-next (goal.at-returns-then-k-p c).At-loop-k n (rest (goal.at-returns-then-k-p c).At-loop-k c.if-k-p.true) c.copy_rows.ensures refl refl) (omega arith)
+
+pub overflow_sub-p : goal.overflow_sub-p
+overflow_sub-p c = c.loop-k.invariant.within
+
+pub overflow_add-k : goal.overflow_add-k
+overflow_add-k c = omega (arith, within (goal.at-overflow_add-k c).At-loop-k c.loop-k-test.true, c.well_formed)
+
+pub loop-k-smaller : goal.loop-k-smaller
+loop-k-smaller c =
+    omega (arith, within (goal.at-loop-k-smaller c).At-loop-k c.loop-k-test.true, rows_are (goal.at-loop-k-smaller c).At-loop-k, sixteenth_some c.args.p.size)
+
+pub overflow_sub-p-then-k-p : goal.overflow_sub-p-then-k-p
+overflow_sub-p-then-k-p c = c.loop-k.invariant.within
+
+pub shape_of-dst-then-k-p : goal.shape_of-dst-then-k-p
+shape_of-dst-then-k-p c = ap length (returns-then-k-p c) ∙ length_rows _ _ _ _ _ _ _
+
+pub shape_of-dst-else-k-p : goal.shape_of-dst-else-k-p
+shape_of-dst-else-k-p c = let g = c.requires.1 in rows_length c.loop-k.invariant g.0 g.1
+
+pub returns-else-k-p : goal.returns-else-k-p
+returns-else-k-p c = whole (goal.at-returns-else-k-p c).At-loop-k c.loop-k.invariant c.if-k-p.false

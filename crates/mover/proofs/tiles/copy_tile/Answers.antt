@@ -1,0 +1,66 @@
+-- `mover::tiles::copy_tile` goes by the kind of tile. Assumes nothing.
+use Rattle.std.proofs.Common.{◌≡◌, ◌+◌, ◌^◌, ◌<◌, length, ap, ◌∙◌, subst, arith}
+use Rattle.mover.specs.declared.tiles.Tile.{Tile}
+use Rattle.mover.specs.Private.Patches.{Tiled, tile_columns}
+use Rattle.mover.proofs.Blocks.{rows_held}
+use Rattle.mover.proofs.Spreading.{length_split, length_merged, split_reads, split_writes, split_is, merged_reads, merged_writes, merged_is}
+use Rattle.mover.proofs.tiles.copy_tile.Goals as goal
+use Rattle.mover.proofs.tiles.copy_tile.Goals.{Start}
+
+long : (s : Start) → length s.args.src.now + length s.args.dst.now < 2 ^ 64
+long s = omega (arith, s.well_formed)
+
+-- what the kind of tile says
+told : (s : Start) {t : Tile} → s.args.tile ≡ t → Tiled t s.args.p × (s.args.p.columns ≡ tile_columns t s.args.p)
+told s e = subst (λ (t : Tile). Tiled t s.args.p × (s.args.p.columns ≡ tile_columns t s.args.p)) e s.requires.tiled
+
+pub copy_turned-requires : goal.copy_turned-requires
+copy_turned-requires c =
+    let told = c.requires.1 in record {
+      tiled = told (goal.at-copy_turned-requires c).Start c.enum_told-1.given.1;
+      patch_fits = told.0;
+      patch_reads = told.1;
+    }
+
+pub channels-t-requires : goal.channels-t-requires
+channels-t-requires c =
+    let k = told (goal.at-channels-t-requires c).Start c.enum_told-in-Split-1.given.1 in
+    let g = c.requires.1 in
+    split_reads g.0 g.1 (long (goal.at-channels-t-requires c).Start) (omega (arith, c.well_formed)) k.0 k.1
+
+pub copy_blocks-requires : goal.copy_blocks-requires
+copy_blocks-requires c =
+    let k = told (goal.at-copy_blocks-requires c).Start c.enum_told-in-Split-1.given.1 in
+    let g = c.requires.1 in
+    let l = ap length c.channels-t.ensures ∙ length_split _ _ in let told = rw c.rows_of.ensures
+    (rows_held (length c.channels-t.result) 32 3 (omega arith) (omega arith), split_writes g.0 g.1 (long (goal.at-copy_blocks-requires c).Start) (omega (arith, c.well_formed)) k.0 k.1) in record {
+      held = told.0;
+      held_2 = told.1;
+    }
+
+pub pixels-t-requires : goal.pixels-t-requires
+pixels-t-requires c =
+    let k = told (goal.at-pixels-t-requires c).Start c.enum_told-in-Merged-1.given.1 in
+    let g = c.requires.1 in
+    merged_reads g.0 g.1 (long (goal.at-pixels-t-requires c).Start) (omega (arith, c.well_formed)) k.0 k.1
+
+pub copy_block-requires : goal.copy_block-requires
+copy_block-requires c =
+    let k = told (goal.at-copy_block-requires c).Start c.enum_told-in-Merged-1.given.1 in
+    let g = c.requires.1 in
+    let l = ap length c.pixels-t.ensures ∙ length_merged _ _ _ in record {
+      n_in_bounds = omega arith;
+      n_in_bounds_2 = merged_writes g.0 g.1 (long (goal.at-copy_block-requires c).Start) (omega (arith, c.well_formed)) k.0 k.1;
+    }
+
+pub returns-in-Split : goal.returns-in-Split
+returns-in-Split c =
+    let k = told (goal.at-returns-in-Split c).Start c.enum_told-in-Split-1.given.1 in
+    let g = c.requires.1 in
+    split_is g.0 g.1 (long (goal.at-returns-in-Split c).Start) (omega (arith, c.well_formed)) k.0 k.1 c.channels-t.ensures (rw c.rows_of.ensures at c.copy_blocks.ensures)
+
+pub returns-in-Merged : goal.returns-in-Merged
+returns-in-Merged c =
+    let k = told (goal.at-returns-in-Merged c).Start c.enum_told-in-Merged-1.given.1 in
+    let g = c.requires.1 in
+    merged_is g.0 g.1 (long (goal.at-returns-in-Merged c).Start) (omega (arith, c.well_formed)) k.0 k.1 c.pixels-t.ensures c.copy_block.ensures

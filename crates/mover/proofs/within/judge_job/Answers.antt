@@ -1,0 +1,27 @@
+-- `mover::judge_job` tells a job's refusal, or how many elements it has. Assumes nothing.
+use Rattle.std.proofs.Common.{◌≡◌}
+use Rattle.plane.specs.Moves.{room_fault, accepted}
+use Rattle.mover.proofs.Making.{answer_fit}
+use Rattle.mover.proofs.Judged.{total_is, job_accepted, verdict_refused, verdict_given}
+use Rattle.mover.proofs.within.judge_job.Goals as goal
+use Rattle.mover.proofs.within.judge_job.Goals.{Else-a-ne0}
+
+pub returns-then-a-ne0 : goal.returns-then-a-ne0
+returns-then-a-ne0 c =
+    verdict_refused c.args.len c.args.job c.answer-a.ensures c.if-a-ne0.true
+
+-- past the check, the job's move is accepted
+taken : (c : Else-a-ne0) → let j = c.args.job in ((room_fault j.tensor j.config).status ≡ 0) × (c.answer-a.result ≡ accepted j.tensor j.config)
+taken c =
+    job_accepted c.args.len c.args.job c.answer-a.ensures c.if-a-ne0.false
+
+pub total-requires : goal.total-requires
+total-requires c =
+    let j = c.args.job in
+    let f = answer_fit j.tensor j.config (taken c).0 (taken c).1 in
+    (f.rank, f.extent)
+
+pub returns : goal.returns
+returns c =
+    verdict_given c.args.len c.args.job c.answer-a.ensures c.if-a-ne0.false
+    (total_is c.args.job.tensor c.args.job.config (taken (goal.at-returns c).Else-a-ne0).1 c.total.ensures)
