@@ -31,9 +31,9 @@ pub loop-k-preserved : goal.loop-k-preserved
 loop-k-preserved c =
     let l = c.loop-k in
     let a = c.args.c in
-    let e : c.copy_block.new.1.1.0 ≡ sets l.dst l.to (kept_bytes c.args.src.now a l.k) = c.copy_block.ensures ∙ rw l.invariant.1 in (
-      done_next l.invariant.0 c.loop-k-test.true c.wrapping_add_usize-to.ensures e,
-      c.wrapping_add_usize-at.ensures ∙ rw l.invariant.1 (along_next a.at a.jump l.k),
+    let e : c.copy_block.new.dst ≡ sets l.dst l.to (kept_bytes c.args.src.now a l.k) = c.copy_block.ensures ∙ rw l.invariant.1 in (
+      done_next l.invariant.0 c.loop-k-test.true c.wrapping_add_usize-to.ensures.value e,
+      c.wrapping_add_usize-at.ensures.value ∙ rw l.invariant.1 (along_next a.at a.jump l.k),
     )
 
 pub shape_of-dst : goal.shape_of-dst

@@ -10,11 +10,10 @@ use Rattle.mover.proofs.bands.move_band.Goals.{After-pad_patch, After-wrapping_a
 pub copy_patch-requires : goal.copy_patch-requires
 copy_patch-requires c =
     let x = c.args.plan.d3 in
-    let r = c.requires.banded in
     let w : x.count ≡ x.extent = c.if-x.true in
     let f : c.args.row.to < 2 ^ 64 = omega (arith, c.well_formed) in record {
-      patch_fits = part_fits r 0 c.patch.ensures (λ _. starts_at c.args.row.to x.stride f refl) (omega arith) refl;
-      patch_reads = part_reads r c.if-band.true c.patch.ensures (λ _. starts_at c.args.row.to x.stride f (omega (arith, r.axis.within))) (omega arith) refl;
+      patch_fits = part_fits c.requires.banded 0 c.patch.ensures (λ _. starts_at c.args.row.to x.stride f refl) (omega arith) refl;
+      patch_reads = part_reads c.requires.banded c.if-band.true c.patch.ensures (λ _. starts_at c.args.row.to x.stride f (omega (arith, c.requires.banded.axis.within))) (omega arith) refl;
     }
 
 pub returns-then-x : goal.returns-then-x
@@ -25,13 +24,12 @@ returns-then-x c =
 pub pad_patch-requires : goal.pad_patch-requires
 pad_patch-requires c =
     let x = c.args.plan.d3 in
-    let r = c.requires.banded in
-    part_fits r 0 c.patch-then-band.ensures (λ _. starts_at c.args.row.to x.stride (omega (arith, c.well_formed)) refl) (omega (arith, r.axis.within)) refl
+    part_fits c.requires.banded 0 c.patch-then-band.ensures (λ _. starts_at c.args.row.to x.stride (omega (arith, c.well_formed)) refl) (omega (arith, c.requires.banded.axis.within)) refl
 
 -- where what is kept begins
 kept_at : (c : After-wrapping_add_usize-first) → c.wrapping_add_usize-first.result ≡ along c.args.row.to c.args.plan.d3.stride c.args.plan.d3.pre
 kept_at c =
-    front_at c.requires.framed c.args.row.to c.wrapping_add_usize-first.ensures
+    front_at c.requires.framed c.args.row.to c.wrapping_add_usize-first.ensures.value
 
 first-length : (c : After-pad_patch) → length c.pad_patch.new.dst ≡ length c.args.dst.now
 first-length c =
@@ -39,9 +37,9 @@ first-length c =
 
 pub copy_patch-requires-then-band : goal.copy_patch-requires-then-band
 copy_patch-requires-then-band c =
-    let r = c.requires.banded in record {
-      patch_fits = part_fits r c.args.plan.d3.pre c.patch-then-band-2.ensures (λ _. kept_at (goal.at-copy_patch-requires-then-band c).After-wrapping_add_usize-first) r.axis.within (first-length (goal.at-copy_patch-requires-then-band c).After-pad_patch);
-      patch_reads = part_reads r c.if-band.true c.patch-then-band-2.ensures (λ _. kept_at (goal.at-copy_patch-requires-then-band c).After-wrapping_add_usize-first) (omega arith) (first-length (goal.at-copy_patch-requires-then-band c).After-pad_patch);
+    record {
+      patch_fits = part_fits c.requires.banded c.args.plan.d3.pre c.patch-then-band-2.ensures (λ _. kept_at (goal.at-copy_patch-requires-then-band c).After-wrapping_add_usize-first) c.requires.banded.axis.within (first-length (goal.at-copy_patch-requires-then-band c).After-pad_patch);
+      patch_reads = part_reads c.requires.banded c.if-band.true c.patch-then-band-2.ensures (λ _. kept_at (goal.at-copy_patch-requires-then-band c).After-wrapping_add_usize-first) (omega arith) (first-length (goal.at-copy_patch-requires-then-band c).After-pad_patch);
     }
 
 -- and where it ends
@@ -60,13 +58,12 @@ overflow_sub-x-then-band c =
 pub pad_patch-requires-then-band : goal.pad_patch-requires-then-band
 pad_patch-requires-then-band c =
     let x = c.args.plan.d3 in
-    let r = c.requires.banded in
-    part_fits r (x.pre + x.count) c.patch-then-band-3.ensures (λ g. rear_at c.requires.framed c.args.row.to c.wrapping_add_usize-rear.ensures (omega arith)) (omega (arith, r.axis.within))
+    part_fits c.requires.banded (x.pre + x.count) c.patch-then-band-3.ensures (λ g. rear_at c.requires.framed c.args.row.to c.wrapping_add_usize-rear.ensures.value (omega arith)) (omega (arith, c.requires.banded.axis.within))
     (copied_length c.args.origin c.args.src.now c.pad_patch.new.dst c.patch-then-band-2.result c.copy_patch-then-band.ensures ∙ first-length (goal.at-pad_patch-requires-then-band c).After-pad_patch)
 
 pub returns-then-band : goal.returns-then-band
 returns-then-band c =
-    band_parted c.requires.banded c.if-band.true (kept_at (goal.at-returns-then-band c).After-wrapping_add_usize-first) (rear_at c.requires.framed c.args.row.to c.wrapping_add_usize-rear.ensures)
+    band_parted c.requires.banded c.if-band.true (kept_at (goal.at-returns-then-band c).After-wrapping_add_usize-first) (rear_at c.requires.framed c.args.row.to c.wrapping_add_usize-rear.ensures.value)
     c.patch-then-band.ensures c.pad_patch.ensures c.patch-then-band-2.ensures c.copy_patch-then-band.ensures c.patch-then-band-3.ensures c.pad_patch-then-band.ensures
 
 -- where all of it is padding

@@ -14,7 +14,7 @@ block-a-requires c =
 
 pub overflow_add-at : goal.overflow_add-at
 overflow_add-at c =
-    omega (arith, block-a-requires c c.lifetimes, source_long c.args.origin c.args.src.now c.loop-k.dst, copied_length c.loop-k.invariant c.requires, c.well_formed)
+    omega (arith, block-a-requires c, source_long c.args.origin c.args.src.now c.loop-k.dst, copied_length c.loop-k.invariant c.requires, c.well_formed)
 
 pub write_block-requires : goal.write_block-requires
 write_block-requires c =

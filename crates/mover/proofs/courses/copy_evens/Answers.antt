@@ -37,7 +37,7 @@ overflow_add-k c =
 pub loop-k-preserved : goal.loop-k-preserved
 loop-k-preserved c =
     evened_more c.loop-k.invariant c.requires.writable c.requires.readable c.pairs_in-n.ensures.0 c.requires.evens (lies (goal.at-loop-k-preserved c).At-loop-k) (short-source (goal.at-loop-k-preserved c).At-loop-k) (short (goal.at-loop-k-preserved c).At-loop-k) (sixteen (goal.at-loop-k-preserved c).In-loop-k)
-    (c.write_sixteen.ensures ∙ ap (sets c.loop-k.dst c.loop-k.to) c.evens-a.ensures) c.wrapping_add_usize-at.ensures c.wrapping_add_usize-to.ensures
+    (c.write_sixteen.ensures ∙ ap (sets c.loop-k.dst c.loop-k.to) c.evens-a.ensures) c.wrapping_add_usize-at.ensures.value c.wrapping_add_usize-to.ensures.value
 
 pub copy_each-requires : goal.copy_each-requires
 copy_each-requires c =

@@ -2,7 +2,7 @@
 use Rattle.mover.proofs.courses.source_length.Goals as goal
 
 pub returns-in-Lent : goal.returns-in-Lent
-returns-in-Lent c = rw c.enum_told-1.given.1
+returns-in-Lent c = rw c.in-Lent.is
 
 pub returns-in-Inside : goal.returns-in-Inside
-returns-in-Inside c = rw c.enum_told-in-Inside-1.given.1
+returns-in-Inside c = rw c.in-Inside.is

@@ -40,8 +40,8 @@ loop-k-preserved c =
     c.copy.ensures ∙
     rw (l.invariant.1, l.invariant.0.bytes) (ap (sets (run_stored (kept_bytes v a) a.to a.stride l.k d) l.to)
     (run_keeps c.args.origin c.args.src.now d v a l.k c.requires.readable.parted c.loop-k-test.true)) in (
-      done_next l.invariant.0 c.loop-k-test.true c.wrapping_add_usize-to.ensures e,
-      c.wrapping_add_usize-at.ensures ∙ rw l.invariant.1 (along_next a.at a.jump l.k),
+      done_next l.invariant.0 c.loop-k-test.true c.wrapping_add_usize-to.ensures.value e,
+      c.wrapping_add_usize-at.ensures.value ∙ rw l.invariant.1 (along_next a.at a.jump l.k),
     )
 
 pub shape_of-dst : goal.shape_of-dst

@@ -24,7 +24,7 @@ loop-k-smaller c = omega (arith, c.loop-k-test.true)
 
 pub loop-k-preserved : goal.loop-k-preserved
 loop-k-preserved c =
-    done_next c.loop-k.invariant c.loop-k-test.true c.wrapping_add_usize-to.ensures c.pad.ensures
+    done_next c.loop-k.invariant c.loop-k-test.true c.wrapping_add_usize-to.ensures.value c.pad.ensures
 
 pub shape_of-dst : goal.shape_of-dst
 shape_of-dst c = done_length c.loop-k.invariant

@@ -46,9 +46,9 @@ outer c =
 
 pub begin-start-requires : goal.begin-start-requires
 begin-start-requires c =
-    let r = c.requires.ready in record {
-      good_axes = r.axes;
-      plan_bound = (r.reach, omega (arith, r.need, c.well_formed));
+    record {
+      good_axes = c.requires.ready.axes;
+      plan_bound = (c.requires.ready.reach, omega (arith, c.requires.ready.need, c.well_formed));
       from_bound = c.requires.from_bound;
     }
 

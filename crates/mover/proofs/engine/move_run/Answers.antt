@@ -4,6 +4,6 @@ use Rattle.mover.proofs.engine.move_run.Goals as goal
 pub returns : goal.returns
 returns c =
     let m = c.move_course-to in record {
-      next = rw m.ensures.0;
-      written = m.ensures.1;
+      next = rw m.ensures.next;
+      written = m.ensures.written;
     }

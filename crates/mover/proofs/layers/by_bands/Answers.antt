@@ -44,7 +44,7 @@ outer c =
 
 -- all places fit
 ends : (s : Start) → (reach_of s.args.plan < 2 ^ 64) × (place_end s.args.plan < 2 ^ 64)
-ends s = let r = s.requires.ready in (r.reach, omega (arith, r.need, s.well_formed))
+ends s = (s.requires.ready.reach, omega (arith, s.requires.ready.need, s.well_formed))
 
 pub begin-start-requires : goal.begin-start-requires
 begin-start-requires c =

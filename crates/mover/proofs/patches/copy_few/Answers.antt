@@ -15,7 +15,7 @@ copy_each-requires c =
 
 pub loop-i-preserved : goal.loop-i-preserved
 loop-i-preserved c =
-    rows_next c.loop-i.invariant c.requires.patch_fits c.requires.patch_reads c.loop-i-test.true (rw c.row.ensures at c.copy_each.ensures.written) c.wrapping_add_usize-at.ensures c.wrapping_add_usize-to.ensures
+    rows_next c.loop-i.invariant c.requires.patch_fits c.requires.patch_reads c.loop-i-test.true (rw c.row.ensures at c.copy_each.ensures.written) c.wrapping_add_usize-at.ensures.value c.wrapping_add_usize-to.ensures.value
 
 pub overflow_add-i : goal.overflow_add-i
 overflow_add-i c = omega (arith, c.loop-i-test.true, c.well_formed)

@@ -21,7 +21,7 @@ pub loop-i-preserved : goal.loop-i-preserved
 loop-i-preserved c =
     rows_next c.loop-i.invariant c.requires.patch_fits c.requires.patch_reads c.loop-i-test.true
     ((rw c.bytes-n.ensures at c.copy_sixteens.ensures) ∙ (row_block c.loop-i.invariant c.requires.patch_fits c.requires.patch_reads c.loop-i-test.true c.requires.lines.jump c.requires.lines.stride (omega (arith, c.well_formed))).copied)
-    c.wrapping_add_usize-at.ensures c.wrapping_add_usize-to.ensures
+    c.wrapping_add_usize-at.ensures.value c.wrapping_add_usize-to.ensures.value
 
 pub overflow_add-i : goal.overflow_add-i
 overflow_add-i c = omega (arith, c.loop-i-test.true, c.well_formed)

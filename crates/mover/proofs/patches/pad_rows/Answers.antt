@@ -11,7 +11,7 @@ pad_run-requires c =
 
 pub loop-i-preserved : goal.loop-i-preserved
 loop-i-preserved c =
-    pads_next c.loop-i.invariant c.requires c.args.p.at c.loop-i-test.true (rw c.row.ensures at c.pad_run.ensures.written) c.wrapping_add_usize-to.ensures
+    pads_next c.loop-i.invariant c.requires c.args.p.at c.loop-i-test.true (rw c.row.ensures at c.pad_run.ensures.written) c.wrapping_add_usize-to.ensures.value
 
 pub overflow_add-i : goal.overflow_add-i
 overflow_add-i c = omega (arith, c.loop-i-test.true, c.well_formed)

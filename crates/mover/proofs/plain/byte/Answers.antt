@@ -14,16 +14,16 @@ overflow_add-at c =
     record { fits = omega (arith, stands (goal.at-overflow_add-at c).Then-row, source_long c.args.row.origin c.args.src.now c.args.dst.now, c.well_formed) }
 
 pub bounds-src-at : goal.bounds-src-at
-bounds-src-at c = rw c.enum_told-1.given.1 at (stands (goal.at-bounds-src-at c).Then-row)
+bounds-src-at c = rw c.in-Lent.is at (stands (goal.at-bounds-src-at c).Then-row)
 
 pub bounds-dst-at : goal.bounds-dst-at
-bounds-dst-at c = rw c.enum_told-in-Inside-1.given.1 at (stands (goal.at-bounds-dst-at c).Then-row)
+bounds-dst-at c = rw c.in-Inside.is at (stands (goal.at-bounds-dst-at c).Then-row)
 
 pub returns-in-Lent : goal.returns-in-Lent
-returns-in-Lent c = rw (c.if-row.true, c.enum_told-1.given.1)
+returns-in-Lent c = rw (c.if-row.true, c.in-Lent.is)
 
 pub returns-in-Inside : goal.returns-in-Inside
-returns-in-Inside c = rw (c.if-row.true, c.enum_told-in-Inside-1.given.1)
+returns-in-Inside c = rw (c.if-row.true, c.in-Inside.is)
 
 pub returns-else-row : goal.returns-else-row
 returns-else-row c = rw c.if-row.false

@@ -7,7 +7,7 @@ pub returns-then-goes_down : goal.returns-then-goes_down
 returns-then-goes_down c =
     let j = c.args.jump in
     let e = sym c.goes_down.ensures ∙ c.if-goes_down.true in
-    rw (length_down j e) (omega (arith, c.wrapping_sub_usize.ensures, leb-true (2 ^ 63) j e))
+    rw (length_down j e) (omega (arith, c.wrapping_sub_usize.ensures.value, leb-true (2 ^ 63) j e))
 
 pub returns : goal.returns
 returns c =

@@ -40,10 +40,7 @@ by_runs-requires c =
 
 pub returns-then-is_short : goal.returns-then-is_short
 returns-then-is_short c =
-    let told = c.by_runs.ensures in record {
-      counted = told.0;
-      written = told.1;
-    }
+    record { counted = c.by_runs.ensures.counted; written = c.by_runs.ensures.written }
 
 pub folded-p-requires : goal.folded-p-requires
 folded-p-requires c = ready_foldable c.requires.ready

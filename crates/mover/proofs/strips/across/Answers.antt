@@ -18,14 +18,14 @@ once j g = g ∙ ap (λ (y : ℕ). y % 2 ^ 64) (omega arith)
 
 pub returns-then-size-eq4 : goal.returns-then-size-eq4
 returns-then-size-eq4 c =
-    rw (eq-eqb c.args.size 4 c.if-size-eq4.true) (twice 2 c.args.j (once c.args.j c.wrapping_add_usize-two.ensures) c.wrapping_add_usize-four.ensures)
+    rw (eq-eqb c.args.size 4 c.if-size-eq4.true) (twice 2 c.args.j (once c.args.j c.wrapping_add_usize-two.ensures.value) c.wrapping_add_usize-four.ensures.value)
 
 pub returns-then-size-eq2 : goal.returns-then-size-eq2
 returns-then-size-eq2 c =
     rw (ne_eqb c.args.size 4 c.if-size-eq4.false, eq-eqb c.args.size 2 c.if-size-eq2.true)
-    (twice 4 c.args.j (twice 2 c.args.j (once c.args.j c.wrapping_add_usize-two.ensures) c.wrapping_add_usize-four.ensures) c.wrapping_add_usize-eight.ensures)
+    (twice 4 c.args.j (twice 2 c.args.j (once c.args.j c.wrapping_add_usize-two.ensures.value) c.wrapping_add_usize-four.ensures.value) c.wrapping_add_usize-eight.ensures.value)
 
 pub returns : goal.returns
 returns c =
     rw (ne_eqb c.args.size 4 c.if-size-eq4.false, ne_eqb c.args.size 2 c.if-size-eq2.false)
-    (twice 8 c.args.j (twice 4 c.args.j (twice 2 c.args.j (once c.args.j c.wrapping_add_usize-two.ensures) c.wrapping_add_usize-four.ensures) c.wrapping_add_usize-eight.ensures) c.wrapping_add_usize.ensures)
+    (twice 8 c.args.j (twice 4 c.args.j (twice 2 c.args.j (once c.args.j c.wrapping_add_usize-two.ensures.value) c.wrapping_add_usize-four.ensures.value) c.wrapping_add_usize-eight.ensures.value) c.wrapping_add_usize.ensures.value)

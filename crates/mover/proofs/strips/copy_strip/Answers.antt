@@ -21,17 +21,16 @@ loop-k-init c =
 -- the next n columns, as rows
 module _ (l : At-loop-k) (n : ℕ) (h : l.loop-k.k + n ≤ l.args.p.columns) where
   its-fit : PatchFits l.loop-k.dst (some_rows (swapped_of l.args.p) l.loop-k.at l.loop-k.to n)
-  its-fit = let g = l.requires.1 in some_fit l.loop-k.invariant (swap_fits g.0) (swap_reads g.1) n h
+  its-fit = some_fit l.loop-k.invariant (swap_fits l.requires.patch_fits) (swap_reads l.requires.patch_reads) n h
 
   its-read : PatchReads l.args.origin l.args.src.now l.loop-k.dst (some_rows (swapped_of l.args.p) l.loop-k.at l.loop-k.to n)
-  its-read = let g = l.requires.1 in some_read l.loop-k.invariant (swap_fits g.0) (swap_reads g.1) n h
+  its-read = some_read l.loop-k.invariant (swap_fits l.requires.patch_fits) (swap_reads l.requires.patch_reads) n h
 
   its-next : {at to : ℕ} {d : List ℕ} → d ≡ patch_copied l.args.origin l.args.src.now l.loop-k.dst (some_columns l.args.p l.loop-k.at l.loop-k.to n)
       → at ≡ along l.loop-k.at l.args.p.jump n → to ≡ along l.loop-k.to l.args.p.stride n
       → Rowed l.args.origin l.args.src.now l.args.dst.now (swapped_of l.args.p) d at to (l.loop-k.k + n)
   its-next e x y =
-      let g = l.requires.1 in
-      rows_more l.loop-k.invariant (swap_fits g.0) (swap_reads g.1) n h (e ∙ swap_copied l.args.origin l.args.src.now its-fit) x y
+      rows_more l.loop-k.invariant (swap_fits l.requires.patch_fits) (swap_reads l.requires.patch_reads) n h (e ∙ swap_copied l.args.origin l.args.src.now its-fit) x y
 
 within : (l : At-loop-k) → l.step_of-s.result.columns ≤ l.args.p.columns - l.loop-k.k → l.loop-k.k + l.step_of-s.result.columns ≤ l.args.p.columns
 within l h = omega (arith, h, l.loop-k.invariant.within)
@@ -50,8 +49,8 @@ loop-k-preserved c =
     let n = c.step_of-s.result.columns in
     let z = c.requires.patch_fits.sized in
     its-next (goal.at-loop-k-preserved c).At-loop-k n (within (goal.at-loop-k-preserved c).At-loop-k c.loop-k-test.true) c.copy_tile.ensures
-    (tile_home c.args.tile c.args.p z c.requires.tiled c.loop-k.at (rw (step_is (goal.at-loop-k-preserved c).At-loop-k) at c.wrapping_add_usize-at.ensures) ∙ ap (along c.loop-k.at c.args.p.jump) (sym (columns-is (goal.at-loop-k-preserved c).At-loop-k)))
-    (tile_place c.args.tile c.args.p z c.requires.tiled c.loop-k.to (rw (step_is (goal.at-loop-k-preserved c).At-loop-k) at c.wrapping_add_usize-to.ensures) ∙ ap (along c.loop-k.to c.args.p.stride) (sym (columns-is (goal.at-loop-k-preserved c).At-loop-k)))
+    (tile_home c.args.tile c.args.p z c.requires.tiled c.loop-k.at (rw (step_is (goal.at-loop-k-preserved c).At-loop-k) at c.wrapping_add_usize-at.ensures.value) ∙ ap (along c.loop-k.at c.args.p.jump) (sym (columns-is (goal.at-loop-k-preserved c).At-loop-k)))
+    (tile_place c.args.tile c.args.p z c.requires.tiled c.loop-k.to (rw (step_is (goal.at-loop-k-preserved c).At-loop-k) at c.wrapping_add_usize-to.ensures.value) ∙ ap (along c.loop-k.to c.args.p.stride) (sym (columns-is (goal.at-loop-k-preserved c).At-loop-k)))
 
 rest : (l : At-loop-k) → l.loop-k.k < l.args.p.columns → l.loop-k.k + (l.args.p.columns - l.loop-k.k) ≤ l.args.p.columns
 rest l h = omega arith
@@ -68,8 +67,7 @@ copy_rows-requires c =
 whole : (l : At-loop-k) {d : List ℕ} {at to k : ℕ} → Rowed l.args.origin l.args.src.now l.args.dst.now (swapped_of l.args.p) d at to k
     → l.args.p.columns ≤ k → d ≡ patch_copied l.args.origin l.args.src.now l.args.dst.now l.args.p
 whole l r h =
-    let g = l.requires.1 in
-    rows_end r (swap_fits g.0) (swap_reads g.1) h ∙ swap_copied l.args.origin l.args.src.now g.0
+    rows_end r (swap_fits l.requires.patch_fits) (swap_reads l.requires.patch_reads) h ∙ swap_copied l.args.origin l.args.src.now l.requires.patch_fits
 
 pub returns-then-k-p : goal.returns-then-k-p
 returns-then-k-p c =
@@ -93,7 +91,7 @@ pub shape_of-dst-then-k-p : goal.shape_of-dst-then-k-p
 shape_of-dst-then-k-p c = ap length (returns-then-k-p c) ∙ length_rows _ _ _ _ _ _ _
 
 pub shape_of-dst-else-k-p : goal.shape_of-dst-else-k-p
-shape_of-dst-else-k-p c = let g = c.requires.1 in rows_length c.loop-k.invariant (swap_fits g.0) (swap_reads g.1)
+shape_of-dst-else-k-p c = rows_length c.loop-k.invariant (swap_fits c.requires.patch_fits) (swap_reads c.requires.patch_reads)
 
 pub returns-else-k-p : goal.returns-else-k-p
 returns-else-k-p c = whole (goal.at-returns-else-k-p c).At-loop-k c.loop-k.invariant c.if-k-p.false

@@ -21,24 +21,23 @@ loop-k-init c =
 -- the next n rows
 module _ (l : At-loop-k) (n : ℕ) (h : l.loop-k.k + n ≤ l.args.p.rows) where
   its-fit : PatchFits l.loop-k.dst (some_rows l.args.p l.loop-k.at l.loop-k.to n)
-  its-fit = let g = l.requires.1 in some_fit l.loop-k.invariant g.0 g.1 n h
+  its-fit = some_fit l.loop-k.invariant l.requires.patch_fits l.requires.patch_reads n h
 
   its-read : PatchReads l.args.origin l.args.src.now l.loop-k.dst (some_rows l.args.p l.loop-k.at l.loop-k.to n)
-  its-read = let g = l.requires.1 in some_read l.loop-k.invariant g.0 g.1 n h
+  its-read = some_read l.loop-k.invariant l.requires.patch_fits l.requires.patch_reads n h
 
   its-next : {at to : ℕ} {d : List ℕ} → d ≡ patch_copied l.args.origin l.args.src.now l.loop-k.dst (some_rows l.args.p l.loop-k.at l.loop-k.to n)
       → at ≡ along l.loop-k.at l.args.p.row_jump n → to ≡ along l.loop-k.to l.args.p.row_stride n
       → Rowed l.args.origin l.args.src.now l.args.dst.now l.args.p d at to (l.loop-k.k + n)
-  its-next e x y = let g = l.requires.1 in rows_more l.loop-k.invariant g.0 g.1 n h e x y
+  its-next e x y = rows_more l.loop-k.invariant l.requires.patch_fits l.requires.patch_reads n h e x y
 
 within : (l : At-loop-k) → rows l ≤ l.args.p.rows - l.loop-k.k → l.loop-k.k + rows l ≤ l.args.p.rows
 within l h = omega (arith, h, l.loop-k.invariant.within)
 
 pub copy_strip-requires : goal.copy_strip-requires
 copy_strip-requires c =
-    let g = c.requires.turns in
     let h = within (goal.at-copy_strip-requires c).At-loop-k c.loop-k-test.true in record {
-      tiled = record { turns = record { size = g.size; jump = g.jump; stride = g.stride }; rows = rows_are (goal.at-copy_strip-requires c).At-loop-k };
+      tiled = record { turns = record { size = c.requires.turns.size; jump = c.requires.turns.jump; stride = c.requires.turns.stride }; rows = rows_are (goal.at-copy_strip-requires c).At-loop-k };
       patch_fits = its-fit (goal.at-copy_strip-requires c).At-loop-k (rows (goal.at-copy_strip-requires c).At-loop-k) h;
       patch_reads = its-read (goal.at-copy_strip-requires c).At-loop-k (rows (goal.at-copy_strip-requires c).At-loop-k) h;
     }
@@ -46,10 +45,9 @@ copy_strip-requires c =
 pub loop-k-preserved : goal.loop-k-preserved
 loop-k-preserved c =
     let p = c.args.p in
-    let g = c.requires.turns in
     its-next (goal.at-loop-k-preserved c).At-loop-k (rows (goal.at-loop-k-preserved c).At-loop-k) (within (goal.at-loop-k-preserved c).At-loop-k c.loop-k-test.true) c.copy_strip.ensures
-    (sixteen_on c.loop-k.at p.size p.row_jump c.requires.patch_fits.sized g.size g.jump c.wrapping_add_usize-at.ensures ∙ ap (along c.loop-k.at p.row_jump) (sym (rows_are (goal.at-loop-k-preserved c).At-loop-k)))
-    (far c.loop-k.to (sixteenth_of p.size) p.row_stride c.across-further.ensures c.wrapping_add_usize-to.ensures ∙ ap (along c.loop-k.to p.row_stride) (sym (rows_are (goal.at-loop-k-preserved c).At-loop-k)))
+    (sixteen_on c.loop-k.at p.size p.row_jump c.requires.patch_fits.sized c.requires.turns.size c.requires.turns.jump c.wrapping_add_usize-at.ensures.value ∙ ap (along c.loop-k.at p.row_jump) (sym (rows_are (goal.at-loop-k-preserved c).At-loop-k)))
+    (far c.loop-k.to (sixteenth_of p.size) p.row_stride c.across-further.ensures c.wrapping_add_usize-to.ensures.value ∙ ap (along c.loop-k.to p.row_stride) (sym (rows_are (goal.at-loop-k-preserved c).At-loop-k)))
 
 rest : (l : At-loop-k) → l.loop-k.k < l.args.p.rows → l.loop-k.k + (l.args.p.rows - l.loop-k.k) ≤ l.args.p.rows
 rest l h = omega arith
@@ -64,7 +62,7 @@ copy_rows-requires c =
 
 whole : (l : At-loop-k) {d : List ℕ} {at to k : ℕ} → Rowed l.args.origin l.args.src.now l.args.dst.now l.args.p d at to k
     → l.args.p.rows ≤ k → d ≡ patch_copied l.args.origin l.args.src.now l.args.dst.now l.args.p
-whole l r h = let g = l.requires.1 in rows_end r g.0 g.1 h
+whole l r h = rows_end r l.requires.patch_fits l.requires.patch_reads h
 
 pub returns-then-k-p : goal.returns-then-k-p
 returns-then-k-p c =
@@ -88,7 +86,7 @@ pub shape_of-dst-then-k-p : goal.shape_of-dst-then-k-p
 shape_of-dst-then-k-p c = ap length (returns-then-k-p c) ∙ length_rows _ _ _ _ _ _ _
 
 pub shape_of-dst-else-k-p : goal.shape_of-dst-else-k-p
-shape_of-dst-else-k-p c = let g = c.requires.1 in rows_length c.loop-k.invariant g.0 g.1
+shape_of-dst-else-k-p c = rows_length c.loop-k.invariant c.requires.patch_fits c.requires.patch_reads
 
 pub returns-else-k-p : goal.returns-else-k-p
 returns-else-k-p c = whole (goal.at-returns-else-k-p c).At-loop-k c.loop-k.invariant c.if-k-p.false

@@ -9,8 +9,8 @@ returns-then-a-ne0 c =
 pub slice_bounds-result-count-2 : goal.slice_bounds-result-count-2
 slice_bounds-result-count-2 c = part_within _ _ c.args.src.now c.sub_tensor-a.ensures c.if-a-ne0.false
 
-pub UNKNOWN-slice-bounds-result-start-2 : goal.UNKNOWN-slice-bounds-result-start-2
-UNKNOWN-slice-bounds-result-start-2 c = part_within _ _ c.before.before.before.before.args.src.now c.before.before.sub-tensor.ensures c.if1.false
+pub slice_bounds-result-start-2 : goal.slice_bounds-result-start-2
+slice_bounds-result-start-2 c = part_within _ _ c.args.src.now c.sub_tensor-a.ensures c.if-a-ne0.false
 
 pub returns : goal.returns
 returns c =

@@ -16,51 +16,45 @@ told s e = subst (λ (t : Tile). Tiled t s.args.p × (s.args.p.columns ≡ tile_
 
 pub copy_turned-requires : goal.copy_turned-requires
 copy_turned-requires c =
-    let told = c.requires.1 in record {
-      tiled = told (goal.at-copy_turned-requires c).Start c.enum_told-1.given.1;
-      patch_fits = told.0;
-      patch_reads = told.1;
+    record {
+      tiled = c.requires.1 (goal.at-copy_turned-requires c).Start c.in-Turned.is;
+      patch_fits = c.requires.patch_fits;
+      patch_reads = c.requires.patch_reads;
     }
 
 pub channels-t-requires : goal.channels-t-requires
 channels-t-requires c =
-    let k = told (goal.at-channels-t-requires c).Start c.enum_told-in-Split-1.given.1 in
-    let g = c.requires.1 in
-    split_reads g.0 g.1 (long (goal.at-channels-t-requires c).Start) (omega (arith, c.well_formed)) k.0 k.1
+    let k = told (goal.at-channels-t-requires c).Start c.in-Split.is in
+    split_reads c.requires.patch_fits c.requires.patch_reads (long (goal.at-channels-t-requires c).Start) (omega (arith, c.well_formed)) k.0 k.1
 
 pub copy_blocks-requires : goal.copy_blocks-requires
 copy_blocks-requires c =
-    let k = told (goal.at-copy_blocks-requires c).Start c.enum_told-in-Split-1.given.1 in
-    let g = c.requires.1 in
+    let k = told (goal.at-copy_blocks-requires c).Start c.in-Split.is in
     let l = ap length c.channels-t.ensures ∙ length_split _ _ in let told = rw c.rows_of.ensures
-    (rows_held (length c.channels-t.result) 32 3 (omega arith) (omega arith), split_writes g.0 g.1 (long (goal.at-copy_blocks-requires c).Start) (omega (arith, c.well_formed)) k.0 k.1) in record {
+    (rows_held (length c.channels-t.result) 32 3 (omega arith) (omega arith), split_writes c.requires.patch_fits c.requires.patch_reads (long (goal.at-copy_blocks-requires c).Start) (omega (arith, c.well_formed)) k.0 k.1) in record {
       held = told.0;
       held_2 = told.1;
     }
 
 pub pixels-t-requires : goal.pixels-t-requires
 pixels-t-requires c =
-    let k = told (goal.at-pixels-t-requires c).Start c.enum_told-in-Merged-1.given.1 in
-    let g = c.requires.1 in
-    merged_reads g.0 g.1 (long (goal.at-pixels-t-requires c).Start) (omega (arith, c.well_formed)) k.0 k.1
+    let k = told (goal.at-pixels-t-requires c).Start c.in-Merged.is in
+    merged_reads c.requires.patch_fits c.requires.patch_reads (long (goal.at-pixels-t-requires c).Start) (omega (arith, c.well_formed)) k.0 k.1
 
 pub copy_block-requires : goal.copy_block-requires
 copy_block-requires c =
-    let k = told (goal.at-copy_block-requires c).Start c.enum_told-in-Merged-1.given.1 in
-    let g = c.requires.1 in
+    let k = told (goal.at-copy_block-requires c).Start c.in-Merged.is in
     let l = ap length c.pixels-t.ensures ∙ length_merged _ _ _ in record {
       n_in_bounds = omega arith;
-      n_in_bounds_2 = merged_writes g.0 g.1 (long (goal.at-copy_block-requires c).Start) (omega (arith, c.well_formed)) k.0 k.1;
+      n_in_bounds_2 = merged_writes c.requires.patch_fits c.requires.patch_reads (long (goal.at-copy_block-requires c).Start) (omega (arith, c.well_formed)) k.0 k.1;
     }
 
 pub returns-in-Split : goal.returns-in-Split
 returns-in-Split c =
-    let k = told (goal.at-returns-in-Split c).Start c.enum_told-in-Split-1.given.1 in
-    let g = c.requires.1 in
-    split_is g.0 g.1 (long (goal.at-returns-in-Split c).Start) (omega (arith, c.well_formed)) k.0 k.1 c.channels-t.ensures (rw c.rows_of.ensures at c.copy_blocks.ensures)
+    let k = told (goal.at-returns-in-Split c).Start c.in-Split.is in
+    split_is c.requires.patch_fits c.requires.patch_reads (long (goal.at-returns-in-Split c).Start) (omega (arith, c.well_formed)) k.0 k.1 c.channels-t.ensures (rw c.rows_of.ensures at c.copy_blocks.ensures)
 
 pub returns-in-Merged : goal.returns-in-Merged
 returns-in-Merged c =
-    let k = told (goal.at-returns-in-Merged c).Start c.enum_told-in-Merged-1.given.1 in
-    let g = c.requires.1 in
-    merged_is g.0 g.1 (long (goal.at-returns-in-Merged c).Start) (omega (arith, c.well_formed)) k.0 k.1 c.pixels-t.ensures c.copy_block.ensures
+    let k = told (goal.at-returns-in-Merged c).Start c.in-Merged.is in
+    merged_is c.requires.patch_fits c.requires.patch_reads (long (goal.at-returns-in-Merged c).Start) (omega (arith, c.well_formed)) k.0 k.1 c.pixels-t.ensures c.copy_block.ensures

@@ -2,13 +2,13 @@
 use Rattle.mover.proofs.tiles.pixels.Goals as goal
 
 pub merge-requires : goal.merge-requires
-merge-requires c = rw c.enum_told-1.given.1 at c.requires
+merge-requires c = rw c.in-Lent.is at c.requires
 
 pub merge-requires-in-Inside : goal.merge-requires-in-Inside
-merge-requires-in-Inside c = rw c.enum_told-in-Inside-1.given.1 at c.requires
+merge-requires-in-Inside c = rw c.in-Inside.is at c.requires
 
 pub returns-in-Lent : goal.returns-in-Lent
-returns-in-Lent c = rw c.enum_told-1.given.1 c.merge.ensures
+returns-in-Lent c = rw c.in-Lent.is c.merge.ensures
 
 pub returns-in-Inside : goal.returns-in-Inside
-returns-in-Inside c = rw c.enum_told-in-Inside-1.given.1 c.merge-in-Inside.ensures
+returns-in-Inside c = rw c.in-Inside.is c.merge-in-Inside.ensures

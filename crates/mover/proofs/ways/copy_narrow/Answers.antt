@@ -5,10 +5,10 @@ use Rattle.mover.proofs.ways.copy_narrow.Goals as goal
 
 pub copy_strip-requires : goal.copy_strip-requires
 copy_strip-requires c =
-    let told = rw c.swapped-columns.ensures (swap_fits c.requires.patch_fits, swap_reads c.requires.patch_reads) in record {
+    record {
       tiled = c.is_merged.ensures c.if-is_merged.true;
-      patch_fits = told.0;
-      patch_reads = told.1;
+      patch_fits = rw c.swapped-columns.ensures (swap_fits c.requires.patch_fits);
+      patch_reads = rw c.swapped-columns.ensures (swap_reads c.requires.patch_reads);
     }
 
 pub returns-then-is_merged : goal.returns-then-is_merged

@@ -8,13 +8,13 @@ use Rattle.record.proofs.writer.put_head.Goals.{After-slice_known-2-1}
 
 -- the room keeps its length
 kept : (c : After-slice_known-2-1) → length c.put_half.new.room ≡ length c.args.room.now
-kept c = c.put_half.auto.0 ∙ simp length-set
+kept c = c.put_half.auto.room ∙ simp length-set
 
 pub bounds-room-6 : goal.bounds-room-6
 bounds-room-6 c = let k = kept c in simp length-set (omega arith)
 
 pub shape_of-room : goal.shape_of-room
-shape_of-room c = simp length-set (c.put_half.auto.0 ∙ simp length-set)
+shape_of-room c = simp length-set (c.put_half.auto.room ∙ simp length-set)
 
 pub returns : goal.returns
 unfolding little
