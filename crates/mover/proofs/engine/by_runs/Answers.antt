@@ -1,29 +1,19 @@
-use Rattle.std.proofs.Common.{◌≡◌, ℕ, ◌+◌, ◌-◌, ◌^◌, ◌<◌, Bool, ◌&&◌, List, length, ap, ◌∙◌, ⊎_elim, pos_of_ne-zero, arith}
-use Rattle.mover.specs.declared.spots.Spots.{Spots}
+use Rattle.std.proofs.Common.{◌≡◌, ℕ, ◌+◌, ◌-◌, ◌^◌, ◌<◌, Bool, ◌&&◌, List, length, ap, ◌∙◌, pos_of_ne-zero, arith}
 use Rattle.mover.specs.Private.Elements.{axis_kept}
 use Rattle.mover.specs.Private.Ready.{Ready, InExtents}
 use Rattle.mover.proofs.Turns.{At, Over, start, run_writes, run_reads, turn, next_row_lem, next_layer_lem, next_slab_lem, at_spent, at_end, at_length, at_ready}
 use Rattle.mover.proofs.engine.by_runs.Goals as goal
-use Rattle.mover.proofs.engine.by_runs.Goals.{At-all, At-loop-c1, At-loop-c2, At-loop-c3, In-loop-c3, Left-all, Start}
+use Rattle.mover.proofs.engine.by_runs.Goals.{At-all, At-loop-c1, At-loop-c2, At-loop-c3, In-loop-c3, Left-all, Start, else-all-test, then-all-test+then-loop-c1-test+then-loop-c2-test+then-loop-c3-test+then-left-eq0}
 
--- where the loops stand, from the destination that the function began with
-abbrev Now : Start → List ℕ → ℕ → ℕ → ℕ → ℕ → ℕ → Spots → Type 0
-Now s d c0 c1 c2 c3 left spots =
-    At s.args.origin s.args.plan s.args.src.now s.args.dst.now s.args.from s.args.budget d c0 c1 c2 c3 left spots
-
-at_all : (c : At-all) → let a = c.all in Now c.before.before.before.before.before.before a.dst a.c0 a.c1 a.c2 a.c3 a.left a.spots
-at_all c =
-    c.all.invariant c.args.dst.now
-    (start c.args.origin c.args.plan c.args.src.now c.args.dst.now c.args.from c.args.budget c.requires.ready c.requires.from_bound c.begin-start.ensures)
-
-at-loop : (c : At-loop-c1) → let a = c.loop-c1 in Now c.before.before.before.before.before.before.before.before.before.before.before a.dst c.all.c0 a.c1 a.c2 a.c3 a.left a.spots
-at-loop c = c.loop-c1.invariant c.args.dst.now (at_all c.before.before.before.before.before.before)
-
-at-loop2 : (c : At-loop-c2) → let a = c.loop-c2 in Now c.before.before.before.before.before.before.before.before.before.before.before.before.before.before.before.before a.dst c.all.c0 c.loop-c1.c1 a.c2 a.c3 a.left a.spots
-at-loop2 c = c.loop-c2.invariant c.args.dst.now (at-loop c.before.before.before.before.before.before)
-
-at-loop3 : (c : At-loop-c3) → let a = c.loop-c3 in Now c.before.before.before.before.before.before.before.before.before.before.before.before.before.before.before.before.before.before.before.before.before a.dst c.all.c0 c.loop-c1.c1 c.loop-c2.c2 a.c3 a.left a.spots
-at-loop3 c = c.loop-c3.invariant c.args.dst.now (at-loop2 c.before.before.before.before.before.before)
+-- where the innermost loop stands, from the destination that the function began with
+at-loop3 : (c : At-loop-c3) → let a = c.loop-c3 in
+    At c.args.origin c.args.plan c.args.src.now c.args.dst.now c.args.from c.args.budget a.dst c.all.c0 c.loop-c1.c1 c.loop-c2.c2 a.c3 a.left a.spots
+at-loop3 c =
+    c.loop-c3.invariant c.args.dst.now
+    (c.loop-c2.invariant c.args.dst.now
+    (c.loop-c1.invariant c.args.dst.now
+    (c.all.invariant c.args.dst.now
+    (start c.args.origin c.args.plan c.args.src.now c.args.dst.now c.args.from c.args.budget c.requires.ready c.requires.from_bound c.begin-start.ensures))))
 
 -- in the innermost loop the coordinates are those of an element, and what a run asks holds
 within : (c : In-loop-c3) → InExtents c.args.plan c.all.c0 c.loop-c1.c1 c.loop-c2.c2 c.loop-c3.c3
@@ -77,7 +67,7 @@ loop-c3-smaller c =
 
 pub loop-c3-preserved : goal.loop-c3-preserved
 loop-c3-preserved c =
-    λ d₀ a. turn (c.loop-c3.invariant d₀ a) (ready (goal.at-loop-c3-preserved c).At-loop-c3) (long (goal.at-loop-c3-preserved c).At-loop-c3) (within (goal.at-loop-c3-preserved c).In-loop-c3) (outer (goal.at-loop-c3-preserved c).At-loop-c3) c.run_at-run.ensures c.move_run-spots.ensures
+    λ d₀ a. turn (c.loop-c3.invariant d₀ a) (ready (goal.at-loop-c3-preserved c).At-loop-c3) (long (goal.at-loop-c3-preserved c).At-loop-c3) (within (goal.at-loop-c3-preserved c).In-loop-c3) (outer (goal.at-loop-c3-preserved c).At-loop-c3) c.run_at-run.ensures (c.move_run-spots.ensures.next, c.move_run-spots.ensures.written)
 
 pub loop-c2-preserved : goal.loop-c2-preserved
 loop-c2-preserved c =
@@ -92,16 +82,16 @@ all-preserved c =
     λ d₀ a. next_slab_lem (c.loop-c1.invariant d₀ (c.all.invariant d₀ a)) c.loop-c1-test.false c.next_slab-spots.ensures
 
 -- where the ways out of the loops meet: at the end of the outermost, and by the label
-over : (c : Left-all) → Over c.args.origin c.args.plan c.args.src.now c.args.dst.now c.args.from c.args.budget c.all-test.dst c.all-test.false
+over : (c : Left-all) → Over c.args.origin c.args.plan c.args.src.now c.args.dst.now c.args.from c.args.budget c.all-test.dst c.all-test.left
 over c =
-    ⊎_elim
-    (λ w. rw (w.1, w.5) (at_end (at_all (goal.at-overflow_sub-result c).At-all) w.0.left))
-    (λ w.
-    let l1 : At-loop-c1 = record { before = record { before = record { before = (goal.at-overflow_sub-result c).After-struct_known-1; if1 = w.0 }; kept = w.1 }; loop = w.2 } in
-    let l2 : At-loop-c2 = record { before = record { before = record { before = record { before = l1; struct-known2 = w.3 }; if2 = w.4 }; kept2 = w.5 }; loop2 = w.6 } in
-    let l3 : At-loop-c3 = record { before = record { before = record { before = record { before = l2; struct-known3 = w.7 }; if3 = w.8 }; kept3 = w.9 }; loop3 = w.10 } in
-    rw (w.14, w.18) (at_spent (at-loop3 l3) w.13.taken))
-    c.all-test.branch
+    let at_all = c.all.invariant c.args.dst.now
+        (start c.args.origin c.args.plan c.args.src.now c.args.dst.now c.args.from c.args.budget c.requires.ready c.requires.from_bound c.begin-start.ensures) in
+    elim c.all-test.branch [
+      | else-all-test w ↦ rw (w.dst-is, w.left-is) (at_end at_all w.all-test.false)
+      | then-all-test+then-loop-c1-test+then-loop-c2-test+then-loop-c3-test+then-left-eq0 w ↦
+          rw (w.dst-is, w.left-is)
+          (at_spent (w.loop-c3.invariant c.args.dst.now (w.loop-c2.invariant c.args.dst.now (w.loop-c1.invariant c.args.dst.now at_all))) w.if-left-eq0.true)
+    ]
 
 pub all-init : goal.all-init
 all-init c d a = a

@@ -1,5 +1,4 @@
-use Rattle.std.proofs.Common.{◌≡◌, ℕ, ◌+◌, ◌-◌, ◌^◌, ◌<◌, ◌≤◌, Bool, ◌&&◌, List, length, ap, ◌∙◌, ⊎_elim, pos_of_ne-zero, arith}
-use Rattle.mover.specs.declared.spots.Spots.{Spots}
+use Rattle.std.proofs.Common.{◌≡◌, ℕ, ◌+◌, ◌-◌, ◌^◌, ◌<◌, ◌≤◌, Bool, ◌&&◌, List, length, ap, ◌∙◌, pos_of_ne-zero, arith}
 use Rattle.mover.specs.Private.Elements.{axis_kept}
 use Rattle.mover.specs.Private.Adding.{after_run}
 use Rattle.mover.specs.Private.Ready.{reach_of, place_end, Ready, InExtents}
@@ -7,23 +6,16 @@ use Rattle.mover.proofs.Places.{axis_some}
 use Rattle.mover.proofs.Turns.{At, Over, Cut, cut_row, start, start_row, row_turn, next_row_lem, next_layer_lem, next_slab_lem, at_below, at_spent, at_end, at_length, at_ready}
 use Rattle.mover.proofs.Banded.{row_end, band_asks, band_behind, band_turn}
 use Rattle.mover.proofs.layers.by_bands.Goals as goal
-use Rattle.mover.proofs.layers.by_bands.Goals.{After-least-n, After-slice_known-in-loop-c2-1, At-all, At-loop-c1, At-loop-c2, Else-left-eq0, Left-all, Start}
+use Rattle.mover.proofs.layers.by_bands.Goals.{After-least-n, After-slice_known-in-loop-c2-1, At-all, At-loop-c1, At-loop-c2, Else-left-eq0, Left-all, Start, else-all-test, then-all-test+then-loop-c1-test+then-loop-c2-test+else-left-eq0+then-left-eq0-2, then-all-test+then-loop-c1-test+then-loop-c2-test+then-left-eq0}
 
--- where the loops stand, from the destination that the function began with
-abbrev Now : Start → List ℕ → ℕ → ℕ → ℕ → ℕ → ℕ → Spots → Type 0
-Now s d c0 c1 c2 c3 left spots =
-    At s.args.origin s.args.plan s.args.src.now s.args.dst.now s.args.from s.args.budget d c0 c1 c2 c3 left spots
-
-at_all : (c : At-all) → let a = c.all in Now c.before.before.before.before.before.before.before a.dst a.c0 a.c1 a.c2 a.c3 a.left a.spots
-at_all c =
-    c.all.invariant.0 c.args.dst.now
-    (start c.args.origin c.args.plan c.args.src.now c.args.dst.now c.args.from c.args.budget c.requires.ready c.requires.from_bound c.begin-start.ensures)
-
-at-loop : (c : At-loop-c1) → let a = c.loop-c1 in Now c.before.before.before.before.before.before.before.before.before.before.before.before a.dst c.all.c0 a.c1 a.c2 a.c3 a.left a.spots
-at-loop c = c.loop-c1.invariant.0 c.args.dst.now (at_all c.before.before.before.before.before.before)
-
-at-loop2 : (c : At-loop-c2) → let a = c.loop-c2 in Now c.before.before.before.before.before.before.before.before.before.before.before.before.before.before.before.before.before a.dst c.all.c0 c.loop-c1.c1 a.c2 a.c3 a.left a.spots
-at-loop2 c = c.loop-c2.invariant.0 c.args.dst.now (at-loop c.before.before.before.before.before.before)
+-- where the innermost loop stands, from the destination that the function began with
+at-loop2 : (c : At-loop-c2) → let a = c.loop-c2 in
+    At c.args.origin c.args.plan c.args.src.now c.args.dst.now c.args.from c.args.budget a.dst c.all.c0 c.loop-c1.c1 a.c2 a.c3 a.left a.spots
+at-loop2 c =
+    c.loop-c2.invariant.0 c.args.dst.now
+    (c.loop-c1.invariant.0 c.args.dst.now
+    (c.all.invariant.0 c.args.dst.now
+    (start c.args.origin c.args.plan c.args.src.now c.args.dst.now c.args.from c.args.budget c.requires.ready c.requires.from_bound c.begin-start.ensures)))
 
 -- the last coordinate is one of a row
 in_row : (c : At-loop-c2) → c.loop-c2.c3 < c.args.plan.d3.extent
@@ -102,12 +94,16 @@ loop-c2-preserved-then-band-gt0 c =
     )
 
 within : (c : Else-left-eq0) → InExtents c.args.plan c.all.c0 c.loop-c1.c1 c.loop-c2.c2 c.loop-c2.c3
-within c =
-    record { in0 = c.all-test.true; in1 = c.loop-c1-test.true; in2 = c.loop-c2-test.true; in3 = in_row c.before.before.before.before }
+within c = record {
+  in0 = c.all-test.true;
+  in1 = c.loop-c1-test.true;
+  in2 = c.loop-c2-test.true;
+  in3 = c.loop-c2.invariant.1 (c.loop-c1.invariant.1 (c.all.invariant.1 (start_row c.args.plan c.args.from c.requires.ready.axes c.begin-start.ensures)));
+}
 
 cut : (c : After-least-n) → Cut c.args.plan.d3.extent c.loop-c2.c3 c.loop-c2.left c.least-n.result
 cut c =
-    cut_row c.args.plan.d3.extent c.loop-c2.c3 c.loop-c2.left (in_row c.before.before.before.before.before.before.before) (pos_of_ne-zero c.if-left-eq0.false) c.least-n.ensures
+    cut_row c.args.plan.d3.extent c.loop-c2.c3 c.loop-c2.left (c.loop-c2.invariant.1 (c.loop-c1.invariant.1 (c.all.invariant.1 (start_row c.args.plan c.args.from c.requires.ready.axes c.begin-start.ensures)))) (pos_of_ne-zero c.if-left-eq0.false) c.least-n.ensures
 
 pub overflow_sub-plan : goal.overflow_sub-plan
 overflow_sub-plan c =
@@ -153,33 +149,24 @@ all-preserved c =
       λ h. c.loop-c1.invariant.1 (c.all.invariant.1 h),
     )
 
--- the budget is spent: before a part of a row, or behind it
-spent : (c : At-loop-c2) → c.loop-c2.left ≡ 0 → Over c.args.origin c.args.plan c.args.src.now c.args.dst.now c.args.from c.args.budget c.loop-c2.dst c.loop-c2.left
-spent c e = at_spent (at-loop2 c) e
-
-spent-behind : (c : After-slice_known-in-loop-c2-1) → c.loop-c2.left - c.least-n.result ≡ 0
-    → Over c.args.origin c.args.plan c.args.src.now c.args.dst.now c.args.from c.args.budget c.by_runs.new.dst (c.loop-c2.left - c.least-n.result)
-spent-behind c e =
-    at_spent (turned c c.args.dst.now (at-loop2 (goal.at-overflow_sub-left-in-loop-c2 c).At-loop-c2)) e
-
--- where the ways out of the loops meet: at the end of the outermost, and by the label
-over : (c : Left-all) → Over c.args.origin c.args.plan c.args.src.now c.args.dst.now c.args.from c.args.budget c.all-test.dst c.all-test.false
+-- where the ways out of the loops meet: at the end of the outermost, and by the label, before a part of a row or behind it
+over : (c : Left-all) → Over c.args.origin c.args.plan c.args.src.now c.args.dst.now c.args.from c.args.budget c.all-test.dst c.all-test.left
 over c =
-    ⊎_elim
-    (λ w. rw (w.1, w.5) (at_end (at_all c.before.before.before) w.0.left))
-    (⊎_elim
-    (λ w.
-    let l1 : At-loop-c1 = record { before = record { before = record { before = c.before.before; if1 = w.0 }; kept = w.1 }; loop = w.2 } in
-    let l2 : At-loop-c2 = record { before = record { before = record { before = record { before = l1; struct-known2 = w.3 }; if2 = w.4 }; kept2 = w.5 }; loop2 = w.6 } in
-    rw (w.10, w.14) (spent l2 w.9.taken))
-    (λ w.
-    let l1 : At-loop-c1 = record { before = record { before = record { before = c.before.before; if1 = w.0 }; kept = w.1 }; loop = w.2 } in
-    let l2 : At-loop-c2 = record { before = record { before = record { before = record { before = l1; struct-known2 = w.3 }; if2 = w.4 }; kept2 = w.5 }; loop2 = w.6 } in
-    let i : Else-left-eq0 = record { before = record { before = record { before = l2; struct-known3 = w.7 }; if3 = w.8 }; if4 = w.9 } in
-    let l : After-least-n = record { before = record { before = record { before = i; if5 = w.10 }; struct-known7 = w.11 }; least = w.12 } in
-    let m : After-slice_known-in-loop-c2-1 = record { before = record { before = record { before = record { before = l; by-runs-arg = w.13 }; by_runs = w.14 }; dst2 = w.15 }; slice-known3 = w.16 } in
-    rw (w.18, w.22) (spent-behind m w.17.taken)))
-    c.all-test.branch
+    let at_all = c.all.invariant.0 c.args.dst.now
+        (start c.args.origin c.args.plan c.args.src.now c.args.dst.now c.args.from c.args.budget c.requires.ready c.requires.from_bound c.begin-start.ensures) in
+    elim c.all-test.branch [
+      | else-all-test w ↦ rw (w.dst-is, w.left-is) (at_end at_all w.all-test.false)
+      | then-all-test+then-loop-c1-test+then-loop-c2-test+then-left-eq0 w ↦
+          rw (w.dst-is, w.left-is) (at_spent (w.loop-c2.invariant.0 c.args.dst.now (w.loop-c1.invariant.0 c.args.dst.now at_all)) w.if-left-eq0.true)
+      | then-all-test+then-loop-c1-test+then-loop-c2-test+else-left-eq0+then-left-eq0-2 w ↦
+          let here = w.loop-c2.invariant.0 c.args.dst.now (w.loop-c1.invariant.0 c.args.dst.now at_all) in
+          let row : w.loop-c2.c3 < c.args.plan.d3.extent = w.loop-c2.invariant.1 (w.loop-c1.invariant.1 (c.all.invariant.1 (start_row c.args.plan c.args.from c.requires.ready.axes c.begin-start.ensures))) in
+          let inside : InExtents c.args.plan c.all.c0 w.loop-c1.c1 w.loop-c2.c2 w.loop-c2.c3 =
+              record { in0 = w.all-test.true; in1 = w.loop-c1-test.true; in2 = w.loop-c2-test.true; in3 = row } in
+          let cut_there = cut_row c.args.plan.d3.extent w.loop-c2.c3 w.loop-c2.left row (pos_of_ne-zero w.if-left-eq0.false) w.least-n.ensures in
+          rw (w.dst-is, w.left-is)
+          (at_spent (row_turn here inside cut_there (at_ready here c.requires.ready) w.by_runs.ensures.counted w.by_runs.ensures.written) w.if-left-eq0-2.true)
+    ]
 
 pub all-init : goal.all-init
 all-init c = (λ d a. a, λ h. h)

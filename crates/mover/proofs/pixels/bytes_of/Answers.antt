@@ -1,6 +1,9 @@
 use Rattle.std.proofs.Common.{◌-◌, arith}
-use Rattle.plane.proofs.Arrays.{filled_more, filled_end}
+use Rattle.plane.proofs.Arrays.{filled_start, filled_more, filled_end}
 use Rattle.mover.proofs.pixels.bytes_of.Goals as goal
+
+pub loop-b-init : goal.loop-b-init
+loop-b-init c = filled_start
 
 pub byte-requires : goal.byte-requires
 byte-requires c =

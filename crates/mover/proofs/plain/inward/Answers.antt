@@ -1,5 +1,5 @@
 -- `mover::plain::inward` goes one dimension further in. Assumes nothing.
-use Rattle.std.proofs.Common.{◌≡◌, ◌<◌, true, sym, ◌∙◌, ⊎_elim, arith}
+use Rattle.std.proofs.Common.{◌≡◌, ◌<◌, true, sym, ◌∙◌, arith}
 use Rattle.plane.specs.Signs.{at_z}
 use Rattle.plane.specs.Planes.{shape_at, up}
 use Rattle.plane.proofs.Signed.{tested}
@@ -7,7 +7,7 @@ use Rattle.mover.specs.Element.{dim_of}
 use Rattle.mover.specs.Private.Rows.{inward_of}
 use Rattle.mover.proofs.Rows.{pass_four, pass_dim, pass_source_dim, pass_size, pass_parts, pass_extent, pass_number, pass_offset, pass_stride, pass_place, pass_to, pass_source_stride, pass_pre, reached, lifted, pass_at, pass_shape, pass_source, pass_from}
 use Rattle.mover.proofs.plain.inward.Goals as goal
-use Rattle.mover.proofs.plain.inward.Goals.{After-coordinate-then-row-1, Joined-t-s-lt0, Then-row}
+use Rattle.mover.proofs.plain.inward.Goals.{After-coordinate-then-row-1, Joined-t-s-lt0, Then-row, else-t-s-lt0, then-t-s-lt0}
 
 kept : (c : Then-row) → (inward_of c.args.row c.args.i c.args.c).kept ≡ true
 unfolding inward_of
@@ -18,10 +18,10 @@ lifts : (c : Joined-t-s-lt0) → c.if-t-s-lt0.up ≡ lifted c.requires (kept c.b
 lifts c =
     let z = at_z c.args.row.tensor.stride (dim_of c.args.row.config c.args.i) in
     let down = tested z (record { sfits = c.t54-1.given }) in
-    ⊎_elim
-    (λ v. v.2 ∙ rw (sym down ∙ v.0.taken))
-    (λ v. v.1 ∙ rw (sym down ∙ v.0.left))
-    c.if-t-s-lt0.branch
+    elim c.if-t-s-lt0.branch [
+      | then-t-s-lt0 v ↦ v.up-is ∙ rw (sym down ∙ v.if-t-s-lt0.true)
+      | else-t-s-lt0 v ↦ v.up-is ∙ rw (sym down ∙ v.if-t-s-lt0.false)
+    ]
 
 pub returns-after-t-s-lt0 : goal.returns-after-t-s-lt0
 unfolding inward_of

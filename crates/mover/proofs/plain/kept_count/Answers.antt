@@ -1,20 +1,26 @@
 -- `mover::plain::kept_count` is the kept count of a source dimension. Assumes nothing.
-use Rattle.std.proofs.Common.{◌≡◌, ℕ, ◌+◌, ◌-◌, ◌/◌, ◌≤◌, ap, ◌∙◌, ⊎_elim, arith, eq-eqb, ne_eqb}
+use Rattle.std.proofs.Common.{◌≡◌, ℕ, ◌+◌, ◌-◌, ◌/◌, ◌≤◌, ap, ◌∙◌, arith, eq-eqb, ne_eqb}
 use Rattle.plane.specs.Arrays.{at}
 use Rattle.plane.specs.Moves.{taken, count}
 use Rattle.plane.specs.Good.{FromTo}
 use Rattle.mover.proofs.plain.kept_count.Goals as goal
-use Rattle.mover.proofs.plain.kept_count.Goals.{Joined-size-eq0}
+use Rattle.mover.proofs.plain.kept_count.Goals.{Joined-size-eq0, else-size-eq0, then-size-eq0}
 
 -- size, or shape - offset where it is 0
-size : (c : Joined-size-eq0) → c.if-size-eq0.true ≡ taken c.args.t c.args.config c.args.s
-size c = ⊎_elim (λ w. w.1 ∙ rw (eq-eqb _ 0 w.0.taken)) (λ w. w.1 ∙ rw (ne_eqb _ 0 w.0.left)) c.if-size-eq0.branch
+size : (c : Joined-size-eq0) → c.if-size-eq0.taken ≡ taken c.args.t c.args.config c.args.s
+size c = elim c.if-size-eq0.branch [
+      | then-size-eq0 w ↦ w.taken-is ∙ rw (eq-eqb _ 0 w.if-size-eq0.true)
+      | else-size-eq0 w ↦ w.taken-is ∙ rw (ne_eqb _ 0 w.if-size-eq0.false)
+    ]
 
-small : (c : Joined-size-eq0) → c.if-size-eq0.true ≤ 65535
+small : (c : Joined-size-eq0) → c.if-size-eq0.taken ≤ 65535
 small c =
     let s = c.args.s in
     let shape = (c.requires.good_source.shape s c.requires.s_lt_rank).1 in
-    ⊎_elim (λ w. omega (arith, w.1, shape)) (λ w. omega (arith, w.1, c.requires.good_config.size s c.requires.s_lt_rank, shape)) c.if-size-eq0.branch
+    elim c.if-size-eq0.branch [
+      | then-size-eq0 w ↦ omega (arith, w.taken-is, shape)
+      | else-size-eq0 w ↦ omega (arith, w.taken-is, c.requires.good_config.size s c.requires.s_lt_rank, shape)
+    ]
 
 step : (c : Joined-size-eq0) → FromTo 1 65535 (at c.args.config.step c.args.s)
 step c = c.requires.good_config.step c.args.s c.requires.s_lt_rank

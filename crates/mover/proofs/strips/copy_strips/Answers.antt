@@ -9,7 +9,7 @@ use Rattle.mover.proofs.strips.copy_strips.Goals.{At-loop-k}
 
 -- how many rows a strip has
 abbrev rows : At-loop-k → ℕ
-rows l = l.before.before.sixteenth.result
+rows l = l.sixteenth-n.result
 
 rows_are : (l : At-loop-k) → rows l ≡ sixteenth_of l.args.p.size
 rows_are l = l.sixteenth-n.ensures

@@ -17,7 +17,7 @@ told s e = subst (λ (t : Tile). Tiled t s.args.p × (s.args.p.columns ≡ tile_
 pub copy_turned-requires : goal.copy_turned-requires
 copy_turned-requires c =
     record {
-      tiled = c.requires.1 (goal.at-copy_turned-requires c).Start c.in-Turned.is;
+      tiled = told (goal.at-copy_turned-requires c).Start c.in-Turned.is;
       patch_fits = c.requires.patch_fits;
       patch_reads = c.requires.patch_reads;
     }
@@ -30,11 +30,11 @@ channels-t-requires c =
 pub copy_blocks-requires : goal.copy_blocks-requires
 copy_blocks-requires c =
     let k = told (goal.at-copy_blocks-requires c).Start c.in-Split.is in
-    let l = ap length c.channels-t.ensures ∙ length_split _ _ in let told = rw c.rows_of.ensures
-    (rows_held (length c.channels-t.result) 32 3 (omega arith) (omega arith), split_writes c.requires.patch_fits c.requires.patch_reads (long (goal.at-copy_blocks-requires c).Start) (omega (arith, c.well_formed)) k.0 k.1) in record {
-      held = told.0;
-      held_2 = told.1;
-    }
+    let l = ap length c.channels-t.ensures ∙ length_split _ _ in 
+    rw c.rows_of.ensures (record {
+      held = rows_held (length c.channels-t.result) 32 3 (omega arith) (omega arith);
+      held_2 = split_writes c.requires.patch_fits c.requires.patch_reads (long (goal.at-copy_blocks-requires c).Start) (omega (arith, c.well_formed)) k.0 k.1;
+    })
 
 pub pixels-t-requires : goal.pixels-t-requires
 pixels-t-requires c =

@@ -30,7 +30,7 @@ total-requires c =
 all : (c : After-total) → c.total.result ≡ total_of c.args.job
 all c =
     let j = c.args.job in
-    total_is j.tensor j.config (taken c.before.before).1 c.total.ensures
+    total_is j.tensor j.config (job_accepted (length c.args.mem.now) j c.answer-a.ensures c.if-a-ne0.false).1 c.total.ensures
 
 pub returns-then-total-from : goal.returns-then-total-from
 returns-then-total-from c =
