@@ -12,5 +12,3 @@ pub mod Members
 pub mod Writing
 pub mod Listing
 pub mod Buffers
--- What the walks of the reader share.
-mod Held

@@ -29,8 +29,8 @@ overflow_add-start c = search (rules, inside c)
 pub overflow_add-end : goal.overflow_add-end
 overflow_add-end c = search (rules, inside c)
 
-pub UNKNOWN-slice-bounds-read-end : goal.UNKNOWN-slice-bounds-read-end
-UNKNOWN-slice-bounds-read-end c = omega (arith, inside c)
+pub slice_bounds-read-end : goal.slice_bounds-read-end
+slice_bounds-read-end c = omega (arith, inside c)
 
 pub returns : goal.returns
 returns c =
