@@ -85,7 +85,7 @@ all-preserved c =
 over : (c : Left-all) → Over c.args.origin c.args.plan c.args.src.now c.args.dst.now c.args.from c.args.budget c.all-test.dst c.all-test.left
 over c =
     let at_all = c.all.invariant c.args.dst.now
-        (start c.args.origin c.args.plan c.args.src.now c.args.dst.now c.args.from c.args.budget c.requires.ready c.requires.from_bound c.begin-start.ensures) in
+    (start c.args.origin c.args.plan c.args.src.now c.args.dst.now c.args.from c.args.budget c.requires.ready c.requires.from_bound c.begin-start.ensures) in
     elim c.all-test.branch [
       | else-all-test w ↦ rw (w.dst-is, w.left-is) (at_end at_all w.all-test.false)
       | then-all-test+then-loop-c1-test+then-loop-c2-test+then-loop-c3-test+then-left-eq0 w ↦

@@ -85,13 +85,12 @@ loop-c2-smaller-then-band-gt0 c =
     omega (arith, c.if-band-gt0.true, c.band_at-band.ensures.within)
 
 pub loop-c2-preserved-then-band-gt0 : goal.loop-c2-preserved-then-band-gt0
-loop-c2-preserved-then-band-gt0 c =
-    (
-      λ d₀ a.
-          band_turn (c.loop-c2.invariant.0 d₀ a) (ready (goal.at-loop-c2-preserved-then-band-gt0 c).At-loop-c2) (long (goal.at-loop-c2-preserved-then-band-gt0 c).At-loop-c2) c.all-test.true c.loop-c1-test.true (outer (goal.at-loop-c2-preserved-then-band-gt0 c).At-loop-c2) c.if-c3-eq0.true c.band_at-band.ensures c.if-band-gt0.true
-          c.move_band.ensures c.behind-spots.ensures,
-      c.loop-c2.invariant.1,
-    )
+loop-c2-preserved-then-band-gt0 c = (
+  λ d₀ a.
+      band_turn (c.loop-c2.invariant.0 d₀ a) (ready (goal.at-loop-c2-preserved-then-band-gt0 c).At-loop-c2) (long (goal.at-loop-c2-preserved-then-band-gt0 c).At-loop-c2) c.all-test.true c.loop-c1-test.true (outer (goal.at-loop-c2-preserved-then-band-gt0 c).At-loop-c2) c.if-c3-eq0.true c.band_at-band.ensures c.if-band-gt0.true
+      c.move_band.ensures c.behind-spots.ensures,
+  c.loop-c2.invariant.1,
+)
 
 within : (c : Else-left-eq0) → InExtents c.args.plan c.all.c0 c.loop-c1.c1 c.loop-c2.c2 c.loop-c2.c3
 within c = record {
@@ -136,24 +135,22 @@ loop-c2-preserved c =
     )
 
 pub loop-c1-preserved : goal.loop-c1-preserved
-loop-c1-preserved c =
-    (
-      λ d₀ a. next_layer_lem (c.loop-c2.invariant.0 d₀ (c.loop-c1.invariant.0 d₀ a)) c.loop-c1-test.true c.loop-c2-test.false c.next_layer-spots.ensures,
-      λ h. c.loop-c2.invariant.1 (c.loop-c1.invariant.1 h),
-    )
+loop-c1-preserved c = (
+  λ d₀ a. next_layer_lem (c.loop-c2.invariant.0 d₀ (c.loop-c1.invariant.0 d₀ a)) c.loop-c1-test.true c.loop-c2-test.false c.next_layer-spots.ensures,
+  λ h. c.loop-c2.invariant.1 (c.loop-c1.invariant.1 h),
+)
 
 pub all-preserved : goal.all-preserved
-all-preserved c =
-    (
-      λ d₀ a. next_slab_lem (c.loop-c1.invariant.0 d₀ (c.all.invariant.0 d₀ a)) c.loop-c1-test.false c.next_slab-spots.ensures,
-      λ h. c.loop-c1.invariant.1 (c.all.invariant.1 h),
-    )
+all-preserved c = (
+  λ d₀ a. next_slab_lem (c.loop-c1.invariant.0 d₀ (c.all.invariant.0 d₀ a)) c.loop-c1-test.false c.next_slab-spots.ensures,
+  λ h. c.loop-c1.invariant.1 (c.all.invariant.1 h),
+)
 
 -- where the ways out of the loops meet: at the end of the outermost, and by the label, before a part of a row or behind it
 over : (c : Left-all) → Over c.args.origin c.args.plan c.args.src.now c.args.dst.now c.args.from c.args.budget c.all-test.dst c.all-test.left
 over c =
     let at_all = c.all.invariant.0 c.args.dst.now
-        (start c.args.origin c.args.plan c.args.src.now c.args.dst.now c.args.from c.args.budget c.requires.ready c.requires.from_bound c.begin-start.ensures) in
+    (start c.args.origin c.args.plan c.args.src.now c.args.dst.now c.args.from c.args.budget c.requires.ready c.requires.from_bound c.begin-start.ensures) in
     elim c.all-test.branch [
       | else-all-test w ↦ rw (w.dst-is, w.left-is) (at_end at_all w.all-test.false)
       | then-all-test+then-loop-c1-test+then-loop-c2-test+then-left-eq0 w ↦
@@ -162,7 +159,7 @@ over c =
           let here = w.loop-c2.invariant.0 c.args.dst.now (w.loop-c1.invariant.0 c.args.dst.now at_all) in
           let row : w.loop-c2.c3 < c.args.plan.d3.extent = w.loop-c2.invariant.1 (w.loop-c1.invariant.1 (c.all.invariant.1 (start_row c.args.plan c.args.from c.requires.ready.axes c.begin-start.ensures))) in
           let inside : InExtents c.args.plan c.all.c0 w.loop-c1.c1 w.loop-c2.c2 w.loop-c2.c3 =
-              record { in0 = w.all-test.true; in1 = w.loop-c1-test.true; in2 = w.loop-c2-test.true; in3 = row } in
+          record { in0 = w.all-test.true; in1 = w.loop-c1-test.true; in2 = w.loop-c2-test.true; in3 = row } in
           let cut_there = cut_row c.args.plan.d3.extent w.loop-c2.c3 w.loop-c2.left row (pos_of_ne-zero w.if-left-eq0.false) w.least-n.ensures in
           rw (w.dst-is, w.left-is)
           (at_spent (row_turn here inside cut_there (at_ready here c.requires.ready) w.by_runs.ensures.counted w.by_runs.ensures.written) w.if-left-eq0-2.true)

@@ -3,18 +3,18 @@ use Rattle.std.proofs.Common.{◌≡◌, ◌+◌, ◌-◌, min, [], ◌∙◌, a
 use Rattle.mover.specs.declared.elements.Origin.TheVariants.{Inside}
 use Rattle.mover.proofs.WholeRows.{starts_before, advance_told, advance_none, advance_fits, advance_stands, advance_stored}
 use Rattle.mover.proofs.plain.advance.Goals as goal
-use Rattle.mover.proofs.plain.advance.Goals.{Joined-budget-rest, Joined-from-v, else-budget-rest, else-from-v, then-budget-rest, then-from-v}
+use Rattle.mover.proofs.plain.advance.Goals.{Joined-budget-rest, else-budget-rest, else-from-v, then-budget-rest, then-from-v}
 
 -- how many are left, and how many of them are moved
-rest : (c : Joined-from-v) → c.if-from-v.rest ≡ c.judge_job-v.result.total - c.args.from
+rest : (c : Joined-budget-rest) → c.if-from-v.rest ≡ c.judge_job-v.result.total - c.args.from
 rest c = elim c.if-from-v.branch [
-      | then-from-v w ↦ w.rest-is
-      | else-from-v w ↦ w.rest-is ∙ omega (arith, w.if-from-v.false)
-    ]
+  | then-from-v w ↦ w.rest-is
+  | else-from-v w ↦ w.rest-is ∙ omega (arith, w.if-from-v.false)
+]
 
 count : (c : Joined-budget-rest) → c.if-budget-rest.count ≡ min c.args.budget (c.judge_job-v.result.total - c.args.from)
 count c =
-    let e = rest c.before.before in
+    let e = rest c in
     elim c.if-budget-rest.branch [
       | then-budget-rest w ↦ w.count-is ∙ omega (arith, w.if-budget-rest.true)
       | else-budget-rest w ↦ w.count-is ∙ omega (arith, w.if-budget-rest.false)

@@ -9,9 +9,9 @@ use Rattle.mover.proofs.plain.kept_count.Goals.{Joined-size-eq0, else-size-eq0, 
 -- size, or shape - offset where it is 0
 size : (c : Joined-size-eq0) → c.if-size-eq0.taken ≡ taken c.args.t c.args.config c.args.s
 size c = elim c.if-size-eq0.branch [
-      | then-size-eq0 w ↦ w.taken-is ∙ rw (eq-eqb _ 0 w.if-size-eq0.true)
-      | else-size-eq0 w ↦ w.taken-is ∙ rw (ne_eqb _ 0 w.if-size-eq0.false)
-    ]
+  | then-size-eq0 w ↦ w.taken-is ∙ rw (eq-eqb _ 0 w.if-size-eq0.true)
+  | else-size-eq0 w ↦ w.taken-is ∙ rw (ne_eqb _ 0 w.if-size-eq0.false)
+]
 
 small : (c : Joined-size-eq0) → c.if-size-eq0.taken ≤ 65535
 small c =

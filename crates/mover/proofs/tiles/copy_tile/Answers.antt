@@ -30,7 +30,7 @@ channels-t-requires c =
 pub copy_blocks-requires : goal.copy_blocks-requires
 copy_blocks-requires c =
     let k = told (goal.at-copy_blocks-requires c).Start c.in-Split.is in
-    let l = ap length c.channels-t.ensures ∙ length_split _ _ in 
+    let l = ap length c.channels-t.ensures ∙ length_split _ _ in
     rw c.rows_of.ensures (record {
       held = rows_held (length c.channels-t.result) 32 3 (omega arith) (omega arith);
       held_2 = split_writes c.requires.patch_fits c.requires.patch_reads (long (goal.at-copy_blocks-requires c).Start) (omega (arith, c.well_formed)) k.0 k.1;
