@@ -1,0 +1,10 @@
+-- `transfers::slots::with_slot` puts a slot in its place. Assumes nothing.
+use mathlib.Core.Path.{◌≡◌}
+use lib.ListN.{length, length-map}
+use Rattle.transfers.proofs.Fours.{slot_put}
+use Rattle.transfers.proofs.slots.with_slot.Goals as goal
+
+pub returns : goal.returns
+returns c =
+    let n : length c.args.t.slots ≡ 4 = simp length-map at c.well_formed.0.1.1.1.0.1.0.1 in
+    slot_put c.args.t c.args.handle c.args.slot n c.requires
