@@ -25,4 +25,5 @@ returns c =
     (c.with_slot.ensures ∙ ap (λ (x : Slot). with_slot c.args.self c.args.handle (running x)) c.slot_at-slot.ensures)
 
 pub with_slot-requires : goal.with_slot-requires
-with_slot-requires c = slot_at-slot-requires (goal.at-with_slot-requires c).Else-status-ne0
+with_slot-requires c =
+    (called c.args.self (length c.args.mem.now) c.args.handle 1 (sym c.call_status-status.ensures ∙ c.if-status-ne0.false)).range

@@ -20,7 +20,8 @@ later-requires c =
     c.advance-advanced.ensures.answered
 
 pub with_slot-requires : goal.with_slot-requires
-with_slot-requires c = slot_at-slot-requires (goal.at-with_slot-requires c).After-slot_at-slot
+with_slot-requires c =
+    step_range c.args.self c.args.handle c.args.budget c.args.mem.now (sym c.call_status-status.ensures ∙ c.if-status-ne0.false)
 
 pub returns : goal.returns
 returns c =

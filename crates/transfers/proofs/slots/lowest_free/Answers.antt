@@ -15,11 +15,10 @@ returns-then-slot-eq-FREE c =
     (ap (λ (x : Slot). x.state) (sym c.slot_at-slot.ensures) ∙ c.if-slot-eq-FREE.true)
 
 pub loop-handle-preserved : goal.loop-handle-preserved
-loop-handle-preserved c =
-    (
-      omega arith,
-      below_more _ _ c.loop-handle.invariant.1 (λ z. c.if-slot-eq-FREE.false (ap (λ (x : Slot). x.state) c.slot_at-slot.ensures ∙ z)),
-    )
+loop-handle-preserved c = (
+  omega arith,
+  below_more _ _ c.loop-handle.invariant.1 (λ z. c.if-slot-eq-FREE.false (ap (λ (x : Slot). x.state) c.slot_at-slot.ensures ∙ z)),
+)
 
 pub returns : goal.returns
 returns c =

@@ -24,12 +24,11 @@ overflow_step-handle c =
     omega (arith, c.loop-handle-test.true, c.requires)
 
 pub loop-handle-preserved : goal.loop-handle-preserved
-loop-handle-preserved c =
-    (
-      omega (arith, c.loop-handle-test.true),
-      some_more _ _ c.loop-handle.invariant.1
-          (ap (λ (x : Slot). breaks c.args.job x.job) (sym c.slot_at-slot.ensures) ∙ sym c.breaks.ensures ∙ c.if-breaks.false),
-    )
+loop-handle-preserved c = (
+  omega (arith, c.loop-handle-test.true),
+  some_more _ _ c.loop-handle.invariant.1
+      (ap (λ (x : Slot). breaks c.args.job x.job) (sym c.slot_at-slot.ensures) ∙ sym c.breaks.ensures ∙ c.if-breaks.false),
+)
 
 pub returns : goal.returns
 unfolding clashes
