@@ -9,7 +9,6 @@ use mathlib.Core.Bool.{Bool, true, false, ◌||◌, true≢false}
 use mathlib.Core.List.{List, [], ◌∷◌}
 use borrow.Author.Tests.{eq-eqb, ne_eqb, eqb-true, le-ltb, not-false}
 use lib.Dec.{eqb}
-use lib.ListN.{length}
 use Rattle.faults.specs.Faults.{overall}
 use Rattle.faults.specs.Exactness.{Given, Unbroken}
 use Rattle.faults.proofs.Bools.{neither}
@@ -24,7 +23,7 @@ use Rattle.mover.proofs.Meeting.{meets_shared, leaves_end}
 use Rattle.transfers.specs.declared.Table.{Table}
 use Rattle.transfers.specs.Slots.{slot_at, breaks, clashes, table_sound, lowest_free}
 use Rattle.transfers.specs.Calls.{open_rules, prepare_rules, prepare_of}
-use Rattle.transfers.specs.Demand3.{start, run}
+use Rattle.transfers.specs.Demand3.{run}
 use Rattle.transfers.proofs.Demand3.{demand_3_run}
 use Rattle.transfers.proofs.Exact.{prepare_exact}
 use Rattle.transfers.proofs.Sounds.{sound_tells, free_breaks_none}

@@ -1,5 +1,5 @@
 -- Laws of `moved_by`: elements by their numbers, joined, and the bytes that none holds. Assumes nothing.
-use Rattle.std.proofs.Common.{◌≡◌, ℕ, zero, suc, ◌+◌, ◌-◌, ◌*◌, ◌/◌, ◌<◌, ◌≤◌, ◌⊎◌, List, length, get_or, drop, refl, ◌∙◌, inl, inr, ⊎_elim, add-zero, add_assoc, add-suc, mod-lt, div-lt_iff_lt-mul, div-add-mod', arith}
+use Rattle.std.proofs.Common.{◌≡◌, ℕ, zero, suc, ◌+◌, ◌*◌, ◌/◌, ◌<◌, ◌≤◌, ◌⊎◌, List, length, get_or, drop, refl, ◌∙◌, inl, inr, ⊎_elim, add-zero, add_assoc, add-suc, mod-lt, div-lt_iff_lt-mul, div-add-mod', arith}
 use lib.Arith.{digits_lt, digits_div, digits_mod}
 use lib.Seq.{length-sets}
 use Rattle.mover.specs.declared.plan.Plan.{Plan}

@@ -1,6 +1,6 @@
 -- The plain engine's two calls give the same status, answer and memory as the first engine's on all inputs, refused ones included, and
 -- for every number of elements at which they stop; so stretches may be moved by either, in any mixture. Assumes nothing.
-use Rattle.std.proofs.Common.{◌≡◌, ℕ, ◌+◌, ◌-◌, List, length, sym, ap, ◌∙◌, zero-add, arith}
+use Rattle.std.proofs.Common.{◌≡◌, ℕ, ◌+◌, List, length, sym, ap, ◌∙◌, zero-add, arith}
 use native.Mathlib.Decide.{ℕ_discrete, dec_le}
 use Rattle.faults.proofs.Faults.{if_none}
 use Rattle.mover.specs.declared.Job.{Job}

@@ -1,5 +1,5 @@
 -- An array, row by row, is a patch: tiles of which rows and columns are exchanged, and pixels taken apart or put together. Assumes nothing.
-use Rattle.std.proofs.Common.{◌≡◌, ℕ, zero, suc, ◌+◌, ◌-◌, ◌*◌, ◌/◌, ◌%◌, ◌^◌, ◌<◌, ◌≤◌, List, [], length, get_or, take, drop, sym, refl, ap, ◌∙◌, subst, mul-le-mul_right, suc-mul, zero-add, mul-one, arith, length-append, length-drop, length-take-le, get_or-drop, get_or-take, ext_get_or}
+use Rattle.std.proofs.Common.{◌≡◌, ℕ, zero, suc, ◌+◌, ◌*◌, ◌/◌, ◌%◌, ◌^◌, ◌<◌, ◌≤◌, List, [], length, get_or, take, drop, sym, refl, ap, ◌∙◌, subst, mul-le-mul_right, suc-mul, zero-add, mul-one, arith, length-append, length-drop, length-take-le, get_or-drop, get_or-take, ext_get_or}
 use native.Mathlib.Nat.{mod-add-mod}
 use native.Mathlib.Decide.{dec_lt}
 use lib.Seq.{sets, take-append-le}

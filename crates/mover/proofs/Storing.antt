@@ -1,5 +1,5 @@
 -- A row that is one element, stored byte by byte by the plain engine. Assumes nothing.
-use Rattle.std.proofs.Common.{◌≡◌, ℕ, zero, suc, ◌+◌, ◌-◌, ◌*◌, ◌/◌, ◌%◌, ◌^◌, ◌<◌, ◌≤◌, Bool, true, false, cond, ◌⊎◌, List, length, get_or, take, drop, set, sym, refl, ap, ◌∙◌, inl, inr, ⊎_elim, le_of_suc-le-suc, not-suc-le-zero, zero-add, div-one, arith, length-drop, length-take-le, get_or-drop, take_all, get_or-take, pow-add}
+use Rattle.std.proofs.Common.{◌≡◌, ℕ, zero, suc, ◌+◌, ◌*◌, ◌/◌, ◌%◌, ◌^◌, ◌<◌, ◌≤◌, Bool, true, false, cond, List, length, get_or, take, drop, set, sym, refl, ap, ◌∙◌, inl, inr, ⊎_elim, le_of_suc-le-suc, not-suc-le-zero, zero-add, div-one, arith, length-drop, length-take-le, get_or-drop, take_all, get_or-take, pow-add}
 use native.Mathlib.Nat.{div-div-eq-div-mul}
 use lib.Seq.{sets, length-sets}
 use Rattle.plane.specs.Numbers.{little}

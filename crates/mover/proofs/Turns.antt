@@ -1,6 +1,6 @@
 -- What a turn of the engine's loops keeps: a run is elements by their numbers, and the end of a row, a layer and a slab is the start
 -- of the next. Assumes nothing.
-use Rattle.std.proofs.Common.{◌≡◌, ℕ, zero, suc, ◌+◌, ◌-◌, ◌*◌, ◌^◌, ◌<◌, ◌≤◌, min, Bool, true, ◌&&◌, ◌⊎◌, List, length, sym, refl, ap, ◌∙◌, ⊎_elim, le_trans, le-add_right, add-zero, add_assoc, mul-le-mul_right, mod-eq_of_lt, add-mul, one-mul, arith}
+use Rattle.std.proofs.Common.{◌≡◌, ℕ, zero, suc, ◌+◌, ◌-◌, ◌*◌, ◌^◌, ◌<◌, ◌≤◌, min, Bool, true, ◌&&◌, List, length, sym, refl, ap, ◌∙◌, ⊎_elim, le_trans, le-add_right, add-zero, add_assoc, mul-le-mul_right, mod-eq_of_lt, add-mul, one-mul, arith}
 use native.Mathlib.Nat.{zero-sub, min-eq_left, min-eq_right, sub_self}
 use Rattle.mover.specs.declared.plan.Plan.{Plan}
 use Rattle.mover.specs.declared.spots.Spot.{Spot}

@@ -11,7 +11,7 @@ use Rattle.plane.specs.Arrays.{at}
 use Rattle.faults.specs.Faults.{lowest}
 use Rattle.faults.specs.Exactness.{Unbroken}
 use Rattle.plane.specs.Planes.{bad_shape, shape_at, stride_at, inner, resolved, bad_stride_at, span, source_rules, source_fault}
-use Rattle.plane.specs.Moves.{extent, need, bad_offset, bad_step, bad_dst_offset_at, bad_dst_offset_of, config_rules, config_fault, dst_rules, dst_fault, move_rules, move_fault}
+use Rattle.plane.specs.Moves.{need, bad_offset, bad_step, bad_dst_offset_at, bad_dst_offset_of, config_rules, config_fault, dst_rules, dst_fault, move_rules, move_fault}
 use Rattle.plane.specs.Good.{FromTo, GoodStrides, GoodSource, GoodConfig, GoodDst}
 use Rattle.plane.specs.Claims.{MoveGood, MoveClear}
 use Rattle.faults.proofs.Bools.{either_clear, neither, in_range}

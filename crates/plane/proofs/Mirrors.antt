@@ -15,7 +15,7 @@ use lib.ListN.{length}
 use lib.Seq.{get_or-set_same, get_or-set_other}
 use Rattle.plane.specs.declared.Tensor.{Tensor}
 use Rattle.plane.specs.Arrays.{at, or0}
-use Rattle.plane.specs.Signs.{size_of, is_down, at_z, sizes}
+use Rattle.plane.specs.Signs.{size_of, is_down, at_z}
 use Rattle.faults.specs.declared.Fault.{Fault}
 use Rattle.faults.specs.Faults.{fault, overall, ◌then◌, first_fault}
 use Rattle.plane.specs.Planes.{shape_at, stride_at, down_at, up, inner, resolved, bad_stride_at, src_strides, source_at, span, source_rules, source_fault, source_of}

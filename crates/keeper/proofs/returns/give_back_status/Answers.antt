@@ -2,7 +2,6 @@
 use native.Mathlib.Omega.{arith}
 use mathlib.Core.Path.{◌≡◌, sym, ap, ◌∙◌}
 use mathlib.Core.Bool.{Bool, true, false, not}
-use borrow.Author.Tests.{not-true, not-false}
 use Rattle.faults.proofs.Bools.{either_first, either_second, neither}
 use Rattle.keeper.specs.Blocks.{bad_run, all_taken}
 use Rattle.keeper.specs.Calls.{run_part, in_use, table_fault}

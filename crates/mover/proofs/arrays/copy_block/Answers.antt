@@ -1,4 +1,4 @@
-use Rattle.std.proofs.Common.{◌≡◌, ◌-◌, length, refl, ap, ◌∙◌, arith}
+use Rattle.std.proofs.Common.{◌≡◌, length, refl, ap, ◌∙◌, arith}
 use lib.Seq.{length-sets}
 use Rattle.mover.proofs.Bytes.{copy_more}
 use Rattle.mover.proofs.arrays.copy_block.Goals as goal

@@ -1,4 +1,4 @@
-use Rattle.std.proofs.Common.{◌≡◌, ◌-◌, sym, ◌∙◌, arith}
+use Rattle.std.proofs.Common.{◌≡◌, sym, ◌∙◌, arith}
 use lib.Seq.{sets}
 use Rattle.mover.specs.Private.Runs.{kept_bytes}
 use Rattle.mover.proofs.Adding.{along_none, along_next}

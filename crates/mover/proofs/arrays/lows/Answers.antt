@@ -1,4 +1,4 @@
-use Rattle.std.proofs.Common.{◌-◌, ◌%◌, get_or, refl, arith}
+use Rattle.std.proofs.Common.{◌%◌, get_or, refl, arith}
 use Rattle.mover.proofs.Filling.{fill_start, fill_more, fill_done}
 use Rattle.mover.proofs.arrays.lows.Goals as goal
 

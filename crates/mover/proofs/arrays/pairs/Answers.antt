@@ -1,4 +1,4 @@
-use Rattle.std.proofs.Common.{◌+◌, ◌-◌, refl, arith}
+use Rattle.std.proofs.Common.{◌+◌, refl, arith}
 use Rattle.mover.proofs.Filling.{fill_start, fill_more, fill_done, pair_at}
 use Rattle.mover.proofs.arrays.pairs.Goals as goal
 

@@ -1,4 +1,4 @@
-use Rattle.std.proofs.Common.{◌+◌, ◌-◌, arith}
+use Rattle.std.proofs.Common.{◌+◌, arith}
 use Rattle.mover.specs.Private.Elements.{source_bytes}
 use Rattle.mover.proofs.Bytes.{copied_one, source_long}
 use Rattle.mover.proofs.Blocks.{copied_start, copied_length, copied_more, more_reads, more_writes, copied_end}

@@ -1,4 +1,4 @@
-use Rattle.std.proofs.Common.{◌+◌, ◌-◌, ◌^◌, ◌<◌, length, ap, ◌∙◌, arith}
+use Rattle.std.proofs.Common.{◌+◌, ◌^◌, ◌<◌, length, ap, ◌∙◌, arith}
 use lib.Seq.{sets, length-sets}
 use Rattle.mover.proofs.Bytes.{source_long}
 use Rattle.mover.proofs.Blocks.{copied_start, copied_length, copied_more, more_reads, more_writes, rest_fits, rest_asks, rest_copied}

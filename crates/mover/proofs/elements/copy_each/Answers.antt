@@ -1,4 +1,4 @@
-use Rattle.std.proofs.Common.{◌≡◌, ◌-◌, sym, ap, ◌∙◌, arith}
+use Rattle.std.proofs.Common.{◌≡◌, sym, ap, ◌∙◌, arith}
 use lib.Seq.{sets}
 use Rattle.mover.specs.Private.Elements.{source_bytes}
 use Rattle.mover.specs.Private.Runs.{run_stored, kept_bytes}

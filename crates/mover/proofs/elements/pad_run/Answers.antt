@@ -1,4 +1,4 @@
-use Rattle.std.proofs.Common.{◌-◌, arith}
+use Rattle.std.proofs.Common.{arith}
 use Rattle.mover.specs.Private.Runs.{pad_bytes}
 use Rattle.mover.proofs.Runs.{done_start, done_length, done_next, done_end}
 use Rattle.mover.proofs.elements.pad_run.Goals as goal

@@ -1,4 +1,4 @@
-use Rattle.std.proofs.Common.{◌-◌, ◌∙◌, arith}
+use Rattle.std.proofs.Common.{◌∙◌, arith}
 use Rattle.mover.proofs.Patched.{rows_start, rows_length, row_block, rows_next, rows_end}
 use Rattle.mover.proofs.patches.copy_lines.Goals as goal
 

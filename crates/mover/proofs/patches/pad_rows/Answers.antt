@@ -1,4 +1,4 @@
-use Rattle.std.proofs.Common.{◌-◌, arith}
+use Rattle.std.proofs.Common.{arith}
 use Rattle.mover.proofs.Patched.{pads_start, pads_length, pad_writes, pads_next, pads_end}
 use Rattle.mover.proofs.patches.pad_rows.Goals as goal
 

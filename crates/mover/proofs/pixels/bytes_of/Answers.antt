@@ -1,4 +1,4 @@
-use Rattle.std.proofs.Common.{◌-◌, arith}
+use Rattle.std.proofs.Common.{arith}
 use Rattle.plane.proofs.Arrays.{filled_start, filled_more, filled_end}
 use Rattle.mover.proofs.pixels.bytes_of.Goals as goal
 

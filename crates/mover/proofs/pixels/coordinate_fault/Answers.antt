@@ -1,4 +1,4 @@
-use Rattle.std.proofs.Common.{◌-◌, refl, arith, le-leb}
+use Rattle.std.proofs.Common.{refl, arith, le-leb}
 use borrow.Author.Tests.{lt-leb}
 use Rattle.faults.proofs.Faults.{searched_start, searched_more, searched_found, searched_end}
 use Rattle.mover.proofs.pixels.coordinate_fault.Goals as goal

@@ -1,4 +1,4 @@
-use Rattle.std.proofs.Common.{◌≡◌, ℕ, ◌-◌, sym, ◌∙◌, ap₂, arith, rules}
+use Rattle.std.proofs.Common.{◌≡◌, ℕ, sym, ◌∙◌, ap₂, arith, rules}
 use Rattle.mover.specs.declared.plain.Row.{Row}
 use Rattle.mover.specs.Private.Pixels.{row_to}
 use Rattle.mover.proofs.Making.{room_source}

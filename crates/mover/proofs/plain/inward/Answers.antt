@@ -1,7 +1,7 @@
 -- `mover::plain::inward` goes one dimension further in. Assumes nothing.
 use Rattle.std.proofs.Common.{◌≡◌, ◌<◌, true, sym, ◌∙◌, arith}
 use Rattle.plane.specs.Signs.{at_z}
-use Rattle.plane.specs.Planes.{shape_at, up}
+use Rattle.plane.specs.Planes.{shape_at}
 use Rattle.plane.proofs.Signed.{tested}
 use Rattle.mover.specs.Element.{dim_of}
 use Rattle.mover.specs.Private.Rows.{inward_of}

@@ -1,4 +1,4 @@
-use Rattle.std.proofs.Common.{◌≡◌, ℕ, ◌-◌, ◌≤◌, length, take, refl, ap, ◌∙◌, arith}
+use Rattle.std.proofs.Common.{◌≡◌, ℕ, ◌≤◌, length, take, refl, ap, ◌∙◌, arith}
 use lib.Seq.{sets}
 use Rattle.plane.proofs.Bounds.{element_small}
 use Rattle.mover.specs.Private.Rows.{size_of, row_bytes}

@@ -1,5 +1,4 @@
-use Rattle.std.proofs.Common.{ℕ, ◌-◌, ◌*◌, ◌≤◌, arith}
-use Rattle.plane.specs.Arrays.{at}
+use Rattle.std.proofs.Common.{ℕ, ◌*◌, ◌≤◌, arith}
 use Rattle.plane.proofs.Arrays.{summed_start, summed_more, summed_end}
 use Rattle.mover.proofs.Making.{bytes_fit}
 use Rattle.mover.proofs.plan.base_of.Goals as goal

@@ -1,4 +1,4 @@
-use Rattle.std.proofs.Common.{ℕ, ◌-◌, ◌*◌, ◌<◌, ◌≤◌, ℤ, ap, ◌∙◌, arith}
+use Rattle.std.proofs.Common.{ℕ, ◌*◌, ◌<◌, ◌≤◌, ℤ, ap, ◌∙◌, arith}
 use Rattle.plane.specs.Arrays.{at}
 use Rattle.plane.specs.Signs.{is_down, at_z}
 use Rattle.plane.specs.Planes.{shape_at, up}

@@ -1,4 +1,4 @@
-use Rattle.std.proofs.Common.{◌-◌, refl, arith}
+use Rattle.std.proofs.Common.{refl, arith}
 use Rattle.plane.proofs.Products.{multiplied_start, multiplied_more, multiplied_fits, multiplied_end}
 use Rattle.mover.proofs.plan.total.Goals as goal
 

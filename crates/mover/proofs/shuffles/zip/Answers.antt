@@ -1,4 +1,4 @@
-use Rattle.std.proofs.Common.{◌-◌, length, ap, ◌∙◌, arith}
+use Rattle.std.proofs.Common.{length, ap, ◌∙◌, arith}
 use lib.Seq.{length-sets}
 use Rattle.plane.proofs.Bounds.{element_small}
 use Rattle.mover.proofs.Shuffled.{zip_start, zip_left, zip_more, zip_done}

@@ -1,4 +1,3 @@
-use Prim.Native.Nat.{◌-◌}
 use native.Mathlib.Omega.{arith}
 use Rattle.plane.specs.Arrays.{at}
 use Rattle.plane.specs.Moves.{dst_extents}

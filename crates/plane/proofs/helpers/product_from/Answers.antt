@@ -1,4 +1,3 @@
-use Prim.Native.Nat.{◌-◌}
 use native.Mathlib.Omega.{arith}
 use Rattle.plane.proofs.Products.{from_start, from_more, from_fits, from_end}
 use Rattle.plane.proofs.helpers.product_from.Goals as goal

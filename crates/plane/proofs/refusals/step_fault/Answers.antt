@@ -1,4 +1,3 @@
-use Prim.Native.Nat.{◌-◌}
 use native.Mathlib.Omega.{arith}
 use Rattle.faults.proofs.Faults.{searched_start, searched_more, searched_found, searched_end}
 use Rattle.plane.proofs.refusals.step_fault.Goals as goal

@@ -1,6 +1,5 @@
-use Prim.Native.Nat.{ℕ, ◌-◌, ◌*◌, ◌≤◌}
+use Prim.Native.Nat.{ℕ, ◌*◌, ◌≤◌}
 use native.Mathlib.Omega.{arith}
-use Rattle.plane.specs.Arrays.{at}
 use Rattle.plane.proofs.Arrays.{summed_start, summed_more, summed_end}
 use Rattle.plane.proofs.strides.distance.Goals as goal
 use Rattle.plane.proofs.strides.distance.Goals.{After-times-total}

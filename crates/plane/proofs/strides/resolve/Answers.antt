@@ -1,4 +1,3 @@
-use Prim.Native.Nat.{◌-◌}
 use native.Mathlib.Omega.{arith}
 use Rattle.faults.proofs.Bools.{in_range}
 use Rattle.plane.proofs.Resolving.{walked_start, walked_more, walked_bad, walked_end}

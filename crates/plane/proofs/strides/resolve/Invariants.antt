@@ -1,5 +1,4 @@
 -- `plane::strides::resolve` meets its contract. Assumes nothing.
-use Prim.Native.Nat.{◌-◌}
 use Rattle.plane.specs.Arrays.{at}
 use Rattle.plane.proofs.Resolving.{Walked}
 use Rattle.plane.proofs.strides.resolve.Given as goal

@@ -1,6 +1,4 @@
-use Prim.Native.Nat.{◌-◌}
 use native.Mathlib.Omega.{arith}
-use Rattle.plane.specs.Arrays.{at}
 use Rattle.faults.proofs.Faults.{searched_start, searched_more, searched_found, searched_end}
 use Rattle.plane.proofs.sub.sub_size_fault.Goals as goal
 

@@ -1,4 +1,3 @@
-use Prim.Native.Nat.{◌-◌}
 use Rattle.plane.specs.Signs.{at_z}
 use Rattle.plane.proofs.Signed.{read_back}
 use Rattle.plane.proofs.Staying.{shrunk_start, shrunk_lacks, shrunk_gone, shrunk_kept, shrunk_end}

@@ -1,4 +1,3 @@
-use Prim.Native.Nat.{◌-◌}
 use mathlib.Core.Path.{refl, sym, ◌∙◌}
 use native.Mathlib.Omega.{arith}
 use Rattle.faults.proofs.Faults.{searched_more, searched_found, searched_end}
@@ -16,8 +15,7 @@ returns-then-has_entry c =
 
 pub loop-d-preserved : goal.loop-d-preserved
 loop-d-preserved c =
-    let l = c.loop-d in
-    (
+    let l = c.loop-d in (
       omega arith,
       searched_more l.invariant.1 (omega arith)
           (stray_is c.args.t c.args.c l.d l.invariant.0 ∙ sym c.has_entry.ensures ∙ c.if-has_entry.false),

@@ -1,7 +1,6 @@
-use Prim.Native.Nat.{ℕ, ◌-◌}
+use Prim.Native.Nat.{ℕ}
 use native.Mathlib.Omega.{arith}
 use mathlib.Core.Path.{sym, ap, ◌∙◌}
-use mathlib.Core.Bool.{false}
 use Rattle.plane.proofs.Arrays.{some_start, some_more, some_found, some_end}
 use Rattle.transfers.specs.declared.Slot.{Slot}
 use Rattle.transfers.specs.Slots.{slot_at, breaks, clashes}
