@@ -7,7 +7,7 @@ SEED ?= 1
 
 show: kit
 	@echo "proving rmvshow and what it stands on; on a fresh clone that takes some minutes"
-	@rt check rmvshow >/dev/null || { rt check rmvshow; exit 1; }
+	@scripts/build rmvshow
 	@echo "\$$ scripts/run rmvshow < samples/turn.rmv"
 	@scripts/run rmvshow < samples/turn.rmv
 
@@ -26,7 +26,7 @@ seeded: cargo programs
 
 programs: kit
 	@echo "proving rmvshow, rmvlist, rmvpixel, rmvcalls and what they stand on"
-	@rt check rmvshow rmvlist rmvpixel rmvcalls >/dev/null || { rt check rmvshow rmvlist rmvpixel rmvcalls; exit 1; }
+	@scripts/build rmvshow rmvlist rmvpixel rmvcalls
 
 kit:
 	@command -v rt >/dev/null 2>&1 || { \
