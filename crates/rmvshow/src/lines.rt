@@ -1,42 +1,35 @@
-// What rmvshow prints. Nothing here can fail: what cannot be written is not.
+// What rmvshow prints.
 ghost use Rattle.std.specs.Prelude.{◌≡◌, ◌≤◌, min, length};
 
 use plane::Answer;
+use std::io;
 
 // An entry after a blank, where its dimension is below the rank.
-fn entry(fd: i32, rank: u8, d: u8, x: u32) {
+fn entry(rt: &impl Print, rank: u8, d: u8, x: u32) -> io::Result<()> {
     if d < rank {
-        io::write_all(fd, b" ");
-        io::print_decimal(fd, x as u64);
+        print!(rt; " {x}")?;
     }
+    Ok(())
 }
 
-fn entries(fd: i32, rank: u8, a: [u32; 4]) {
-    entry(fd, rank, 0, a[0]);
-    entry(fd, rank, 1, a[1]);
-    entry(fd, rank, 2, a[2]);
-    entry(fd, rank, 3, a[3]);
+fn entries(rt: &impl Print, rank: u8, a: [u32; 4]) -> io::Result<()> {
+    entry(rt, rank, 0, a[0])?;
+    entry(rt, rank, 1, a[1])?;
+    entry(rt, rank, 2, a[2])?;
+    entry(rt, rank, 3, a[3])
 }
 
 // Status and dimension, and for an accepted move shape, stride and need.
-pub(crate) fn answer(fd: i32, a: Answer) {
-    io::write_all(fd, b"status ");
-    io::print_decimal(fd, a.status as u64);
-    io::write_all(fd, b" dim ");
-    io::print_decimal(fd, a.dim as u64);
-    io::write_all(fd, b"\n");
+pub(crate) fn answer(rt: &impl Print, a: Answer) -> io::Result<()> {
+    println!(rt; "status {} dim {}", a.status, a.dim)?;
     if a.status != 0 {
-        return;
+        return Ok(());
     }
-    let extent = a.extent;
-    let stride = a.stride;
-    io::write_all(fd, b"shape");
-    entries(fd, a.rank, extent);
-    io::write_all(fd, b" stride");
-    entries(fd, a.rank, stride);
-    io::write_all(fd, b"\nneed ");
-    io::print_decimal(fd, a.need);
-    io::write_all(fd, b"\n");
+    print!(rt; "shape")?;
+    entries(rt, a.rank, a.extent)?;
+    print!(rt; " stride")?;
+    entries(rt, a.rank, a.stride)?;
+    println!(rt; "\nneed {}", a.need)
 }
 
 // The low hexadecimal digit of n.
@@ -48,7 +41,7 @@ fn digit(n: u8) -> u8 {
 const ROW: usize = 256; // bytes printed by one write
 
 // The bytes in hexadecimal, each with a blank after it, but a line end after the last byte of all.
-fn row(fd: i32, bytes: &[u8], is_last: bool)
+fn row(rt: &impl Print, bytes: &[u8], is_last: bool) -> io::Result<()>
     requires { length bytes.now ≤ 256 }
 {
     let mut text = [0u8; 3 * ROW];
@@ -58,7 +51,7 @@ fn row(fd: i32, bytes: &[u8], is_last: bool)
         text[3 * i + 1] = digit(bytes[i]);
         text[3 * i + 2] = if is_last & (i + 1 == n) { b'\n' } else { b' ' };
     }
-    io::write_all(fd, &text[..3 * n]);
+    rt.write_all(&text[..3 * n])
 }
 
 fn smaller(a: usize, b: usize) -> usize
@@ -68,12 +61,13 @@ fn smaller(a: usize, b: usize) -> usize
 }
 
 // The first need bytes on one line.
-pub(crate) fn bytes(fd: i32, room: &[u8], need: u64) {
+pub(crate) fn bytes(rt: &impl Print, room: &[u8], need: u64) -> io::Result<()> {
     let n = smaller(room.len(), need as usize);
     let mut i = 0;
     while i < n {
         let end = i + smaller(ROW, n - i);
-        row(fd, &room[i..end], end == n);
+        row(rt, &room[i..end], end == n)?;
         i = end;
     }
+    Ok(())
 }
