@@ -1,7 +1,7 @@
 // rmvlist: reads a list of moves from standard input, and tells of each record what it holds and what room it asks for.
 #![tactic(auto)]
 
-use libc::{STDIN_FILENO, STDOUT_FILENO};
+use std::io;
 
 mod lines; // what is printed
 
@@ -10,21 +10,21 @@ const RECORDS: usize = 1000; // records of the longest list
 const LONGEST: usize = list::HEAD + RECORDS * record::LENGTH; // bytes of that list
 
 // A line for the list, and then one for each of its records. A refused list has none.
-fn show(fd: i32, bytes: &[u8]) {
+fn show(rt: &impl Print, bytes: &[u8]) -> io::Result<()> {
     let count = list::record_count(bytes);
-    lines::head(fd, list::list_fault(bytes), count);
+    lines::head(rt, list::list_fault(bytes), count)?;
     for k in 0..count {
-        lines::record(fd, list::record_at(bytes, k));
+        lines::record(rt, list::record_at(bytes, k))?;
     }
+    Ok(())
 }
 
 // One byte more than the longest list is read, so that a longer input is told from it; it is not looked at.
-fn main() {
+fn main(rt: HostRuntime) -> io::Result<()> {
     let mut bytes = [0u8; LONGEST + 1];
-    let n = io::read_full(STDIN_FILENO, &mut bytes);
+    let n = input::read_full(&mut rt.reader(), &mut bytes)?;
     if LONGEST < n {
-        lines::too_long(STDOUT_FILENO, LONGEST, RECORDS);
-        return;
+        return lines::too_long(&rt, LONGEST, RECORDS);
     }
-    show(STDOUT_FILENO, &bytes[..n]);
+    show(&rt, &bytes[..n])
 }

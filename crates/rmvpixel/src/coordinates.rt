@@ -1,11 +1,7 @@
 // The coordinate that the program is given as its arguments.
+use std::env::{Env, FillError};
 
 const DIGITS: usize = 10; // of the longest number
-
-const LARGEST: u64 = 4294967295; // the largest number of 32 bits
-
-// What stands for an argument that is no number: it is above the largest.
-const NO_NUMBER: u64 = LARGEST + 1;
 
 // One to four numbers, with 0 behind them. Where the arguments are no such, the count is 0.
 #[derive(Clone, Copy)]
@@ -21,52 +17,58 @@ fn none() -> Coordinate {
     }
 }
 
-// The number that these decimal digits are, or NO_NUMBER.
-fn number(text: &[u8]) -> u64 {
-    let mut n: u64 = 0;
-    for i in 0..text.len() {
-        let c = text[i];
-        let digit = match c {
-            b'0'..=b'9' => c - b'0',
-            _ => return NO_NUMBER,
-        };
-        n = n * 10 + digit as u64;
-        if LARGEST < n {
-            return NO_NUMBER;
-        }
-    }
-    n
+// What an argument is.
+#[derive(Clone, Copy)]
+enum Word {
+    Missing,
+    Number(u32),
+    NoNumber,
 }
 
-// Argument i as a number. Of one that is missing, empty or too long the kit tells length 0.
-fn argument(i: usize) -> u64 {
-    let mut text = [0u8; DIGITS];
-    let n = os::arg(i, &mut text);
-    if n == 0 {
-        return NO_NUMBER;
+// The number of 32 bits that these decimal digits are.
+fn number(text: &[u8]) -> Option<u32> {
+    let mut n: u32 = 0;
+    for &c in text {
+        let digit = match c {
+            b'0'..=b'9' => c - b'0',
+            _ => return None,
+        };
+        n = n.checked_mul(10)?.checked_add(u32::from(digit))?;
     }
-    number(&text[..n])
+    Some(n)
+}
+
+// Argument i. One that is empty or longer than the longest number is no number.
+fn argument(env: &impl Env, i: usize) -> Word {
+    let mut text = [0u8; DIGITS];
+    let n = match env.arg(i, &mut text) {
+        Ok(n) => n,
+        Err(FillError::NotPresent) => return Word::Missing,
+        Err(FillError::TooLong) => return Word::NoNumber,
+    };
+    if n == 0 {
+        return Word::NoNumber;
+    }
+    match number(&text[..n]) {
+        Some(x) => Word::Number(x),
+        None => Word::NoNumber,
+    }
 }
 
 // The arguments after the program's own name.
-pub(crate) fn given() -> Coordinate {
-    let n = os::arg_count();
-    if n < 2 {
-        return none();
-    }
-    if 5 < n {
-        return none();
-    }
+pub(crate) fn given(env: &impl Env) -> Coordinate {
     let mut at = [0u32; 4];
-    for i in 1..n {
-        let x = argument(i);
-        if LARGEST < x {
-            return none();
+    for i in 0..4 {
+        match argument(env, i + 1) {
+            Word::Number(x) => at[i] = x,
+            Word::Missing => {
+                return Coordinate { count: i as u8, at };
+            }
+            Word::NoNumber => return none(),
         }
-        at[i - 1] = x as u32;
     }
-    Coordinate {
-        count: (n - 1) as u8,
-        at,
+    match argument(env, 5) {
+        Word::Missing => Coordinate { count: 4, at },
+        _ => none(),
     }
 }

@@ -1,47 +1,41 @@
-// What rmvpixel prints. Nothing here can fail: what cannot be written is not.
+// What rmvpixel prints.
 use mover::PixelAnswer;
+use std::io;
 
 // The one line of arguments that are no coordinate of the plane.
-pub(crate) fn no_coordinate(fd: i32) {
-    io::write_all(
-        fd,
-        b"give a number from 0 to 4294967295 for each dimension of the plane\n",
-    );
+pub(crate) fn no_coordinate(rt: &impl Print) -> io::Result<()> {
+    rt.println("give a number from 0 to 4294967295 for each dimension of the plane")
 }
 
 // Status and dimension.
-pub(crate) fn status(fd: i32, status: u8, dim: u8) {
-    io::write_all(fd, b"status ");
-    io::print_decimal(fd, status as u64);
-    io::write_all(fd, b" dim ");
-    io::print_decimal(fd, dim as u64);
-    io::write_all(fd, b"\n");
+pub(crate) fn status(rt: &impl Print, status: u8, dim: u8) -> io::Result<()> {
+    println!(rt; "status {status} dim {dim}")
 }
 
 // Byte b of an element of that size in hexadecimal, after a blank unless it is the first.
-fn byte(fd: i32, size: u8, b: u8, x: u8) {
+fn byte(rt: &impl Print, size: u8, b: u8, x: u8) -> io::Result<()> {
     if size <= b {
-        return;
+        return Ok(());
     }
     if 0 < b {
-        io::write_all(fd, b" ");
+        rt.print(" ")?;
     }
-    io::print_hex(fd, x as u64, 2);
+    print!(rt; "{x:02x}")
 }
 
 // Status and dimension, and of an accepted pixel its bytes and whether it is padding.
-pub(crate) fn pixel(fd: i32, p: PixelAnswer, size: u8) {
-    status(fd, p.status, p.dim);
+pub(crate) fn pixel(rt: &impl Print, p: PixelAnswer, size: u8) -> io::Result<()> {
+    status(rt, p.status, p.dim)?;
     if p.status != 0 {
-        return;
+        return Ok(());
     }
     let bytes = p.bytes;
-    byte(fd, size, 0, bytes[0]);
-    byte(fd, size, 1, bytes[1]);
-    byte(fd, size, 2, bytes[2]);
-    byte(fd, size, 3, bytes[3]);
+    byte(rt, size, 0, bytes[0])?;
+    byte(rt, size, 1, bytes[1])?;
+    byte(rt, size, 2, bytes[2])?;
+    byte(rt, size, 3, bytes[3])?;
     if p.padding {
-        io::write_all(fd, b" padding");
+        rt.print(" padding")?;
     }
-    io::write_all(fd, b"\n");
+    rt.println("")
 }

@@ -2,11 +2,13 @@
 // that the move would store there. Nothing is moved.
 #![tactic(auto)]
 
-ghost use Rattle.std.specs.Prelude.{◌≡◌, ◌+◌, ◌≤◌, min, length};
+ghost use Rattle.std.specs.Prelude.{◌≡◌, ◌+◌, ◌≤◌, IfOk, min, length};
 ghost use Rattle.record.specs.Layout.{length_of};
 
 use crate::coordinates::Coordinate;
-use libc::{STDIN_FILENO, STDOUT_FILENO};
+use input::read_full;
+use std::io;
+use std::io::Read;
 
 mod coordinates; // numbers from the arguments
 mod lines; // what is printed
@@ -25,48 +27,45 @@ fn smaller(a: usize, b: usize) -> usize
 }
 
 // Reads a record, as long as its version says, and then up to SOURCE bytes; tells how many there were in all.
-fn read_input(input: &mut [u8]) -> usize
+fn read_input<R: Read>(reader: &mut R, input: &mut [u8]) -> io::Result<usize>
     requires { length input.old ≡ length_of 2 + 16384 }
-    ensures { result ≤ length_of 2 + 16384 }
+    ensures { IfOk result (λ n. n ≤ length_of 2 + 16384) }
 {
-    let n = io::read_full(STDIN_FILENO, &mut input[0..record::LENGTH]);
+    let n = read_full(reader, &mut input[0..record::LENGTH])?;
     if n < record::LENGTH {
-        return n;
+        return Ok(n);
     }
     if record::length_in(input) == record::LENGTH {
-        let more = io::read_full(STDIN_FILENO, &mut input[record::LENGTH..UNFILLED]);
-        return record::LENGTH + more;
+        let more = read_full(reader, &mut input[record::LENGTH..UNFILLED])?;
+        return Ok(record::LENGTH + more);
     }
-    let more = io::read_full(STDIN_FILENO, &mut input[record::LENGTH..FILLED]);
-    record::LENGTH + more
+    let more = read_full(reader, &mut input[record::LENGTH..FILLED])?;
+    Ok(record::LENGTH + more)
 }
 
 // The input begins with a record, or with what there is of one. What follows is the source.
-fn show(fd: i32, input: &[u8], x: Coordinate) {
+fn show(rt: &impl Print, input: &[u8], x: Coordinate) -> io::Result<()> {
     let split = smaller(record::length_in(input), input.len());
     let r = record::read(&input[0..split]);
     if r.status != 0 {
-        lines::status(fd, r.status, r.dim);
-        return;
+        return lines::status(rt, r.status, r.dim);
     }
     let t = r.tensor;
     let c = r.config;
     let at = x.at;
     if x.count < t.rank {
-        lines::no_coordinate(fd);
-        return;
+        return lines::no_coordinate(rt);
     }
     let p = mover::pixel(t, c, &input[split..], at);
-    lines::pixel(fd, p, t.element_size);
+    lines::pixel(rt, p, t.element_size)
 }
 
-fn main() {
-    let x = coordinates::given();
+fn main(rt: HostRuntime) -> io::Result<()> {
+    let x = coordinates::given(&rt);
     if x.count == 0 {
-        lines::no_coordinate(STDOUT_FILENO);
-        return;
+        return lines::no_coordinate(&rt);
     }
     let mut input = [0u8; FILLED];
-    let n = read_input(&mut input);
-    show(STDOUT_FILENO, &input[0..n], x);
+    let n = read_input(&mut rt.reader(), &mut input)?;
+    show(&rt, &input[0..n], x)
 }
