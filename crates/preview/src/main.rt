@@ -4,9 +4,9 @@
 // thumbnail in a frame, and its record by itself, and at last a record that asks for more than anybody would lend.
 #![tactic(auto)]
 
-use libc::STDOUT_FILENO;
 use plane::{Config, Tensor};
 use record::Reading;
+use std::io;
 use transfers::{Job, Part, Poll, Table};
 
 const HEIGHT: usize = 4;
@@ -98,15 +98,12 @@ fn upside_down(t: Tensor) -> Tensor {
     Tensor { stride, ..t }
 }
 
-fn print_number(text: &[u8], number: u64) {
-    io::write_all(STDOUT_FILENO, text);
-    io::write_all(STDOUT_FILENO, b" ");
-    io::print_decimal(STDOUT_FILENO, number);
-    io::write_all(STDOUT_FILENO, b"\n");
+fn print_number(rt: &impl Print, text: &str, number: u64) -> io::Result<()> {
+    println!(rt; "{text} {number}")
 }
 
-fn print_status(text: &[u8], status: u8) {
-    print_number(text, status as u64);
+fn print_status(rt: &impl Print, text: &str, status: u8) -> io::Result<()> {
+    print_number(rt, text, status as u64)
 }
 
 // Whether byte i is the last of its row.
@@ -117,47 +114,55 @@ fn ends_row(i: usize, width: usize) -> bool {
     i % width == width - 1
 }
 
-fn print_byte(byte: u8, is_last: bool) {
-    io::print_hex(STDOUT_FILENO, byte as u64, 2);
+fn print_byte(rt: &impl Print, byte: u8, is_last: bool) -> io::Result<()> {
     if is_last {
-        io::write_all(STDOUT_FILENO, b"\n");
-        return;
+        return println!(rt; "{byte:02x}");
     }
-    io::write_all(STDOUT_FILENO, b" ");
+    print!(rt; "{byte:02x} ")
 }
 
 // A plane of bytes without gaps, a row a line.
-fn print_plane(bytes: &[u8], width: u32) {
-    for i in 0..bytes.len() {
-        print_byte(bytes[i], ends_row(i, width as usize));
+fn print_plane(rt: &impl Print, bytes: &[u8], width: u32) -> io::Result<()> {
+    for (i, byte) in bytes.iter().enumerate() {
+        print_byte(rt, *byte, ends_row(i, width as usize))?;
     }
+    Ok(())
 }
 
 // A whole move into the room lent.
-fn move_and_print(t: Tensor, c: Config, source: &[u8], room: &mut [u8]) {
+fn move_and_print(
+    rt: &impl Print,
+    t: Tensor,
+    c: Config,
+    source: &[u8],
+    room: &mut [u8],
+) -> io::Result<()> {
     let answer = mover::move_plane(t, c, source, room);
     if answer.status != 0 {
-        print_status(b"refused", answer.status);
-        return;
+        return print_status(rt, "refused", answer.status);
     }
-    print_status(b"moved", 0);
-    print_plane(room, answer.extent[1]);
+    print_status(rt, "moved", 0)?;
+    print_plane(rt, room, answer.extent[1])
 }
 
 // The same into the start of a buffer. The limit comes first, since a stranger's record may ask for any room: what needs more than
 // MOST is refused with 13, and what the move would refuse with its number. Of the rest n is the need, just what is lent.
-fn move_into(t: Tensor, c: Config, source: &[u8], buffer: &mut [u8]) {
+fn move_into(
+    rt: &impl Print,
+    t: Tensor,
+    c: Config,
+    source: &[u8],
+    buffer: &mut [u8],
+) -> io::Result<()> {
     let asked = plane::judge(t, c, source.len(), MOST);
     if asked.status != 0 {
-        print_status(b"refused", asked.status);
-        return;
+        return print_status(rt, "refused", asked.status);
     }
     let n = asked.need as usize;
     if buffer.len() < n {
-        print_status(b"refused", 13);
-        return;
+        return print_status(rt, "refused", 13);
     }
-    move_and_print(t, c, source, &mut buffer[0..n]);
+    move_and_print(rt, t, c, source, &mut buffer[0..n])
 }
 
 // A plane of the picture in two planes, with so many channels.
@@ -181,16 +186,17 @@ fn behind(channels: u32) -> Config {
 }
 
 // Joins colour and alpha along channels. Neither move touches a byte of the other's.
-fn join(room: &mut [u8]) {
+fn join(rt: &impl Print, room: &mut [u8]) -> io::Result<()> {
     let colour = COLOUR;
     let alpha = ALPHA;
     let first = mover::move_plane(plane_of(COLOURS as u32), behind(0), &colour, room);
     let second = mover::move_plane(plane_of(1), behind(COLOURS as u32), &alpha, room);
-    print_status(b"colour", first.status);
-    print_status(b"alpha", second.status);
+    print_status(rt, "colour", first.status)?;
+    print_status(rt, "alpha", second.status)?;
     if (first.status == 0) & (second.status == 0) {
-        print_plane(room, JOINED_ROW as u32);
+        print_plane(rt, room, JOINED_ROW as u32)?;
     }
+    Ok(())
 }
 
 // A transfer within the memory: it reads the picture, and writes length bytes from byte start on.
@@ -245,103 +251,112 @@ fn by_turns(table: Table, mem: &mut [u8], first: u32, second: u32) -> Table {
 
 // Starts the transfers a and b that a table has prepared, and releases them once they are done. A transfer that is not done is
 // not released: so the two numbers printed tell whether all went well.
-fn run_both(table: Table, mem: &mut [u8], a: u32, b: u32) {
+fn run_both(rt: &impl Print, table: Table, mem: &mut [u8], a: u32, b: u32) -> io::Result<()> {
     let one = table.start(mem, a);
     let both = one.table.start(mem, b);
     let done = by_turns(both.table, mem, a, b);
     let less = done.release(mem, a);
     let none = less.table.release(mem, b);
-    print_status(b"released", less.status);
-    print_status(b"released", none.status);
+    print_status(rt, "released", less.status)?;
+    print_status(rt, "released", none.status)
 }
 
 // Two transfers over one memory: the thumbnail, and the picture turned.
-fn transfer_both(mem: &mut [u8]) {
+fn transfer_both(rt: &impl Print, mem: &mut [u8]) -> io::Result<()> {
     let made = Table::fresh(mem.len() as u64);
     let small = made.table.prepare(mem, job(thumbnail(), SMALL_AT, SMALL));
     let large = small.table.prepare(mem, job(turned(), TURNED_AT, PICTURE));
     if (small.status != 0) | (large.status != 0) {
-        print_status(b"refused", small.status);
-        print_status(b"refused", large.status);
-        return;
+        print_status(rt, "refused", small.status)?;
+        return print_status(rt, "refused", large.status);
     }
-    run_both(large.table, mem, small.handle, large.handle);
+    run_both(rt, large.table, mem, small.handle, large.handle)
 }
 
 // Starts a prepared transfer, moves all of it in one step, and releases it.
-fn run_one(table: Table, mem: &mut [u8], handle: u32) -> Table {
+fn run_one(rt: &impl Print, table: Table, mem: &mut [u8], handle: u32) -> io::Result<Table> {
     let one = table.start(mem, handle);
     let done = one.table.step(mem, handle, u64::MAX);
     let none = done.table.release(mem, handle);
-    print_status(b"released", none.status);
-    none.table
+    print_status(rt, "released", none.status)?;
+    Ok(none.table)
 }
 
 // Gives a run back: before its transfer is released, which is refused with 33, and after that.
-fn run_and_give_back(table: Table, mem: &mut [u8], handle: u32, word: u64, first: u32) {
+fn run_and_give_back(
+    rt: &impl Print,
+    table: Table,
+    mem: &mut [u8],
+    handle: u32,
+    word: u64,
+    first: u32,
+) -> io::Result<()> {
     let early = keeper::give_back(table, word, first, SMALL_BLOCKS);
-    print_status(b"given back", early.status);
-    let after = run_one(table, mem, handle);
+    print_status(rt, "given back", early.status)?;
+    let after = run_one(rt, table, mem, handle)?;
     let back = keeper::give_back(after, early.word, first, SMALL_BLOCKS);
-    print_status(b"given back", back.status);
-    print_number(b"free blocks", keeper::free_blocks(back.word) as u64);
+    print_status(rt, "given back", back.status)?;
+    print_number(rt, "free blocks", keeper::free_blocks(back.word) as u64)
 }
 
 // A transfer in room that the keeper grants: each request is given the word that the one before handed back, so no block is granted
 // twice, and nobody else's parts meet these. The picture's run is asked for first, so it is the lowest: the memory's start, where the
 // picture stands. (Where part_of were refused, its part would be empty, and prepare would refuse the job.)
-fn transfer_kept(mem: &mut [u8]) {
+fn transfer_kept(rt: &impl Print, mem: &mut [u8]) -> io::Result<()> {
     let length = mem.len() as u64;
     let large = keeper::request(0, PICTURE_BLOCKS);
     if large.status != 0 {
-        print_status(b"no room", large.status);
-        return;
+        return print_status(rt, "no room", large.status);
     }
     let small = keeper::request(large.word, SMALL_BLOCKS);
     if small.status != 0 {
-        print_status(b"no room", small.status);
-        return;
+        return print_status(rt, "no room", small.status);
     }
     let from = keeper::part_of(length, large.first, PICTURE_BLOCKS);
     let to = keeper::part_of(length, small.first, SMALL_BLOCKS);
     let made = Table::fresh(length);
     let ready = made.table.prepare(mem, between(from.part, to.part));
     if ready.status != 0 {
-        print_status(b"refused", ready.status);
-        return;
+        return print_status(rt, "refused", ready.status);
     }
-    run_and_give_back(ready.table, mem, ready.handle, small.word, small.first);
+    run_and_give_back(rt, ready.table, mem, ready.handle, small.word, small.first)
 }
 
 // Appends the two moves to a list that was just started, as a camera stores them beside the picture. Each goes behind the length that
 // the one before it told. (A refused append tells 0: who goes on after one keeps the length before.)
-fn append_both(buffer: &mut [u8]) {
+fn append_both(rt: &impl Print, buffer: &mut [u8]) -> io::Result<()> {
     let small = list::append(buffer, list::HEAD, picture(), thumbnail());
     let large = list::append(buffer, small.length, picture(), turned());
-    print_status(b"appended", small.status);
-    print_status(b"appended", large.status);
+    print_status(rt, "appended", small.status)?;
+    print_status(rt, "appended", large.status)
 }
 
 // Makes the move of a record that was read. A bad one has its number of refusal.
-fn move_read(r: Reading, source: &[u8], buffer: &mut [u8]) {
+fn move_read(rt: &impl Print, r: Reading, source: &[u8], buffer: &mut [u8]) -> io::Result<()> {
     if r.status != 0 {
-        print_status(b"bad record", r.status);
-        return;
+        return print_status(rt, "bad record", r.status);
     }
-    move_into(r.tensor, r.config, source, buffer);
+    move_into(rt, r.tensor, r.config, source, buffer)
 }
 
 // The same of record k of a list. Those behind a bad one are still read.
-fn move_record(bytes: &[u8], k: usize, source: &[u8], buffer: &mut [u8]) {
+fn move_record(
+    rt: &impl Print,
+    bytes: &[u8],
+    k: usize,
+    source: &[u8],
+    buffer: &mut [u8],
+) -> io::Result<()> {
     let r = list::record_at(bytes, k);
-    move_read(r.reading, source, buffer);
+    move_read(rt, r.reading, source, buffer)
 }
 
 // Makes the move of each record. A refused list has none.
-fn move_listed(bytes: &[u8], source: &[u8], buffer: &mut [u8]) {
+fn move_listed(rt: &impl Print, bytes: &[u8], source: &[u8], buffer: &mut [u8]) -> io::Result<()> {
     for k in 0..list::record_count(bytes) {
-        move_record(bytes, k, source, buffer);
+        move_record(rt, bytes, k, source, buffer)?;
     }
+    Ok(())
 }
 
 // The thumbnail in a frame of one pixel, of the picture's zero point and not of zeros.
@@ -352,33 +367,39 @@ fn framed() -> Config {
 
 // One pixel of a move before anything is moved, as a colour picker asks for it. Elements are single bytes here, so the first of the
 // four is the pixel.
-fn pick(t: Tensor, c: Config, source: &[u8], at: [u32; 4]) {
+fn pick(rt: &impl Print, t: Tensor, c: Config, source: &[u8], at: [u32; 4]) -> io::Result<()> {
     let p = mover::pixel(t, c, source, at);
     if p.status != 0 {
-        print_status(b"refused", p.status);
-        return;
+        return print_status(rt, "refused", p.status);
     }
     let bytes = p.bytes;
     if p.padding {
-        io::write_all(STDOUT_FILENO, b"padding ");
+        rt.print("padding ")?;
     } else {
-        io::write_all(STDOUT_FILENO, b"picked ");
+        rt.print("picked ")?;
     }
-    print_byte(bytes[0], true);
+    print_byte(rt, bytes[0], true)
 }
 
 // Of the thumbnail in its frame: a pixel of the frame, the first within it, and one that is not there.
-fn pick_framed(source: &[u8]) {
-    pick(picture(), framed(), source, [0, 0, 0, 0]);
-    pick(picture(), framed(), source, [1, 1, 0, 0]);
-    pick(picture(), framed(), source, [4, 0, 0, 0]);
+fn pick_framed(rt: &impl Print, source: &[u8]) -> io::Result<()> {
+    pick(rt, picture(), framed(), source, [0, 0, 0, 0])?;
+    pick(rt, picture(), framed(), source, [1, 1, 0, 0])?;
+    pick(rt, picture(), framed(), source, [4, 0, 0, 0])
 }
 
 // Writes a record into the room, which has to be just as long as the record is, reads it, and makes its move.
-fn write_and_move(t: Tensor, c: Config, room: &mut [u8], source: &[u8], buffer: &mut [u8]) {
+fn write_and_move(
+    rt: &impl Print,
+    t: Tensor,
+    c: Config,
+    room: &mut [u8],
+    source: &[u8],
+    buffer: &mut [u8],
+) -> io::Result<()> {
     let f = record::write(t, c, room);
-    print_status(b"written", f.status);
-    move_read(record::read(room), source, buffer);
+    print_status(rt, "written", f.status)?;
+    move_read(rt, record::read(room), source, buffer)
 }
 
 // A plane of one pixel, of four bytes.
@@ -397,30 +418,30 @@ fn far() -> Config {
     set.config
 }
 
-fn main() {
+fn main(rt: HostRuntime) -> io::Result<()> {
     let pixels = PIXELS;
     let mut mem = [0u8; MEMORY];
-    move_into(picture(), thumbnail(), &pixels, &mut mem);
-    move_into(upside_down(picture()), thumbnail(), &pixels, &mut mem);
+    move_into(&rt, picture(), thumbnail(), &pixels, &mut mem)?;
+    move_into(&rt, upside_down(picture()), thumbnail(), &pixels, &mut mem)?;
     let mut joined = [0u8; JOINED];
-    join(&mut joined);
+    join(&rt, &mut joined)?;
     // The picture itself, at the memory's start: the transfers read it there.
     let copy = ready_made::copy(2);
-    move_into(picture(), copy.config, &pixels, &mut mem);
-    transfer_both(&mut mem);
-    print_plane(&mem[SMALL_AT..TURNED_AT], WIDTH as u32 / 2);
-    print_plane(&mem[TURNED_AT..MEMORY], HEIGHT as u32);
+    move_into(&rt, picture(), copy.config, &pixels, &mut mem)?;
+    transfer_both(&rt, &mut mem)?;
+    print_plane(&rt, &mem[SMALL_AT..TURNED_AT], WIDTH as u32 / 2)?;
+    print_plane(&rt, &mem[TURNED_AT..MEMORY], HEIGHT as u32)?;
     let mut kept = [0u8; KEPT];
-    move_into(picture(), copy.config, &pixels, &mut kept);
-    transfer_kept(&mut kept);
-    print_plane(&kept[PICTURE..PICTURE + SMALL], WIDTH as u32 / 2);
+    move_into(&rt, picture(), copy.config, &pixels, &mut kept)?;
+    transfer_kept(&rt, &mut kept)?;
+    print_plane(&rt, &kept[PICTURE..PICTURE + SMALL], WIDTH as u32 / 2)?;
     let mut burst = [0u8; LISTED];
-    print_status(b"started", list::start(&mut burst));
-    append_both(&mut burst);
-    move_listed(&burst, &pixels, &mut mem);
-    pick_framed(&pixels);
+    print_status(&rt, "started", list::start(&mut burst))?;
+    append_both(&rt, &mut burst)?;
+    move_listed(&rt, &burst, &pixels, &mut mem)?;
+    pick_framed(&rt, &pixels)?;
     let mut filled = [0u8; record::FILLED_LENGTH];
-    write_and_move(picture(), framed(), &mut filled, &pixels, &mut mem);
+    write_and_move(&rt, picture(), framed(), &mut filled, &pixels, &mut mem)?;
     let mut alone = [0u8; record::LENGTH];
-    write_and_move(pixel(), far(), &mut alone, &pixels, &mut mem);
+    write_and_move(&rt, pixel(), far(), &mut alone, &pixels, &mut mem)
 }
