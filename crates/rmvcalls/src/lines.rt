@@ -5,31 +5,25 @@ use crate::answers::Out;
 use crate::args::Body;
 use crate::calls::answer;
 use crate::layout::{BODY, NO_CALL};
-use libc::STDOUT_FILENO;
+use std::io;
 
-// A line so far: how many digits it has, the reason why it is no call, or 0, and whether every answer before it was written.
+// A line so far: how many digits it has, and the reason why it is no call, or 0.
 #[derive(Clone, Copy)]
 pub(crate) struct Line {
     pub(crate) digits: usize,
     pub(crate) reason: u8,
-    pub(crate) is_heard: bool,
 }
 
 // The start of a line.
-pub(crate) fn start(is_heard: bool) -> Line {
+pub(crate) fn start() -> Line {
     Line {
         digits: 0,
         reason: 0,
-        is_heard,
     }
 }
 
 fn no_call(reason: u8) -> Line {
-    Line {
-        digits: 0,
-        reason,
-        is_heard: true,
-    }
+    Line { digits: 0, reason }
 }
 
 // What a hexadecimal digit stands for, or 16.
@@ -59,7 +53,6 @@ fn with_char(body: &mut Body, line: Line, ch: u8) -> Line {
     Line {
         digits: line.digits + 1,
         reason: 0,
-        is_heard: true,
     }
 }
 
@@ -71,17 +64,18 @@ fn digit(n: u8) -> u8 {
 
 const ROW: usize = 4096; // bytes printed by one write
 
-// The bytes in hexadecimal. Here and below: false where they could not be written.
-fn print_row(bytes: &[u8]) -> bool
+// The bytes in hexadecimal, with a newline behind the last of a line.
+fn print_row(rt: &impl Print, bytes: &[u8], is_last: bool) -> io::Result<()>
     requires { length bytes.now ≤ 4096 }
 {
-    let mut text = [0u8; 2 * ROW];
+    let mut text = [b'\n'; 2 * ROW + 1];
     let n = bytes.len();
     for i in 0..n {
         text[2 * i] = digit(bytes[i] / 16);
         text[2 * i + 1] = digit(bytes[i]);
     }
-    io::write_all(STDOUT_FILENO, &text[..2 * n])
+    let end = if is_last { 2 * n + 1 } else { 2 * n };
+    rt.write_all(&text[..end])
 }
 
 fn smaller(a: usize, b: usize) -> usize
@@ -90,59 +84,62 @@ fn smaller(a: usize, b: usize) -> usize
     if a < b { a } else { b }
 }
 
-// The first n bytes in hexadecimal, as a line.
-fn print(bytes: &[u8], n: usize) -> bool {
+// The first n bytes in hexadecimal, as a line. Each answer has one byte at least.
+fn print(rt: &impl Print, bytes: &[u8], n: usize) -> io::Result<()> {
     let all = smaller(bytes.len(), n);
     let mut i = 0;
     while i < all {
         let end = i + smaller(ROW, all - i);
-        if !print_row(&bytes[i..end]) {
-            return false;
-        }
+        print_row(rt, &bytes[i..end], end == all)?;
         i = end;
     }
-    io::write_all(STDOUT_FILENO, b"\n")
+    Ok(())
 }
 
-fn print_reason(reason: u8) -> bool {
-    print(&[NO_CALL, reason], 2)
+fn print_reason(rt: &impl Print, reason: u8) -> io::Result<()> {
+    print(rt, &[NO_CALL, reason], 2)
 }
 
 // Makes the call of a line that has ended, and prints what it answers.
-fn finish(body: &Body, out: &mut Out, line: Line) -> bool {
+fn finish(rt: &impl Print, body: &Body, out: &mut Out, line: Line) -> io::Result<()> {
     if line.reason != 0 {
-        return print_reason(line.reason);
+        return print_reason(rt, line.reason);
     }
     if line.digits % 2 != 0 {
-        return print_reason(1);
+        return print_reason(rt, 1);
     }
     let length = answer(body, line.digits / 2, out);
-    print(out, length)
+    print(rt, out, length)
 }
 
 // Takes in one character, and hands back the line after it.
-fn next(body: &mut Body, out: &mut Out, line: Line, ch: u8) -> Line {
+fn next(rt: &impl Print, body: &mut Body, out: &mut Out, line: Line, ch: u8) -> io::Result<Line> {
     if ch != b'\n' {
-        return with_char(body, line, ch);
+        return Ok(with_char(body, line, ch));
     }
-    start(finish(body, out, line))
+    finish(rt, body, out, line)?;
+    Ok(start())
 }
 
-// Takes in what was read, and hands back the line that it ends within; the rest is not looked at once nobody hears the answers.
-pub(crate) fn feed(chunk: &[u8], body: &mut Body, out: &mut Out, line: Line) -> Line {
+// Takes in what was read, and hands back the line that it ends within.
+pub(crate) fn feed(
+    rt: &impl Print,
+    chunk: &[u8],
+    body: &mut Body,
+    out: &mut Out,
+    line: Line,
+) -> io::Result<Line> {
     let mut now = line;
-    for i in 0..chunk.len() {
-        now = next(body, out, now, chunk[i]);
-        if !now.is_heard {
-            return now;
-        }
+    for ch in chunk {
+        now = next(rt, body, out, now, *ch)?;
     }
-    now
+    Ok(now)
 }
 
 // The input has ended: a line without its newline is no call.
-pub(crate) fn end(line: Line) {
+pub(crate) fn end(rt: &impl Print, line: Line) -> io::Result<()> {
     if (line.digits != 0) | (line.reason != 0) {
-        print_reason(5);
+        print_reason(rt, 5)?;
     }
+    Ok(())
 }

@@ -5,7 +5,8 @@
 use answers::Out;
 use args::Body;
 use layout::{BODY, OUT};
-use libc::STDIN_FILENO;
+use std::io;
+use std::io::Read;
 
 mod lines; // calls and answers as lines of hexadecimal digits
 mod layout; // how many bytes each type has, and where its fields stand
@@ -22,29 +23,28 @@ mod keeper_calls; // 50 to 54
 
 const CHUNK: usize = 65536; // bytes read at once
 
-// Answers line after line until the input ends, or an answer cannot be written. A proved loop has to end, so it counts down from
-// more reads than any input takes.
-fn run(chunk: &mut [u8], body: &mut Body, out: &mut Out) {
-    let mut line = lines::start(true);
-    let mut turns = u64::MAX;
-    while turns > 0 {
-        let got = libc::read(STDIN_FILENO, chunk);
-        let n = io::count(got, chunk);
+// Answers line after line until the input ends. A proved loop has to end, so it counts more reads than any input takes.
+fn run<R: Read>(
+    rt: &impl Print,
+    reader: &mut R,
+    chunk: &mut [u8],
+    body: &mut Body,
+    out: &mut Out,
+) -> io::Result<()> {
+    let mut line = lines::start();
+    for _ in 0..u64::MAX {
+        let n = reader.read(chunk)?;
         if n == 0 {
-            lines::end(line);
-            return;
+            return lines::end(rt, line);
         }
-        line = lines::feed(&chunk[0..n], body, out, line);
-        if !line.is_heard {
-            return;
-        }
-        turns -= 1;
+        line = lines::feed(rt, &chunk[..n], body, out, line)?;
     }
+    Ok(())
 }
 
-fn main() {
+fn main(rt: HostRuntime) -> io::Result<()> {
     let mut chunk = [0u8; CHUNK];
     let mut body = [0u8; BODY];
     let mut out = [0u8; OUT];
-    run(&mut chunk, &mut body, &mut out);
+    run(&rt, &mut rt.reader(), &mut chunk, &mut body, &mut out)
 }
