@@ -23,3 +23,43 @@ pub fn read_full<R: Read>(reader: &mut R, bytes: &mut [u8]) -> io::Result<usize>
     }
     Ok(done)
 }
+
+#[cfg(test)]
+mod tests {
+    use super::*;
+
+    // A reader that gives one byte a time, and fails once it has given them all.
+    #[derive(Drop)]
+    struct Failing {
+        left: u8,
+    }
+
+    impl Read for Failing {
+        fn read(&mut self, buf: &mut [u8]) -> io::Result<usize> {
+            if self.left == 0 {
+                return Err(io::Error::from(io::ErrorKind::TimedOut));
+            }
+            if buf.is_empty() {
+                return Ok(0);
+            }
+            buf[0] = self.left;
+            self.left -= 1;
+            Ok(1)
+        }
+    }
+
+    #[test]
+    fn reads_on_after_a_short_read(rt: HostRuntime) -> io::Result<()> {
+        let mut bytes = [0u8; 3];
+        let n = read_full(&mut Failing { left: 4 }, &mut bytes)?;
+        assert_eq!(rt; n, 3);
+        assert!(rt; bytes == [4, 3, 2]);
+        Ok(())
+    }
+
+    #[test]
+    fn tells_of_a_failed_read(rt: HostRuntime) {
+        let mut bytes = [0u8; 3];
+        assert!(rt; read_full(&mut Failing { left: 2 }, &mut bytes).is_err());
+    }
+}

@@ -26,7 +26,7 @@ loop-done-preserved g c =
     let part = slice_range-put_mid from room c.in_ok-n.n c.loop-done.bytes c.read.new.buf within c.in_ok-n.ensures.bound.0 in
     let joined = take_split from (from + c.in_ok-n.n) c.loop-done.bytes (put_mid from room c.loop-done.bytes c.read.new.buf) (omega arith) (take-put_mid_below _ _ _ _ _ (le_refl _) within) in
     record {
-        same_length = search rules;
-        within = search rules;
-        read = subst (Consumes _ _) (ap (λ l. take from c.loop-done.bytes ++ l) (sym part) ∙ joined) (Consumes-trans _ _ _ _ _ c.loop-done.invariant.read c.in_ok-n.ensures.bytes.0)
-      }
+      same_length = search rules;
+      within = search rules;
+      read = subst (Consumes _ _) (ap (λ l. take from c.loop-done.bytes ++ l) (sym part) ∙ joined) (Consumes-trans _ _ _ _ _ c.loop-done.invariant.read c.in_ok-n.ensures.bytes.0);
+    }
