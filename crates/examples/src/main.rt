@@ -230,9 +230,8 @@ fn pick(
     at: [u32; 4],
 ) -> io::Result<()> {
     let p = mover::pixel(t, c, src, at);
-    let bytes = p.bytes;
     print(rt, "pixel padding", p.padding as u64)?;
-    tell(rt, name, p.status as u64, p.dim as u64, &bytes)
+    tell(rt, name, p.status as u64, p.dim as u64, &p.bytes)
 }
 
 // Of A the last, and one past it; of D, also with a fill; and of G.

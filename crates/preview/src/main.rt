@@ -372,13 +372,12 @@ fn pick(rt: &impl Print, t: Tensor, c: Config, source: &[u8], at: [u32; 4]) -> i
     if p.status != 0 {
         return print_status(rt, "refused", p.status);
     }
-    let bytes = p.bytes;
     if p.padding {
         rt.print("padding ")?;
     } else {
         rt.print("picked ")?;
     }
-    print_byte(rt, bytes[0], true)
+    print_byte(rt, p.bytes[0], true)
 }
 
 // Of the thumbnail in its frame: a pixel of the frame, the first within it, and one that is not there.

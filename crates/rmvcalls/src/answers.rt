@@ -83,43 +83,31 @@ pub(crate) fn fault(out: &mut Out, p: usize, f: Fault) -> usize {
 }
 
 pub(crate) fn tensor(out: &mut Out, p: usize, t: Tensor) -> usize {
-    let shape = t.shape;
-    let stride = t.stride;
     let p1 = byte(out, p, t.rank);
     let p2 = byte(out, p1, t.element_size);
-    let p3 = words(out, p2, shape);
-    strides(out, p3, stride)
+    let p3 = words(out, p2, t.shape);
+    strides(out, p3, t.stride)
 }
 
 pub(crate) fn config(out: &mut Out, p: usize, c: Config) -> usize {
-    let offset = c.offset;
-    let size = c.size;
-    let step = c.step;
-    let dst_offset = c.dst_offset;
-    let dst_stride = c.dst_stride;
-    let perm = c.perm;
-    let pre = c.pre;
-    let post = c.post;
-    let p1 = words(out, p, offset);
-    let p2 = words(out, p1, size);
-    let p3 = words(out, p2, step);
-    let p4 = words(out, p3, dst_offset);
-    let p5 = words(out, p4, dst_stride);
-    let p6 = bytes(out, p5, perm);
-    let p7 = bytes(out, p6, pre);
-    let p8 = bytes(out, p7, post);
+    let p1 = words(out, p, c.offset);
+    let p2 = words(out, p1, c.size);
+    let p3 = words(out, p2, c.step);
+    let p4 = words(out, p3, c.dst_offset);
+    let p5 = words(out, p4, c.dst_stride);
+    let p6 = bytes(out, p5, c.perm);
+    let p7 = bytes(out, p6, c.pre);
+    let p8 = bytes(out, p7, c.post);
     word(out, p8, c.fill)
 }
 
 pub(crate) fn answer(out: &mut Out, p: usize, a: Answer) -> usize {
-    let extent = a.extent;
-    let stride = a.stride;
     let p1 = byte(out, p, a.status);
     let p2 = byte(out, p1, a.dim);
     let p3 = byte(out, p2, a.rank);
     let p4 = byte(out, p3, a.element_size);
-    let p5 = words(out, p4, extent);
-    let p6 = words(out, p5, stride);
+    let p5 = words(out, p4, a.extent);
+    let p6 = words(out, p5, a.stride);
     long(out, p6, a.need)
 }
 
@@ -148,10 +136,9 @@ pub(crate) fn counted(out: &mut Out, p: usize, status: u8, dim: u8, count: u64) 
 }
 
 pub(crate) fn pixel(out: &mut Out, p: usize, x: PixelAnswer) -> usize {
-    let element = x.bytes;
     let p1 = byte(out, p, x.status);
     let p2 = byte(out, p1, x.dim);
-    let p3 = bytes(out, p2, element);
+    let p3 = bytes(out, p2, x.bytes);
     byte(out, p3, x.padding as u8)
 }
 
@@ -174,10 +161,9 @@ fn slot(out: &mut Out, p: usize, s: Slot) -> usize {
 }
 
 pub(crate) fn table(out: &mut Out, p: usize, t: Table) -> usize {
-    let slots = t.slots;
     let p1 = long(out, p, t.length);
-    let p2 = slot(out, p1, slots[0]);
-    let p3 = slot(out, p2, slots[1]);
-    let p4 = slot(out, p3, slots[2]);
-    slot(out, p4, slots[3])
+    let p2 = slot(out, p1, t.slots[0]);
+    let p3 = slot(out, p2, t.slots[1]);
+    let p4 = slot(out, p3, t.slots[2]);
+    slot(out, p4, t.slots[3])
 }

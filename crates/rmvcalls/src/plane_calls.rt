@@ -15,9 +15,8 @@ const DST_LEN: usize = SRC_LEN + LONG;
 const SUB_LEN: usize = AFTER_TENSOR + SUB_CONFIG;
 
 fn put_source(out: &mut Out, s: Source) -> usize {
-    let stride = s.stride;
     let p = answers::fault(out, FIRST, s.fault);
-    let p1 = answers::words(out, p, stride);
+    let p1 = answers::words(out, p, s.stride);
     answers::long(out, p1, s.span)
 }
 

@@ -38,14 +38,13 @@ fn entry(rt: &impl Print, rank: u8, d: u8, x: u32) -> io::Result<()> {
 
 // Rank, element size and shape, as many entries as the rank.
 fn tensor(rt: &impl Print, t: Tensor) -> io::Result<()> {
-    let shape = t.shape;
     told(rt, " rank ", t.rank as u64)?;
     told(rt, " element ", t.element_size as u64)?;
     rt.print(" shape")?;
-    entry(rt, t.rank, 0, shape[0])?;
-    entry(rt, t.rank, 1, shape[1])?;
-    entry(rt, t.rank, 2, shape[2])?;
-    entry(rt, t.rank, 3, shape[3])
+    entry(rt, t.rank, 0, t.shape[0])?;
+    entry(rt, t.rank, 1, t.shape[1])?;
+    entry(rt, t.rank, 2, t.shape[2])?;
+    entry(rt, t.rank, 3, t.shape[3])
 }
 
 // What the room question says: status and dimension, and the bytes of source and destination for a move that is not refused.

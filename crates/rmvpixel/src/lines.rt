@@ -29,11 +29,10 @@ pub(crate) fn pixel(rt: &impl Print, p: PixelAnswer, size: u8) -> io::Result<()>
     if p.status != 0 {
         return Ok(());
     }
-    let bytes = p.bytes;
-    byte(rt, size, 0, bytes[0])?;
-    byte(rt, size, 1, bytes[1])?;
-    byte(rt, size, 2, bytes[2])?;
-    byte(rt, size, 3, bytes[3])?;
+    byte(rt, size, 0, p.bytes[0])?;
+    byte(rt, size, 1, p.bytes[1])?;
+    byte(rt, size, 2, p.bytes[2])?;
+    byte(rt, size, 3, p.bytes[3])?;
     if p.padding {
         rt.print(" padding")?;
     }

@@ -51,12 +51,10 @@ fn show(rt: &impl Print, input: &[u8], x: Coordinate) -> io::Result<()> {
         return lines::status(rt, r.status, r.dim);
     }
     let t = r.tensor;
-    let c = r.config;
-    let at = x.at;
     if x.count < t.rank {
         return lines::no_coordinate(rt);
     }
-    let p = mover::pixel(t, c, &input[split..], at);
+    let p = mover::pixel(t, r.config, &input[split..], x.at);
     lines::pixel(rt, p, t.element_size)
 }
 

@@ -24,9 +24,7 @@ fn moved(bytes: &[u8], source: &[u8], room: &mut [u8]) -> Answer {
             dim: r.dim,
         });
     }
-    let t = r.tensor;
-    let c = r.config;
-    mover::move_plane(t, c, source, room)
+    mover::move_plane(r.tensor, r.config, source, room)
 }
 
 // Reads a record, as long as its version says, and tells how much of it there was.
