@@ -151,7 +151,7 @@ pub(crate) fn no_call(out: &mut Out, reason: u8) -> usize {
 
 // The version of docs/CALLS.md.
 fn version(out: &mut Out) -> usize {
-    let p = byte(out, FIRST, 8);
+    let p = byte(out, FIRST, 7);
     byte(out, p, 0)
 }
 
