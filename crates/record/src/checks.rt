@@ -65,7 +65,8 @@ pub fn fields_fault(version: u16, tensor: Tensor, config: Config) -> Fault
     if rank_is_bad(tensor.rank) {
         return Fault { status: 1, dim: 0 };
     }
-    if version != layout::VERSION_2 {
+    let is_plain = version != layout::VERSION_2;
+    if is_plain {
         return stray_fault(tensor, config);
     }
     if element_size(tensor.element_size) == 0 {
