@@ -21,7 +21,7 @@ use Rattle.plane.proofs.Configs.{same_offset, same_step, same_dst_offset, same_p
 use Rattle.plane.proofs.Unseen.{fault_unseen, strides_unseen, down_unseen, kept_unseen, extents_unseen, dst_strides_unseen, sub_unseen}
 use Rattle.parts.specs.Parts.{bytes_of}
 use Rattle.mover.specs.declared.Job.{Job}
-use Rattle.mover.specs.Claims.{SameFill, SameAsked, SameJob, MovesUnseen}
+use Rattle.mover.specs.Claims.{SameFill, SameAsked, SameJob, MovesUnseen, PixelUnseen}
 use Rattle.mover.specs.Element.{dim_of, k_of, is_kept, are_kept, source_place, place, padded, element}
 use Rattle.mover.specs.Pixel.{bad_coordinate, pixel_fault, pixel_of}
 use Rattle.mover.specs.Moved.{extent_at, total, per_step, coord_of, stored, moved, move_memory}
@@ -239,4 +239,7 @@ part_unseen src t t' a s s' b =
 
 pub moves_unseen : MovesUnseen
 moves_unseen =
-    record { move = move_unseen; pixel = λ src x x' t t' a c c' b h. pixel_unseen t t' c c' a b x x' h src; part = part_unseen; job = job_unseen; advance = advance_unseen; memory = advance_memory_unseen }
+    record { move = move_unseen; part = part_unseen; job = job_unseen; advance = advance_unseen; memory = advance_memory_unseen }
+
+pub one_pixel_unseen : PixelUnseen
+one_pixel_unseen src x x' t t' a c c' b h = pixel_unseen t t' c c' a b x x' h src

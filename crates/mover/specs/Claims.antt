@@ -131,21 +131,24 @@ pub record SameJob (j j' : Job) : Type 0 where
   pub asked : SameAsked j j'
   pub fill : SameFill j.tensor.element_size j.config j'.config
 
--- so every call that is handed such a record, configuration or job, and the memory that it leaves. But for the bytes of a pixel, what is
--- answered does not hang on the fill: nothing is refused for it
+-- so every call that is handed such a record, configuration or job, and the memory that it leaves. What is answered does not hang on
+-- the fill: nothing is refused for it
 pub record MovesUnseen : Type 0 where
   pub move : (src dst : List ℕ) (t t' : Tensor) → SameTensor t t' → (c c' : Config) → SameArrays t.rank c c' →
       SameFill t.element_size c c' → move_memory t c src dst ≡ move_memory t' c' src dst
-  -- of a pixel, entries of its coordinate past the rank are not looked at either
-  pub pixel : (src x x' : List ℕ) (t t' : Tensor) → SameTensor t t' → (c c' : Config) → SameArrays t.rank c c' →
-      ((i : ℕ) → i < t.rank → at x i ≡ at x' i) →
-      let p = pixel_of t c src x in let p' = pixel_of t' c' src x' in
-      (p.status ≡ p'.status) × (p.dim ≡ p'.dim) × (p.padding ≡ p'.padding) ×
-      (SameFill t.element_size c c' → p.bytes ≡ p'.bytes)
   pub part : (src : List ℕ) → UnseenSub (λ t s. sub_part t s src)
   pub job : (n : ℕ) (j j' : Job) → SameAsked j j' → verdict_of n j ≡ verdict_of n j'
   pub advance : (from budget : ℕ) (m : List ℕ) (j j' : Job) → SameAsked j j' → advance_of j from budget m ≡ advance_of j' from budget m
   pub memory : (from budget : ℕ) (m : List ℕ) (j j' : Job) → SameJob j j' → advance_memory j from budget m ≡ advance_memory j' from budget m
+
+-- and a pixel, of which entries of its coordinate past the rank are not looked at either. Of its answer only the bytes hang on the fill
+abbrev pub PixelUnseen : Type 0
+PixelUnseen =
+    (src x x' : List ℕ) (t t' : Tensor) → SameTensor t t' → (c c' : Config) → SameArrays t.rank c c' →
+    ((i : ℕ) → i < t.rank → at x i ≡ at x' i) →
+    let p = pixel_of t c src x in let p' = pixel_of t' c' src x' in
+    (p.status ≡ p'.status) × (p.dim ≡ p'.dim) × (p.padding ≡ p'.padding) ×
+    (SameFill t.element_size c c' → p.bytes ≡ p'.bytes)
 
 -- ---- What the layer above may use
 

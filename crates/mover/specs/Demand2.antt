@@ -44,10 +44,6 @@ pub record InPlaceAt (t : Tensor) (c : Config) (src e : List ℕ) (x : ℕ → �
 
 -- ---- the whole move: the destination dst has become e
 
--- a byte that belongs to the element of no coordinate is as it was
-abbrev pub RestStays : Tensor → Config → List ℕ → List ℕ → Type 0
-RestStays t c dst e = (k : ℕ) → ((x : ℕ → ℕ) → IsCoordinate t c x → Spares t c x k) → slice_index e k ≡ slice_index dst k
-
 pub record Meant (t : Tensor) (c : Config) (src dst e : List ℕ) : Type 0 where
   -- it is as long as it was
   pub long : length e ≡ length dst
@@ -56,7 +52,12 @@ pub record Meant (t : Tensor) (c : Config) (src dst e : List ℕ) : Type 0 where
   -- coordinates that differ have no byte in common
   pub apart : (x y : ℕ → ℕ) → IsCoordinate t c x → IsCoordinate t c y → (i : ℕ) → i < t.rank → (x i ≢ y i) →
       (end_at t c x ≤ byte_at t c y) ⊎ (end_at t c y ≤ byte_at t c x)
-  pub rest : RestStays t c dst e
+  -- a byte that belongs to the element of no coordinate is as it was
+  pub rest : (k : ℕ) → ((x : ℕ → ℕ) → IsCoordinate t c x → Spares t c x k) → slice_index e k ≡ slice_index dst k
+
+-- what it says of bytes that belong to no element
+abbrev pub RestStays : Tensor → Config → List ℕ → List ℕ → Type 0
+RestStays t c dst e = (k : ℕ) → ((x : ℕ → ℕ) → IsCoordinate t c x → Spares t c x k) → slice_index e k ≡ slice_index dst k
 
 -- ---- the first n elements, in destination order with the last coordinate fastest: element number q is that of coordinate coord_of t c q
 
