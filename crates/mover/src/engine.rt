@@ -66,7 +66,8 @@ pub(crate) fn by_runs(
             while c2 < plan.d2.extent {
                 let kept2 = kept(kept1, plan.d2, c2);
                 while c3 < plan.d3.extent {
-                    if left == 0 {
+                    let is_spent = left == 0;
+                    if is_spent {
                         break 'all;
                     }
                     let run = run_at(plan.d3, kept2, c3, left);

@@ -109,7 +109,8 @@ fn store_row(src: &[u8], dst: &mut [u8], row: Row, depth: u8, first: u64, end: u
     ensures stored { (h : Stands row depth src.now dst.old) → Comes h first end (first_of row depth) (past_of row depth) dst.new }
 {
     if depth == 0 {
-        if first <= row.number {
+        let is_asked = first <= row.number;
+        if is_asked {
             store(src, dst, row);
         }
         return row.number + 1 < end;

@@ -3,7 +3,7 @@ use Rattle.mover.specs.Private.Elements.{axis_kept}
 use Rattle.mover.specs.Private.Ready.{Ready, InExtents}
 use Rattle.mover.proofs.Turns.{At, Over, start, run_writes, run_reads, turn, next_row_lem, next_layer_lem, next_slab_lem, at_spent, at_end, at_length, at_ready}
 use Rattle.mover.proofs.engine.by_runs.Goals as goal
-use Rattle.mover.proofs.engine.by_runs.Goals.{At-all, At-loop-c1, At-loop-c2, At-loop-c3, In-loop-c3, Left-all, Start, else-all-test, then-all-test+then-loop-c1-test+then-loop-c2-test+then-loop-c3-test+then-left-eq0}
+use Rattle.mover.proofs.engine.by_runs.Goals.{At-all, At-loop-c1, At-loop-c2, At-loop-c3, In-loop-c3, Left-all, Start, else-all-test, then-all-test+then-loop-c1-test+then-loop-c2-test+then-loop-c3-test+then-is_spent}
 
 -- where the innermost loop stands, from the destination that the function began with
 at-loop3 : (c : At-loop-c3) → let a = c.loop-c3 in
@@ -47,7 +47,7 @@ run_at-run-requires c =
     record {
       count_bound = (ready (goal.at-run_at-run-requires c).At-loop-c3).axes.in3.within;
       c_lt_extent = c.loop-c3-test.true;
-      most_nonzero = pos_of_ne-zero c.if-left-eq0.false;
+      most_nonzero = pos_of_ne-zero c.if-is_spent.false;
     }
 
 pub overflow_add-c3 : goal.overflow_add-c3
@@ -88,9 +88,9 @@ over c =
     (start c.args.origin c.args.plan c.args.src.now c.args.dst.now c.args.from c.args.budget c.requires.ready c.requires.from_bound c.begin-start.ensures) in
     elim c.all-test.branch [
       | else-all-test w ↦ rw (w.dst-is, w.left-is) (at_end at_all w.all-test.false)
-      | then-all-test+then-loop-c1-test+then-loop-c2-test+then-loop-c3-test+then-left-eq0 w ↦
+      | then-all-test+then-loop-c1-test+then-loop-c2-test+then-loop-c3-test+then-is_spent w ↦
           rw (w.dst-is, w.left-is)
-          (at_spent (w.loop-c3.invariant c.args.dst.now (w.loop-c2.invariant c.args.dst.now (w.loop-c1.invariant c.args.dst.now at_all))) w.if-left-eq0.true)
+          (at_spent (w.loop-c3.invariant c.args.dst.now (w.loop-c2.invariant c.args.dst.now (w.loop-c1.invariant c.args.dst.now at_all))) w.if-is_spent.true)
     ]
 
 pub all-init : goal.all-init

@@ -2,7 +2,7 @@ use Rattle.std.proofs.Common.{◌≡◌, ℕ, ◌+◌, ◌-◌, ◌<◌, refl, �
 use Rattle.plane.specs.Arrays.{at}
 use Rattle.mover.proofs.Stretches.{storable, number_small, inward_stands, comes_start, comes_more, ends_most, comes_stopped, comes_end, comes_stored, comes_passed, told_one, told_inside, told_none, told_more, told_end, before_first, before_inside}
 use Rattle.mover.proofs.plain.+store_row.Goals as goal
-use Rattle.mover.proofs.plain.+store_row.Goals.{then-first-row, else-first-row}
+use Rattle.mover.proofs.plain.+store_row.Goals.{then-is_asked, else-is_asked}
 
 -- with no dimension left: the element can be stored, its number fits, and what is left of the memory
 pub store-requires : goal.store-requires
@@ -17,9 +17,9 @@ returns-then-depth-eq0-clause-told t c = told_one c.args.row c.args.depth (c.arg
 pub returns-then-depth-eq0-clause-stored : goal.returns-then-depth-eq0-clause-stored
 returns-then-depth-eq0-clause-stored t c h m u =
     let z = c.if-depth-eq0.true in
-    elim c.if-first-row.branch [
-      | then-first-row w ↦ comes_stored h z c.args.first c.args.end w.if-first-row.true c.requires.depth_bound (w.dst-is ∙ w.store.ensures) m u
-      | else-first-row w ↦ comes_passed h z c.args.first c.args.end w.if-first-row.false w.dst-is m u
+    elim c.if-is_asked.branch [
+      | then-is_asked w ↦ comes_stored h z c.args.first c.args.end w.if-is_asked.true c.requires.depth_bound (w.dst-is ∙ w.store.ensures) m u
+      | else-is_asked w ↦ comes_passed h z c.args.first c.args.end w.if-is_asked.false w.dst-is m u
     ]
 
 -- before the first coordinate
