@@ -70,7 +70,8 @@ pub fn append(buffer: &mut [u8], length: usize, tensor: Tensor, config: Config) 
     if f.status != 0 {
         return refused(f.status, f.dim);
     }
-    if config.fill != 0 {
+    let has_fill = config.fill != 0;
+    if has_fill {
         return refused(27, 0);
     }
     // it takes what was just judged: no fault is left

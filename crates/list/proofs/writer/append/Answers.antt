@@ -68,14 +68,14 @@ returns-then-f-ne0 c =
       written = told.1;
     }
 
-pub returns-then-config-ne0 : goal.returns-then-config-ne0
-returns-then-config-ne0 c =
+pub returns-then-has_fill : goal.returns-then-has_fill
+returns-then-has_fill c =
     let b = c.args.buffer.now in
     let n = c.args.length in let told = stopped_at b n c.args.tensor c.args.config
-    (append_fields b n c.args.tensor c.args.config c.if-buffer-length.false (sym (told (goal.at-returns-then-config-ne0 c).After-list_fault-status) ∙ c.if-status-ne0.false)
+    (append_fields b n c.args.tensor c.args.config c.if-buffer-length.false (sym (told (goal.at-returns-then-has_fill c).After-list_fault-status) ∙ c.if-status-ne0.false)
     (λ e. c.if-count-eq-MOST.false (c.count_in-count.ensures.0 ∙ e)) c.if-buffer-length-lt-LENGTH.false ∙
-    member_27 c.args.tensor c.args.config c.fields_fault-f.ensures c.if-f-ne0.false c.if-config-ne0.true)
-    (λ z. omega arith) c.refused-then-config-ne0.ensures in record {
+    member_27 c.args.tensor c.args.config c.fields_fault-f.ensures c.if-f-ne0.false c.if-has_fill.true)
+    (λ z. omega arith) c.refused-then-has_fill.ensures in record {
       answered = told.0;
       written = told.1;
     }
@@ -84,7 +84,7 @@ pub returns : goal.returns
 returns c =
     let told = append_0 c.args.buffer.now c.args.length c.args.tensor c.args.config c.if-buffer-length.false (sym (told (goal.at-returns c).After-list_fault-status) ∙ c.if-status-ne0.false)
     (λ e. c.if-count-eq-MOST.false (c.count_in-count.ensures.0 ∙ e)) c.if-buffer-length-lt-LENGTH.false
-    (member_good c.args.tensor c.args.config c.fields_fault-f.ensures c.if-f-ne0.false c.if-config-ne0.false)
+    (member_good c.args.tensor c.args.config c.fields_fault-f.ensures c.if-f-ne0.false c.if-has_fill.false)
     c.write.ensures.written c.count_in-count.ensures.0 c.put_count.ensures in record {
       answered = told.0;
       written = told.1;
