@@ -80,7 +80,7 @@ pub data Example : Type 0 where
   -- a word; how many blocks are free, and how many before the first taken one
   blocks : ℕ → ℕ → ℕ → Example
   -- a memory's length, a run's first block and how many; the part that it is
-  run_part_lem : ℕ → ℕ → ℕ → Placed → Example
+  placed_run : ℕ → ℕ → ℕ → Placed → Example
 
 -- the letters that the paper marks its examples with, and what is not of A to L
 pub data Letter : Type 0 where
@@ -153,7 +153,7 @@ given (append buffer n t c a out) = of_append (append_of buffer n t c) (appended
 given (room_for w n a) = of_request (request_of w n)
 given (gives_back t w first n a) = of_back (give_back_of t w first n)
 given (blocks w free before) = of_blocks (free_blocks w) (free_before_first_taken w)
-given (run_part_lem l first n a) = of_part (part_of l first n)
+given (placed_run l first n a) = of_part (part_of l first n)
 
 abbrev pub said : Example → Outcome
 said (move t c source over a out) = of_move a out
@@ -172,7 +172,7 @@ said (append buffer n t c a out) = of_append a out
 said (room_for w n a) = of_request a
 said (gives_back t w first n a) = of_back a
 said (blocks w free before) = of_blocks free before
-said (run_part_lem l first n a) = of_part a
+said (placed_run l first n a) = of_part a
 
 -- entry by entry, each under its letter
 abbrev pub outcomes : (Example → Outcome) → List Lettered → List (Letter × Outcome)
@@ -920,18 +920,18 @@ examples =
     besides shows blocks all_blocks 0 0 ∷
     besides shows blocks 9223372036854775808 63 63 ∷
     -- a 64th of 1,000 bytes is 15, rounded down: three blocks from the third on, and all. Against `blocks_rounded_up`
-    besides shows run_part_lem 1000 2 3 (bytes 30 45) ∷
-    besides shows run_part_lem 1000 0 64 (bytes 0 960) ∷
+    besides shows placed_run 1000 2 3 (bytes 30 45) ∷
+    besides shows placed_run 1000 0 64 (bytes 0 960) ∷
     -- of 256 bytes a block has 4, so every run starts at a multiple of 4; of 320 it has 5, and the second starts at byte 5
-    besides shows run_part_lem 256 1 2 (bytes 4 8) ∷
-    besides shows run_part_lem 320 1 2 (bytes 5 10) ∷
+    besides shows placed_run 256 1 2 (bytes 4 8) ∷
+    besides shows placed_run 320 1 2 (bytes 5 10) ∷
     -- the longest memory, whose blocks are of 33,554,431 bytes; one byte more, and 63 bytes: 17, also for a run that there is not
-    besides shows run_part_lem 2147483647 63 1 (bytes 2113929153 33554431) ∷
-    besides shows run_part_lem 2147483648 0 1 (no_bytes 17) ∷
-    besides shows run_part_lem 63 0 65 (no_bytes 17) ∷
+    besides shows placed_run 2147483647 63 1 (bytes 2113929153 33554431) ∷
+    besides shows placed_run 2147483648 0 1 (no_bytes 17) ∷
+    besides shows placed_run 63 0 65 (no_bytes 17) ∷
     -- a run that ends past the last block, also where 32 bits would wrap: 31
-    besides shows run_part_lem 64 60 5 (no_bytes 31) ∷
-    besides shows run_part_lem 64 4294967295 1 (no_bytes 31) ∷
+    besides shows placed_run 64 60 5 (no_bytes 31) ∷
+    besides shows placed_run 64 4294967295 1 (no_bytes 31) ∷
     -- blocks 1, 2 and 3 taken, which is 14: all three given back, or two of them
     besides shows gives_back (fresh_table 64) 14 1 3 (back 0 0) ∷
     besides shows gives_back (fresh_table 64) 14 1 2 (back 0 8) ∷

@@ -12,7 +12,7 @@ fn answer(input: &[u8]) -> Vec<String> {
 #[test]
 fn the_examples_of_the_page() {
     assert_eq!(answer(b"0403\n0405\nzz\n"), ["0403", "0400", "ff01"]);
-    assert_eq!(answer(b"00\n"), ["000800"]);
+    assert_eq!(answer(b"00\n"), ["000700"]);
 }
 
 #[test]
