@@ -2,4 +2,5 @@
 pub mod Chains
 pub mod Deciding
 pub mod Faults
+pub mod Outcomes
 pub mod Bools

@@ -1,6 +1,6 @@
 -- A fault is a number of refusal with its dimension; number 0 is no fault. A call has rules, one then the other, in the paper's order:
 -- the first that is broken gives its number, with the first of its broken dimensions.
-use Rattle.std.specs.Prelude.{ℕ, zero, suc, ◌-◌, Bool, cond, eqb}
+use Rattle.std.specs.Prelude.{ℕ, zero, suc, ◌-◌, Bool, cond, eqb, Result, Ok, Err}
 use Rattle.faults.specs.declared.Fault.{Fault}
 
 -- ---- Faults
@@ -36,6 +36,10 @@ outward num n bad = first n (λ k. when num (n - suc k) (bad (n - suc k)))
 -- y where f is a fault, and x where it is none
 abbrev pub if_fault : {A : Type 0} → Fault → A → A → A
 if_fault f y x = cond (eqb f.status 0) x y
+
+-- what a check comes to: x where f is none, else the fault
+abbrev pub outcome : {A : Type 0} → Fault → A → Result A Fault
+outcome f x = if_fault f (Err f) (Ok x)
 
 -- ---- Rules
 

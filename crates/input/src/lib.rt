@@ -3,6 +3,7 @@
 
 ghost use Rattle.std.specs.Prelude.{◌<◌, ◌≤◌, IfOk, length, take};
 ghost use Rattle.std.specs.Io.KnownBytes.{Consumes, IsAtEnd};
+ghost use Rattle.record.specs.Records.{length_in};
 
 use std::io;
 use std::io::Read;
@@ -14,6 +15,7 @@ pub fn read_full<R: Read>(reader: &mut R, bytes: &mut [u8]) -> io::Result<usize>
     ensures end { IfOk result (λ n. n < length bytes.new → IsAtEnd (R.remaining reader.new)) }
 {
     let mut done = 0;
+    // a while, since each read tells how far it came
     while done < bytes.len() {
         let n = reader.read(&mut bytes[done..])?;
         if n == 0 {
@@ -22,6 +24,23 @@ pub fn read_full<R: Read>(reader: &mut R, bytes: &mut [u8]) -> io::Result<usize>
         done += n;
     }
     Ok(done)
+}
+
+// Reads a record, as long as its version says, and hands out what there was of it.
+pub fn read_record<'a, R: Read>(
+    reader: &mut R,
+    bytes: &'a mut [u8; record::FILLED_LENGTH],
+) -> io::Result<&'a [u8]>
+    ensures read { IfOk result (λ r. Consumes (R.remaining reader.old) (R.remaining reader.new) r.now) }
+    ensures end { IfOk result (λ r. length r.now < length_in r.now → IsAtEnd (R.remaining reader.new)) }
+{
+    let n = read_full(reader, &mut bytes[..record::LENGTH])?;
+    let head = &bytes[..n];
+    if n < record::LENGTH || record::length_in(head) == record::LENGTH {
+        return Ok(&bytes[..n]);
+    }
+    let more = read_full(reader, &mut bytes[record::LENGTH..])?;
+    Ok(&bytes[..record::LENGTH + more])
 }
 
 #[cfg(test)]
@@ -61,5 +80,29 @@ mod tests {
     fn tells_of_a_failed_read(rt: HostRuntime) {
         let mut bytes = [0u8; 3];
         assert!(rt; read_full(&mut Failing { left: 2 }, &mut bytes).is_err());
+    }
+
+    // The bytes of a record of that version, and more behind it.
+    fn input_of(version: u8) -> [u8; 200] {
+        let mut bytes = [7u8; 200];
+        bytes[3] = version;
+        bytes[4] = 0;
+        bytes
+    }
+
+    #[test]
+    fn reads_no_fill_of_version_1(rt: HostRuntime) -> io::Result<()> {
+        let mut bytes = [0u8; record::FILLED_LENGTH];
+        let input = input_of(1);
+        assert_eq!(rt; read_record(&mut input.as_slice(), &mut bytes)?.len(), 131);
+        Ok(())
+    }
+
+    #[test]
+    fn reads_the_fill_of_version_2(rt: HostRuntime) -> io::Result<()> {
+        let mut bytes = [0u8; record::FILLED_LENGTH];
+        let input = input_of(2);
+        assert_eq!(rt; read_record(&mut input.as_slice(), &mut bytes)?.len(), 135);
+        Ok(())
     }
 }

@@ -4,26 +4,37 @@ use native.Mathlib.Nat.{lt_of_lt_of_le, lt_of_le_of_lt, mul-le-mul}
 use native.Mathlib.Omega.{arith}
 use mathlib.Core.Path.{◌≡◌, refl, sym, ap, ◌∙◌}
 use mathlib.Core.Logic.{inl}
-use mathlib.Core.Bool.{Bool, true, false, not, ◌&&◌, ◌||◌}
+use mathlib.Core.Bool.{Bool, true, false, cond, not, ◌&&◌, ◌||◌}
 use borrow.Author.Tests.{lt-ltb, le-ltb, ltb-false, not-false}
-use lib.Dec.{ltb}
+use lib.Dec.{eqb, ltb}
+use lib.ListN.{length}
 use lib.Bits.{bit_and, bit_or, or_lt, and_le_l}
 use lib.Pow.{pow_mono, shl_lt, shl_exact, ones_lt, ones_split, high}
-use Rattle.faults.specs.Faults.{when, ◌or_else◌}
+use Rattle.std.specs.Prelude.{Ok, Err}
+use Rattle.std.specs.List.{list_any}
+use Rattle.std.proofs.lemmas.List.{take_all}
+use Rattle.faults.specs.declared.Fault.{Fault}
+use Rattle.faults.specs.Faults.{fault, when, ◌or_else◌, outcome}
 use Rattle.faults.specs.Exactness.{Unbroken}
 use Rattle.faults.proofs.Bools.{either_clear, either_first, either_second, neither, in_range}
-use Rattle.faults.proofs.Faults.{status, or_none, or_found, if_fault_lem, if_none, given, spared, when_bad, when_good, when_zero}
+use Rattle.faults.proofs.Faults.{status, or_none, if_none, given, spared, when_bad, when_good, when_zero}
 use Rattle.faults.proofs.Chains.{unbroken}
+use Rattle.faults.proofs.Outcomes.{passes, refuses, halts, tells_ok, tells_err, answer_ok, answer_err}
 use Rattle.plane.specs.Arrays.{some}
 use Rattle.plane.proofs.Arrays.{some_found}
+use Rattle.parts.specs.declared.Part.{Part}
+use Rattle.transfers.specs.declared.Slot.{Slot}
 use Rattle.transfers.specs.declared.Table.{Table}
 use Rattle.transfers.specs.declared.Poll.{Poll}
-use Rattle.transfers.specs.Slots.{zero_part, table_sound, limit}
-use Rattle.transfers.specs.Calls.{poll_of, poll_status}
+use Rattle.transfers.specs.declared.Poll.TheVariants as says
+use Rattle.transfers.specs.Slots.{zero_part, slot_at, table_sound, limit}
+use Rattle.transfers.specs.Calls.{left, poll_slot, poll_of, poll_status}
 use Rattle.transfers.proofs.Exact.{poll_exact}
 use Rattle.transfers.proofs.Sounds.{sound_tells}
+use Rattle.transfers.proofs.Fours.{any_some}
+use Rattle.transfers.proofs.Steps.{its_poll, poll_18}
 use Rattle.keeper.specs.Blocks.{is_taken, bad_block_count, bad_run, in_run, all_free, all_taken, starts, some_run, lowest_run, with_run, without_run}
-use Rattle.keeper.specs.Calls.{request_fault, request_of, run_part, part_fault, part_of, in_use, table_rules, table_fault, give_back_rules, give_back_fault, give_back_of}
+use Rattle.keeper.specs.Calls.{request_fault, request_of, run_part, part_fault, part_of, uses, in_use, table_rules, table_fault, give_back_rules, give_back_fault, give_back_of}
 use Rattle.keeper.proofs.Bits.{taken_or, taken_and, taken_not, taken_run, is_of}
 use Rattle.keeper.proofs.Search.{lowest_is}
 
@@ -82,14 +93,24 @@ good-run first n e =
 -- ---- request
 
 module _ (w n : ℕ) where
-  pub request-31 : bad_block_count n ≡ true → record { status = 31; first = 0; word = w } ≡ request_of w n
-  unfolding request_of request_fault
-  request-31 h = rw (given 31 0 (bad_block_count n) (when 32 0 (not (some_run w n))) (omega arith) h)
+  pub granted-31 : bad_block_count n ≡ true → Err (fault 31 0) ≡ outcome (request_fault w n) (lowest_run w n)
+  unfolding request_fault
+  granted-31 h = refuses (lowest_run w n) (given 31 0 (bad_block_count n) (when 32 0 (not (some_run w n))) (omega arith) h) (λ z. omega arith)
 
   module _ (good : bad_block_count n ≡ false) where
     decides : request_fault w n ≡ when 32 0 (not (some_run w n))
     unfolding request_fault
     decides = spared 31 0 (bad_block_count n) (when 32 0 (not (some_run w n))) good
+
+    pub granted-32 : some_run w n ≡ false → Err (fault 32 0) ≡ outcome (request_fault w n) (lowest_run w n)
+    granted-32 h = refuses (lowest_run w n) (decides ∙ when_bad 32 0 (not (some_run w n)) (ap not h)) (λ z. omega arith)
+
+    pub granted-0 : (first : ℕ) → first < starts n → all_free w first n ≡ true → some first (λ b. all_free w b n) ≡ false
+        → Ok first ≡ outcome (request_fault w n) (lowest_run w n)
+    granted-0 first l here below =
+        let e : lowest_run w n ≡ first = lowest_is (λ b. all_free w b n) (starts n) first l here below in
+        let s : some_run w n ≡ true = some_found (starts n) first (λ b. all_free w b n) l here in
+        ap Ok (sym e) ∙ passes _ (lowest_run w n) (status (decides ∙ when_good 32 0 (not (some_run w n)) (ap not s)))
 
     pub request-32 : some_run w n ≡ false → record { status = 32; first = 0; word = w } ≡ request_of w n
     unfolding request_of
@@ -103,6 +124,20 @@ module _ (w n : ℕ) where
         let s : some_run w n ≡ true = some_found (starts n) first (λ b. all_free w b n) l here in
         rw (decides ∙ when_good 32 0 (not (some_run w n)) (ap not s), e)
 
+module _ (w n : ℕ) where
+  pub request_stopped : {e : Fault} → Err e ≡ outcome (request_fault w n) (lowest_run w n) → record { status = e.status; first = 0; word = w } ≡ request_of w n
+  unfolding request_of
+  request_stopped q =
+      ap (λ (f : Fault). record { status = f.status; first = 0; word = w }) (tells_err _ _ q).0 ∙ answer_err (request_fault w n) (lowest_run w n) _ _ q
+
+  pub request_went : {first u : ℕ} → Ok first ≡ outcome (request_fault w n) (lowest_run w n) → u ≡ with_run w first n
+      → record { status = 0; first = first; word = u } ≡ request_of w n
+  unfolding request_of
+  request_went {first} q e =
+      let is = (tells_ok _ _ q).0 in
+      let m = e ∙ ap (λ (k : ℕ). with_run w k n) is in
+      (λ i. record { status = 0; first = is i; word = m i }) ∙ answer_ok (request_fault w n) (lowest_run w n) _ _ q
+
 -- ---- the part that a run is
 
 -- the bytes of up to 64 blocks of a memory within the limit fit 64 bits
@@ -113,29 +148,51 @@ bytes_fit n l h m =
     omega arith
 
 module _ (l first n : ℕ) where
-  pub part-17 : (ltb l 64 || ltb limit l) ≡ true → record { status = 17; part = zero_part } ≡ part_of l first n
-  unfolding part_of part_fault
-  part-17 h = rw (given 17 0 (ltb l 64 || ltb limit l) (when 31 0 (bad_run first n)) (omega arith) h)
+  pub placed-17 : (ltb l 64 || ltb limit l) ≡ true → Err (fault 17 0) ≡ outcome (part_fault l first n) (run_part l first n)
+  unfolding part_fault
+  placed-17 h =
+      refuses (run_part l first n) (given 17 0 (ltb l 64 || ltb limit l) (when 31 0 (bad_run first n)) (omega arith) h) (λ z. omega arith)
 
   module _ (good : (ltb l 64 || ltb limit l) ≡ false) where
     run-decides : part_fault l first n ≡ when 31 0 (bad_run first n)
     unfolding part_fault
     run-decides = spared 17 0 (ltb l 64 || ltb limit l) (when 31 0 (bad_run first n)) good
 
-    pub part-31 : bad_run first n ≡ true → record { status = 31; part = zero_part } ≡ part_of l first n
-    unfolding part_of
-    part-31 h = rw (run-decides ∙ when_bad 31 0 (bad_run first n) h)
+    pub placed-31 : bad_run first n ≡ true → Err (fault 31 0) ≡ outcome (part_fault l first n) (run_part l first n)
+    placed-31 h = refuses (run_part l first n) (run-decides ∙ when_bad 31 0 (bad_run first n) h) (λ z. omega arith)
 
-    pub part-0 : bad_run first n ≡ false → record { status = 0; part = run_part l first n } ≡ part_of l first n
-    unfolding part_of
-    part-0 h = rw (run-decides ∙ when_good 31 0 (bad_run first n) h)
+    pub placed-0 : bad_run first n ≡ false → Ok (run_part l first n) ≡ outcome (part_fault l first n) (run_part l first n)
+    placed-0 h = passes _ (run_part l first n) (status (run-decides ∙ when_good 31 0 (bad_run first n) h))
+
+  pub part_stopped : {e : Fault} → Err e ≡ outcome (part_fault l first n) (run_part l first n) → record { status = e.status; part = zero_part } ≡ part_of l first n
+  unfolding part_of
+  part_stopped q =
+      ap (λ (f : Fault). record { status = f.status; part = zero_part }) (tells_err _ _ q).0 ∙
+      answer_err (part_fault l first n) (run_part l first n) _ _ q
+
+  pub part_went : {p : Part} → Ok p ≡ outcome (part_fault l first n) (run_part l first n) → record { status = 0; part = p } ≡ part_of l first n
+  unfolding part_of
+  part_went q =
+      ap (λ (p : Part). record { status = 0; part = p }) (tells_ok _ _ q).0 ∙ answer_ok (part_fault l first n) (run_part l first n) _ _ q
 
 -- ---- 17 and 18 of a table
 
+-- no slot is told as a refusal
+no_refusal : (x : Slot) (num : ℕ) → says.Refused num ≡ poll_slot x → ⊥
+unfolding poll_slot
+no_refusal x num = by_tests (eqb x.state 0) (eqb x.state 1) (eqb x.state 2)
+  where
+    by_tests : (a b d : Bool) → says.Refused num ≡ cond a says.Free (cond b (says.Prepared (left x)) (cond d (says.Running (left x)) says.Done)) → ⊥
+    by_tests true b d e = cc
+    by_tests false true d e = cc
+    by_tests false false true e = cc
+    by_tests false false false e = cc
+
 module _ (t : Table) where
-  pub table-17 : t.length < 64 → 17 ≡ (table_fault t).status
+  pub table-17 : t.length < 64 → Err (fault 17 0) ≡ outcome (table_fault t) (tt {0})
   unfolding table_fault
-  table-17 h = sym (status (given 17 0 (ltb t.length 64) (when 18 0 (not (table_sound t))) (omega arith) (lt-ltb t.length 64 h)))
+  table-17 h =
+      refuses (tt {0}) (given 17 0 (ltb t.length 64) (when 18 0 (not (table_sound t))) (omega arith) (lt-ltb t.length 64 h)) (λ z. omega arith)
 
   -- a poll of slot 0 tells whether the table is sound
   polled : (b : Bool) → table_sound t ≡ b → poll_status (poll_of t 0) ≡ (when 18 0 (not (table_sound t))).status
@@ -148,6 +205,21 @@ module _ (t : Table) where
   table-polled h e =
       ap poll_status e ∙ polled (table_sound t) refl ∙
       sym (status (spared 17 0 (ltb t.length 64) (when 18 0 (not (table_sound t))) (le-ltb t.length 64 h)))
+
+  -- and it refuses no other
+  pub table-refused : 64 ≤ t.length → {num : ℕ} → says.Refused num ≡ poll_of t 0 → Err (fault num 0) ≡ outcome (table_fault t) (tt {0})
+  unfolding table_fault
+  table-refused h {num} q = by_test (table_sound t) refl
+    where
+      by_test : (b : Bool) → table_sound t ≡ b → Err (fault num 0) ≡ outcome (table_fault t) (tt {0})
+      by_test true e = absurd (no_refusal (slot_at t 0) num (q ∙ sym (its_poll t 0 e (omega arith) refl)))
+      by_test false e =
+          let w : says.Refused num ≡ says.Refused 18 = q ∙ sym (poll_18 t 0 e) in
+          let n : num ≡ 18 = cc in
+          refuses (tt {0})
+          (spared 17 0 (ltb t.length 64) (when 18 0 (not (table_sound t))) (le-ltb t.length 64 h) ∙ when_bad 18 0 (not (table_sound t)) (ap not e) ∙
+          ap (λ (k : ℕ). fault k 0) (sym n))
+          (λ z. omega arith)
 
   -- a table that is not refused is sound, and so within the limit
   table-sound : (table_fault t).status ≡ 0 → table_sound t ≡ true
@@ -163,39 +235,49 @@ module _ (t : Table) (w first n : ℕ) where
   abbrev held : Bool
   held = not (all_taken w first n) || in_use t (run_part t.length first n)
 
-  pub back-table : {number : ℕ} → number ≡ (table_fault t).status → (number ≡ 0 → ⊥) → number ≡ (give_back_fault t w first n).status
+  pub back-table : {e : Fault} → Err e ≡ outcome (table_fault t) (tt {0}) → Err e ≡ outcome (give_back_fault t w first n) (without_run w first n)
   unfolding give_back_fault table_fault
-  back-table e b = e ∙ sym (status (or_found (table_fault t) (when 31 0 (bad_run first n) or_else when 33 0 held) (λ z. b (e ∙ z))))
+  back-table q = sym (halts (table_fault t) _ (when 31 0 (bad_run first n) or_else when 33 0 held) (without_run w first n) q refl)
 
   module _ (sound : (table_fault t).status ≡ 0) where
     after_table : give_back_fault t w first n ≡ (when 31 0 (bad_run first n) or_else when 33 0 held)
     unfolding give_back_fault table_fault
     after_table = or_none (table_fault t) (when 31 0 (bad_run first n) or_else when 33 0 held) sound
 
-    pub back-31 : bad_run first n ≡ true → 31 ≡ (give_back_fault t w first n).status
-    back-31 h = sym (status (after_table ∙ given 31 0 (bad_run first n) (when 33 0 held) (omega arith) h))
+    pub back-31 : bad_run first n ≡ true → Err (fault 31 0) ≡ outcome (give_back_fault t w first n) (without_run w first n)
+    back-31 h = refuses (without_run w first n) (after_table ∙ given 31 0 (bad_run first n) (when 33 0 held) (omega arith) h) (λ z. omega arith)
 
     module _ (good : bad_run first n ≡ false) where
       after_run : give_back_fault t w first n ≡ when 33 0 held
       after_run = after_table ∙ spared 31 0 (bad_run first n) (when 33 0 held) good
 
-      pub back-33 : held ≡ true → 33 ≡ (give_back_fault t w first n).status
-      back-33 h = sym (status (after_run ∙ when_bad 33 0 held h))
+      pub back-33 : held ≡ true → Err (fault 33 0) ≡ outcome (give_back_fault t w first n) (without_run w first n)
+      back-33 h = refuses (without_run w first n) (after_run ∙ when_bad 33 0 held h) (λ z. omega arith)
 
-      pub back-0 : held ≡ false → 0 ≡ (give_back_fault t w first n).status
-      back-0 h = sym (status (after_run ∙ when_good 33 0 held h))
+      pub back-0 : held ≡ false → Ok (without_run w first n) ≡ outcome (give_back_fault t w first n) (without_run w first n)
+      back-0 h = passes _ (without_run w first n) (status (after_run ∙ when_good 33 0 held h))
 
   -- what acceptance tells
   pub back-told : (give_back_fault t w first n).status ≡ 0 → Unbroken (give_back_rules t w first n)
   unfolding give_back_fault
   back-told e = unbroken (give_back_rules t w first n) (omega arith) e
 
-  pub back-refused : {number : ℕ} → number ≡ (give_back_fault t w first n).status → (number ≡ 0 → ⊥)
-      → record { status = number; word = w } ≡ give_back_of t w first n
+  pub back_stopped : {e : Fault} → Err e ≡ outcome (give_back_fault t w first n) (without_run w first n) → record { status = e.status; word = w } ≡ give_back_of t w first n
   unfolding give_back_of
-  back-refused e b =
-      ap (λ (x : ℕ). record { status = x; word = w }) e ∙ sym (if_fault_lem (give_back_fault t w first n) _ _ (λ z. b (e ∙ z)))
+  back_stopped q =
+      ap (λ (f : Fault). record { status = f.status; word = w }) (tells_err _ _ q).0 ∙ answer_err (give_back_fault t w first n) (without_run w first n) _ _ q
 
   pub back-given : (give_back_fault t w first n).status ≡ 0 → record { status = 0; word = without_run w first n } ≡ give_back_of t w first n
   unfolding give_back_of
   back-given e = sym (if_none (give_back_fault t w first n) _ _ e)
+
+  pub back_went : {u : ℕ} → Ok u ≡ outcome (give_back_fault t w first n) (without_run w first n) → record { status = 0; word = u } ≡ give_back_of t w first n
+  unfolding give_back_of
+  back_went q =
+      ap (λ (u : ℕ). record { status = 0; word = u }) (tells_ok _ _ q).0 ∙ answer_ok (give_back_fault t w first n) (without_run w first n) _ _ q
+
+-- the search through the slots, as the code makes it
+pub in_use_told : (t : Table) (p : Part) → length t.slots ≡ 4 → list_any (λ s. uses s p) t.slots ≡ in_use t p
+unfolding in_use
+in_use_told t p e =
+    ap (list_any (λ (s : Slot). uses s p)) (sym (take_all 4 t.slots (omega arith))) ∙ any_some (λ (s : Slot). uses s p) t.slots 4 (omega arith)

@@ -1,37 +1,46 @@
 // A run granted.
-ghost use Rattle.std.specs.Prelude.{◌≡◌};
-ghost use Rattle.keeper.specs.Calls.{request_of};
+ghost use Rattle.std.specs.Prelude.{◌≡◌, Ok, Err, IfOk, IfErr};
+ghost use Rattle.faults.specs.Faults.{outcome};
+ghost use Rattle.keeper.specs.Blocks.{lowest_run};
+ghost use Rattle.keeper.specs.Calls.{request_fault, request_of};
 
 use crate::Granted;
-use crate::runs::count_is_bad;
-use crate::words::{is_free, with_run};
+use crate::refusals::{NO_FREE_RUN, NO_RUN};
+use crate::runs::{Run, count_is_bad};
+use faults::Fault;
 
-// A refusal to grant.
-fn ungranted(status: u8, word: u64) -> Granted
-    ensures { result ≡ record { status = status; first = 0; word = word } }
+// 31, 32: the lowest run of n free neighbours.
+fn lowest_run(word: u64, n: u32) -> Result<Run, Fault>
+    ensures granted { IfOk result (λ r. (Ok r.first ≡ outcome (request_fault word n) (lowest_run word n)) × (r.n ≡ n)) }
+    ensures refused { IfErr result (λ e. Err e ≡ outcome (request_fault word n) (lowest_run word n)) }
 {
-    Granted {
-        status,
-        first: 0,
-        word,
+    if count_is_bad(n) {
+        return Err(NO_RUN);
     }
+    // a loop and no find: that none of the runs which find passes over is free was not proved of a range
+    for first in 0..65 - n {
+        let run = Run { first, n };
+        if run.is_free(word) {
+            return Ok(run);
+        }
+    }
+    Err(NO_FREE_RUN)
 }
 
 // Takes the lowest run of n free neighbours.
 pub fn request(word: u64, n: u32) -> Granted
     ensures { result ≡ request_of word n }
 {
-    if count_is_bad(n) {
-        return ungranted(31, word);
+    match lowest_run(word, n) {
+        Ok(run) => Granted {
+            status: 0,
+            first: run.first,
+            word: run.taken_in(word),
+        },
+        Err(fault) => Granted {
+            status: fault.status,
+            first: 0,
+            word,
+        },
     }
-    for first in 0..65 - n {
-        if is_free(word, first, n) {
-            return Granted {
-                status: 0,
-                first,
-                word: with_run(word, first, n),
-            };
-        }
-    }
-    ungranted(32, word)
 }

@@ -2,6 +2,7 @@
 // changes it hands back the one for the next call. No call asks anything of its caller, and none changes a table or a memory.
 #![tactic(auto)]
 
+mod refusals; // why a call is refused
 mod words; // the word: how many blocks are free, and runs of blocks
 mod runs; // which runs there are, and the part of a memory that one is
 mod grants; // a run granted

@@ -1,6 +1,8 @@
 // The word: how many blocks are free, and runs of blocks as bits. Block 0 is the lowest bit, and 1 is taken.
-ghost use Rattle.std.specs.Prelude.{◌≡◌, ◌+◌, ◌-◌, ◌^◌, ◌≤◌};
+ghost use Rattle.std.specs.Prelude.{◌≡◌, ◌-◌, ◌^◌, ◌≤◌};
 ghost use Rattle.keeper.specs.Blocks.{free_blocks, free_before_first_taken, all_free, all_taken, with_run, without_run};
+
+use crate::runs::Run;
 
 // How many blocks are free.
 pub fn free_blocks(word: u64) -> u32
@@ -24,35 +26,33 @@ fn ones(n: u32) -> u64
     0xffff_ffff_ffff_ffff >> (64 - n)
 }
 
-// Whether each of the n blocks from first on is free.
-pub(crate) fn is_free(word: u64, first: u32, n: u32) -> bool
-    requires { (1 ≤ n) × (first + n ≤ 64) }
-    ensures { result ≡ all_free word first n }
-{
-    (word >> first) & ones(n) == 0
-}
+impl Run {
+    // Whether each of its blocks is free.
+    pub(crate) fn is_free(self, word: u64) -> bool
+        ensures { result ≡ all_free word self.first self.n }
+    {
+        (word >> self.first) & ones(self.n) == 0
+    }
 
-// Whether each of them is taken.
-pub(crate) fn is_taken(word: u64, first: u32, n: u32) -> bool
-    requires { (1 ≤ n) × (first + n ≤ 64) }
-    ensures { result ≡ all_taken word first n }
-{
-    let run = ones(n);
-    (word >> first) & run == run
-}
+    // Whether each of them is taken.
+    pub(crate) fn is_taken(self, word: u64) -> bool
+        ensures { result ≡ all_taken word self.first self.n }
+    {
+        let run = ones(self.n);
+        (word >> self.first) & run == run
+    }
 
-// The word with them taken.
-pub(crate) fn with_run(word: u64, first: u32, n: u32) -> u64
-    requires { (1 ≤ n) × (first + n ≤ 64) }
-    ensures { result ≡ with_run word first n }
-{
-    word | (ones(n) << first)
-}
+    // The word with them taken.
+    pub(crate) fn taken_in(self, word: u64) -> u64
+        ensures { result ≡ with_run word self.first self.n }
+    {
+        word | (ones(self.n) << self.first)
+    }
 
-// The word with them free.
-pub(crate) fn without_run(word: u64, first: u32, n: u32) -> u64
-    requires { (1 ≤ n) × (first + n ≤ 64) }
-    ensures { result ≡ without_run word first n }
-{
-    word & !(ones(n) << first)
+    // The word with them free.
+    pub(crate) fn freed_in(self, word: u64) -> u64
+        ensures { result ≡ without_run word self.first self.n }
+    {
+        word & !(ones(self.n) << self.first)
+    }
 }

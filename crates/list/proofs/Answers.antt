@@ -2,38 +2,30 @@
 use Prim.Native.Nat.{ℕ, ◌+◌, ◌*◌, ◌≤◌, ◌<◌}
 use native.Mathlib.Decide.{ℕ_discrete}
 use native.Mathlib.Omega.{arith}
-use mathlib.Core.Path.{◌≡◌, refl, sym, ap, ◌∙◌}
+use mathlib.Core.Path.{◌≡◌, refl, ap, ◌∙◌}
 use mathlib.Core.Logic.{◌⊎◌, inl, inr}
-use mathlib.Core.Bool.{Bool, true, false, not, ◌||◌}
+use mathlib.Core.Bool.{Bool, true, false, not}
 use mathlib.Core.List.{List}
 use borrow.Author.Tests.{lt-ltb, le-ltb, lt-leb, le-leb, eq-eqb, ne_eqb, ltb-true, ltb-false, not-false, eqb-true}
-use lib.Dec.{ltb, eqb}
+use lib.Dec.{ltb}
 use lib.ListN.{length}
 use Rattle.faults.specs.declared.Fault.{Fault}
 use Rattle.faults.specs.Faults.{fault, none, when, if_fault}
 use Rattle.faults.proofs.Faults.{given, spared, if_fault_lem, if_none, when_bad, when_good, when_zero}
-use Rattle.faults.proofs.Chains.{unbroken, overall_dim}
+use Rattle.faults.proofs.Chains.{unbroken}
 use Rattle.plane.specs.Arrays.{at}
-use Rattle.record.specs.Layout.{record_length}
+use Rattle.plane.specs.Numbers.{number}
+use Rattle.record.specs.Layout.{part, record_length}
 use Rattle.record.specs.Records.{read_of}
 use Rattle.record.proofs.Digits.{number_two}
-use Rattle.list.specs.Layout.{list_head_length, version_place, list_version, list_length}
+use Rattle.list.specs.Layout.{list_head_length, list_length}
 use Rattle.list.specs.Lists.{count_in, bad_list_mark, bad_list_version, bad_count, list_rules, list_fault, record_count, record_in, number_fault, no_number, no_record, record_at, place_after}
 
 -- ---- the head
 
--- the two bytes of the version, each by itself
-pub version-by-bytes : (bs : List ℕ) → list_head_length ≤ length bs → (not (eqb (at bs 3) 1) || not (eqb (at bs 4) 0)) ≡ bad_list_version bs
-version-by-bytes bs h = by_bytes (at bs 3) (at bs 4) ∙ ap (λ (n : ℕ). not (eqb n list_version)) (sym (number_two version_place bs (omega arith)))
-  where
-    by_bytes : (low high : ℕ) → (not (eqb low 1) || not (eqb high 0)) ≡ not (eqb (low + 256 * high) 1)
-    by_bytes low high = elim (ℕ_discrete low 1) [
-      | yes l ↦ elim (ℕ_discrete high 0) [
-        | yes z ↦ rw (eq-eqb low 1 l, eq-eqb high 0 z, eq-eqb (low + 256 * high) 1 (omega arith))
-        | no z ↦ rw (eq-eqb low 1 l, ne_eqb high 0 z, ne_eqb (low + 256 * high) 1 (λ e. z (omega arith)))
-      ]
-      | no l ↦ rw (ne_eqb low 1 l, ne_eqb (low + 256 * high) 1 (λ e. l (omega arith)))
-    ]
+-- two bytes as the library reads them
+pub two_read : (bs : List ℕ) (p : ℕ) → p + 2 ≤ length bs → {n : ℕ} → n ≡ at bs p + at bs (p + 1) * 256 → n ≡ number (part p 2 bs)
+two_read bs p h e = let t = number_two p bs h in omega arith
 
 module _ (bs : List ℕ) where
   pub list-25 : length bs < list_head_length → list_fault bs ≡ fault 25 0
@@ -60,11 +52,6 @@ module _ (bs : List ℕ) where
 
         pub list-0 : length bs ≡ list_length (count_in bs) → list_fault bs ≡ none
         list-0 n = list-rest ∙ when_good 30 0 _ (ap not (eq-eqb (length bs) (list_length (count_in bs)) n))
-
--- a list's fault names dimension 0
-pub list-plain : (bs : List ℕ) → (list_fault bs).dim ≡ 0
-unfolding list_fault
-list-plain bs = overall_dim (list_rules bs) refl
 
 -- what a list has that is not refused
 pub record Good (bs : List ℕ) : Type 0 where

@@ -4,28 +4,27 @@ use native.Mathlib.Decide.{ℕ_discrete}
 use native.Mathlib.Omega.{arith}
 use mathlib.Core.Path.{◌≡◌, refl, sym, ap, ◌∙◌}
 use mathlib.Core.Bool.{false}
-use mathlib.Core.List.{List, ◌++◌, append_assoc}
-use borrow.Author.Tests.{ltb-false, lt-ltb, le-ltb, eq-eqb, ne_eqb}
-use borrow.Rule.Slice.PartMut.{mid_of, put_mid, Post-is}
+use mathlib.Core.List.{List}
+use borrow.Author.Tests.{eqb-false, ltb-false, lt-ltb, le-ltb, eq-eqb, ne_eqb}
+use borrow.Rule.Slice.PartMut.{mid_of, put_mid}
 use lib.Dec.{ltb, eqb}
 use lib.ListN.{length, take, drop, length-drop}
-use lib.Seq.{sets, sets-eq, length-take-le}
-use Rattle.faults.specs.declared.Fault.{Fault}
+use lib.Seq.{sets, length-sets, length-take-le}
 use Rattle.faults.specs.Faults.{fault, when, ◌or_else◌}
 use Rattle.faults.proofs.Chains.{unbroken, unbroken_accepts}
 use Rattle.faults.proofs.Faults.{status, is_fault, given, spared, passed, stopped, if_fault_lem, if_none, when_bad, when_good}
 use Rattle.plane.specs.declared.Tensor.{Tensor}
 use Rattle.plane.specs.declared.Config.{Config}
-use Rattle.plane.specs.Numbers.{little, number}
+use Rattle.plane.specs.Numbers.{little}
 use Rattle.record.specs.Layout.{record_length, length_of}
 use Rattle.record.specs.Records.{record_bytes, write_fault, written_room}
 use Rattle.record.proofs.Answers.{write-fields, room-written}
-use Rattle.record.proofs.Parts.{part_part}
+use Rattle.record.proofs.Parts.{part_put}
 use Rattle.list.specs.declared.Appended.{Appended}
-use Rattle.list.specs.Layout.{list_head_length, count_place, most, list_head}
+use Rattle.list.specs.Layout.{list_head_length, count_place, most, list_head, list_mark, list_version}
 use Rattle.list.specs.Lists.{count_in, list_rules, list_fault, record_count}
 use Rattle.list.specs.Writers.{start_fault, started_buffer, member_rules, member_fault, append_rules, append_fault, no_append, append_of, appended_buffer}
-use Rattle.list.proofs.Answers.{list-plain, good, count-given}
+use Rattle.list.proofs.Answers.{good, count-given}
 use Rattle.list.proofs.Members.{version_one, member_length, member_written}
 
 -- ---- an empty list
@@ -47,6 +46,16 @@ module _ (buffer : List ℕ) where
   pub start_0 : list_head_length ≤ length buffer → (start_fault buffer).status ≡ 0
   unfolding start_fault
   start_0 h = status (when_good 38 0 _ (le-ltb (length buffer) list_head_length h))
+
+  -- the head, piece by piece
+  pub start_laid : {a b d : List ℕ} → list_head_length ≤ length buffer → a ≡ list_mark → b ≡ little 2 list_version → d ≡ sets (put_mid 3 2 (put_mid 0 3 buffer a) b) 5 (little 2 0) → d ≡ sets buffer 0 (list_head 0)
+  unfolding little
+  start_laid {a} {b} h ea eb ed =
+      let m = sets buffer 0 list_mark in
+      let one : put_mid 0 3 buffer a ≡ m = part_put buffer 0 list_mark a (omega arith) ea in
+      let long = length-sets buffer 0 list_mark in
+      let two : put_mid 3 2 m b ≡ sets m 3 (little 2 list_version) = part_put m 3 (little 2 list_version) b (omega (arith, long)) eb in
+      ed ∙ ap (λ (l : List ℕ). sets (put_mid 3 2 l b) 5 (little 2 0)) one ∙ ap (λ (l : List ℕ). sets l 5 (little 2 0)) two
 
 -- ---- one record more, behind the list that the first n bytes are
 
@@ -88,24 +97,15 @@ module _ (buffer : List ℕ) (n : ℕ) (t : Tensor) (c : Config) where
 
   -- ---- as the code comes to it
 
-  -- an answer, and the buffer after it
-  abbrev pub Answered : Appended → List ℕ → Type 0
-  Answered r after = (r ≡ append_of buffer n t c) × (after ≡ appended_buffer buffer n t c)
-
-  pub stopped_at : {f : Fault} {r : Appended} → append_fault buffer n t c ≡ f → (f.status ≡ 0 → ⊥) → r ≡ no_append f → Answered r buffer
-  stopped_at e h q =
-      let b : (append_fault buffer n t c).status ≡ 0 → ⊥ = λ z. h (sym (status e) ∙ z) in
-      (q ∙ ap no_append (sym e) ∙ sym (append_refused b), sym (append_same b))
-
   pub append_25 : length buffer < n → append_fault buffer n t c ≡ fault 25 0
   unfolding append_fault list_fault member_fault
   append_25 h = given 25 0 _ _ (omega arith) (lt-ltb (length buffer) n h)
 
   module _ (within : n ≤ length buffer) where
     -- a list is refused with its own number
-    pub append_list : {s : ℕ} → s ≡ (list_fault (take n buffer)).status → (s ≡ 0 → ⊥) → append_fault buffer n t c ≡ fault s 0
+    pub append_list : ((list_fault (take n buffer)).status ≡ 0 → ⊥) → append_fault buffer n t c ≡ list_fault (take n buffer)
     unfolding append_fault list_fault member_fault
-    append_list e h = spared 25 0 _ _ (le-ltb (length buffer) n within) ∙ stopped _ (λ i. record { status = e i; dim = sym (list-plain (take n buffer)) i }) h
+    append_list h = spared 25 0 _ _ (le-ltb (length buffer) n within) ∙ stopped _ refl h
 
     module _ (listed : (list_fault (take n buffer)).status ≡ 0) where
       -- the list so far has a whole head
@@ -117,16 +117,13 @@ module _ (buffer : List ℕ) (n : ℕ) (t : Tensor) (c : Config) where
       unfolding append_fault list_fault member_fault
       append_rest = spared 25 0 _ _ (le-ltb (length buffer) n within) ∙ passed _ refl listed
 
-      -- the count that the buffer tells is the list's
-      count_so_far : count_in buffer ≡ record_count (take n buffer)
-      count_so_far =
-          let h = head_within in
-          sym (ap number (part_part 0 n count_place 2 buffer (omega arith))) ∙ sym (count-given (take n buffer) listed)
+      pub count_so_far : count_in (take n buffer) ≡ record_count (take n buffer)
+      count_so_far = sym (count-given (take n buffer) listed)
 
-      pub append_37 : count_in buffer ≡ most → append_fault buffer n t c ≡ fault 37 0
+      pub append_37 : count_in (take n buffer) ≡ most → append_fault buffer n t c ≡ fault 37 0
       append_37 e = append_rest ∙ given 37 0 _ _ (omega arith) (eq-eqb (record_count (take n buffer)) most (sym count_so_far ∙ e))
 
-      module _ (more : count_in buffer ≡ most → ⊥) where
+      module _ (more : count_in (take n buffer) ≡ most → ⊥) where
         not_full : eqb (record_count (take n buffer)) most ≡ false
         not_full = ne_eqb (record_count (take n buffer)) most (λ e. more (count_so_far ∙ e))
 
@@ -137,32 +134,44 @@ module _ (buffer : List ℕ) (n : ℕ) (t : Tensor) (c : Config) where
           pub append_fields : append_fault buffer n t c ≡ member_fault t c
           append_fields = append_rest ∙ spared 37 0 _ _ not_full ∙ spared 38 0 _ _ (le-ltb (length buffer - n) record_length space)
 
-          -- the part that is lent to the record's write
-          abbrev Lent : List ℕ
-          Lent = mid_of n (n + record_length - n) buffer
+  -- an append that is accepted has room, and the count can grow
+  module _ (y : (append_fault buffer n t c).status ≡ 0) where
+    pub append_room : n + record_length ≤ length buffer
+    unfolding append_fault list_fault member_fault
+    append_room =
+        let u = unbroken (append_rules buffer n t c) (omega arith) y in
+        let w = ltb-false (length buffer) n u.0 in
+        let r = ltb-false (length buffer - n) record_length u.1.1.1.0 in
+        omega arith
 
-          lent_length : length Lent ≡ record_length
-          lent_length =
-              let k : n + record_length - n ≡ record_length = omega arith in
-              length-take-le (n + record_length - n) (drop n buffer) (omega (arith, length-drop n buffer)) ∙ k
+    pub append_more : record_count (take n buffer) ≡ most → ⊥
+    unfolding append_fault list_fault member_fault
+    append_more = eqb-false _ _ (unbroken (append_rules buffer n t c) (omega arith) y).1.1.0
 
-          -- the write put the record behind the list
-          module _ (z : (member_fault t c).status ≡ 0) {l : List ℕ} (w : l ≡ written_room t c Lent) where
-            written : (write_fault t c (length Lent)).status ≡ 0
-            written =
-                status (write-fields t c (length Lent) (lent_length ∙ sym (ap length_of (version_one t c z)))) ∙ member_written t c z
+    -- the part that is lent to the record's write
+    abbrev Lent : List ℕ
+    Lent = mid_of n (n + record_length - n) buffer
 
-            placed : put_mid n (n + record_length - n) buffer l ≡ sets buffer n (record_bytes t c)
-            placed =
-                let bs = record_bytes t c in
-                let long = member_length t c z in
-                let end : n + length bs ≡ n + record_length = ap (λ (m : ℕ). n + m) long in
-                ap (put_mid n (n + record_length - n) buffer) (w ∙ room-written t c Lent written) ∙
-                ap (λ (rest : List ℕ). take n buffer ++ (bs ++ rest)) (Post-is n (n + record_length) buffer (omega arith) ∙ ap (λ (m : ℕ). drop m buffer) (sym end)) ∙
-                sym (append_assoc (take n buffer) bs (drop (n + length bs) buffer)) ∙
-                sym (sets-eq bs buffer n (omega arith))
+    lent_length : length Lent ≡ record_length
+    lent_length =
+        let h = append_room in
+        let k : n + record_length - n ≡ record_length = omega arith in
+        length-take-le (n + record_length - n) (drop n buffer) (omega (arith, length-drop n buffer)) ∙ k
 
-            pub append_0 : {k : ℕ} {after : List ℕ} → k ≡ count_in buffer → after ≡ sets (put_mid n (n + record_length - n) buffer l) count_place (little 2 (k + 1)) → Answered (record { status = 0; dim = 0; length = n + record_length }) after
-            append_0 ke ae =
-                let y = status append_fields ∙ z in
-                (sym (append_told y), ae ∙ rw (placed, ke ∙ count_so_far) (sym (append_given y)))
+    written : (write_fault t c (length Lent)).status ≡ 0
+    written =
+        let z = append_member y in
+        status (write-fields t c (length Lent) (lent_length ∙ sym (ap length_of (version_one t c z)))) ∙ member_written t c z
+
+    -- as the code comes to it: the write put the record behind the list
+    module _ {l : List ℕ} (w : l ≡ written_room t c Lent) where
+      placed : put_mid n (n + record_length - n) buffer l ≡ sets buffer n (record_bytes t c)
+      placed =
+          let bs = record_bytes t c in
+          let h = append_room in
+          let long = member_length t c (append_member y) in
+          let end : n + length bs ≡ n + record_length = ap (λ (m : ℕ). n + m) long in
+          ap (λ (k : ℕ). put_mid n (k - n) buffer l) (sym end) ∙ part_put buffer n bs l (omega arith) (w ∙ room-written t c Lent written)
+
+      pub append_0 : {k : ℕ} {after : List ℕ} → k ≡ record_count (take n buffer) → after ≡ sets (put_mid n (n + record_length - n) buffer l) count_place (little 2 (k + 1)) → after ≡ appended_buffer buffer n t c
+      append_0 ke ae = ae ∙ rw (placed, ke) (sym (append_given y))

@@ -3,8 +3,8 @@
 // R, M, L
 pub(crate) const MARK: [u8; 3] = [82, 77, 76];
 
-// Version 1, in two bytes after the mark.
-pub(crate) const VERSION: [u8; 2] = [1, 0];
+// The version, in two bytes after the mark.
+pub(crate) const VERSION: u16 = 1;
 
 pub(crate) const VERSION_AT: usize = 3;
 
@@ -15,4 +15,4 @@ pub(crate) const COUNT_AT: usize = VERSION_AT + 2;
 pub const HEAD: usize = COUNT_AT + 2;
 
 // The most records that a count can tell: 65,535.
-pub(crate) const MOST: usize = 65535;
+pub(crate) const MOST: u16 = 65535;

@@ -1,6 +1,7 @@
 // A list of moves, as a camera appends them for a burst: a head of 7 bytes, which says how many there are, and then that many move
 // records. Read from lent bytes, and written into a lent buffer. No call here asks anything of its caller or sets memory aside,
-// and a count is believed only where it agrees with the bytes.
+// and a count is believed only where it agrees with the bytes. The calls promise their answers as numbers, and the theorems speak
+// of them, so the public answers are no Result and no Option.
 #![tactic(auto)]
 
 mod layout; // where mark, version and count stand

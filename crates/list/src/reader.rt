@@ -20,7 +20,8 @@ pub fn open<'a>(bytes: &'a [u8]) -> Opened<'a>
 }
 
 impl<'a> ListReader<'a> {
-    // The next record; past the last 39, and the reader stays as it is.
+    // The next record; past the last 39, and the reader stays as it is. It promises a Numbered for ever (`HandedAll`), so it is no
+    // Iterator.
     pub fn next(&mut self) -> Numbered
         ensures { (result ≡ answer self.old) × (self.new ≡ advanced self.old) }
     {

@@ -65,12 +65,12 @@ module _ (a j n : ℕ) (fj : j < 2 ^ 64) where
   unfolding along
   after_up e = rw (length_up j e)
 
-  pub after_down : goes_down j ≡ true → {r : ℕ} → r < 2 ^ 64 → (r + n * jump_length j) % 2 ^ 64 ≡ a → r ≡ along a j n
+  pub after_down : goes_down j ≡ true → n * jump_length j < 2 ^ 64 → (a + (2 ^ 64 - n * jump_length j)) % 2 ^ 64 ≡ along a j n
   unfolding along
-  after_down e f w =
+  after_down e f =
       let k = rounds n j (omega arith) in
-      let v = rw (length_down j e) at w in
-      omega arith
+      let v = rw (length_down j e) at f in
+      rw (length_down j e) (omega arith)
 
 -- ---- the spot at a coordinate
 

@@ -9,7 +9,6 @@ use Rattle.mover.specs.declared.spots.Spot.{Spot}
 use Rattle.mover.specs.declared.spots.Spots.{Spots}
 use Rattle.mover.specs.declared.alike.Run.{Run}
 use Rattle.mover.specs.declared.bands.Band.{Band}
-use Rattle.mover.specs.declared.bands.Frame.{Frame}
 use Rattle.mover.specs.declared.patches.Patch.{Patch}
 use Rattle.mover.specs.declared.elements.Origin.{Origin}
 use Rattle.mover.specs.declared.elements.Origin.TheVariants.{Lent, Inside}
@@ -17,26 +16,21 @@ use Rattle.mover.specs.Private.Elements.{source_bytes, axis_kept, padding}
 use Rattle.mover.specs.Private.Adding.{along, jumps_of, spot_at, onward_of, next_row}
 use Rattle.mover.specs.Private.Runs.{Alike}
 use Rattle.mover.specs.Private.Patches.{rows_stored, patch_copied, patch_padded, PatchFits, PatchReads, patch_of}
-use Rattle.mover.specs.Private.Bands.{band_place, band_home, band_bytes, band_moved, Framed, BandAt, Banded, behind_rows}
+use Rattle.mover.specs.Private.Bands.{band_place, band_home, band_bytes, band_moved, BandAt, Banded, behind_rows}
 use Rattle.mover.proofs.Bytes.{length_take_most, length_cond, bytes_same}
 use Rattle.mover.proofs.Keeping.{range_test}
 use Rattle.mover.proofs.Places.{still_held}
 use Rattle.mover.proofs.Adding.{along_none, jumps_kept, spot_on}
-use Rattle.mover.proofs.Crossing.{rows_same, rows_at, length_rows, rows_out, AllOff, along_cross, along_shift, columns_add}
+use Rattle.mover.proofs.Crossing.{rows_same, rows_at, rows_none, length_rows, rows_out, AllOff, along_cross, along_shift, columns_add}
 
 -- a place in a row fits
 pub front_fits : (k m t : ℕ) → k ≤ m → m * t < 2 ^ 64 → k * t < 2 ^ 64
 front_fits k m t h f = omega (arith, mul-le-mul_right t h)
 
--- where in a row what is kept begins, and padding goes on
-module _ {x : Axis} {f : Frame} (h : Framed x f) (a : ℕ) {r : ℕ} where
-  pub front_at : r ≡ (a + f.front) % 2 ^ 64 → r ≡ along a x.stride x.pre
-  unfolding along
-  front_at e = e ∙ ap (λ (y : ℕ). (a + y) % 2 ^ 64) h.front
-
-  pub rear_at : r ≡ (a + f.rear) % 2 ^ 64 → x.pre + x.count < x.extent → r ≡ along a x.stride (x.pre + x.count)
-  unfolding along
-  rear_at e l = e ∙ ap (λ (y : ℕ). (a + y) % 2 ^ 64) (h.rear l)
+-- where in a row its element k begins
+pub place_at : (a t k : ℕ) {n r : ℕ} → n ≡ k * t → r ≡ (a + n) % 2 ^ 64 → r ≡ along a t k
+unfolding along
+place_at a t k h e = e ∙ ap (λ (y : ℕ). (a + y) % 2 ^ 64) h
 
 pub starts_at : (a t : ℕ) {k : ℕ} → a < 2 ^ 64 → k ≡ 0 → a ≡ along a t k
 starts_at a t h e = rw e (sym (along_none a t h))
@@ -221,3 +215,15 @@ module _ {o : Origin} {p : Plan} {s d : List ℕ} {u : Spot} {b : Band} (r : Ban
         ∙ sym (columns_add e u.to k l n a c d (its_off (source_bytes o s d) (a + c) (omega arith))))
         ∙ sym (columns_add e u.to k l n (a + c) z d (its_off (source_bytes o s d) (a + c + z) (omega arith)))
         ∙ ap (λ (y : ℕ). rows_stored e u.to k l y n d) m
+
+    -- and nothing is padded behind it
+    pub band_ended : {first : ℕ} {d1 d2 : List ℕ} {q1 q2 : Patch}
+        → first ≡ along u.to p.d3.stride p.d3.pre
+        → p.d3.extent ≤ p.d3.pre + p.d3.count
+        → q1 ≡ patch_of p u.at u.to b.rows p.d3.pre → d1 ≡ patch_padded d q1
+        → q2 ≡ patch_of p u.at first b.rows p.d3.count → d2 ≡ patch_copied o s d1 q2
+        → d2 ≡ band_moved o p s d u b
+    band_ended {first} {d1} {d2} h1 h2 f1 x1 f2 x2 =
+        let z : p.d3.extent - p.d3.pre - p.d3.count ≡ 0 = omega arith in
+        band_parted {behind = u.to} {q3 = patch_of p u.at u.to b.rows (p.d3.extent - p.d3.pre - p.d3.count)} h1 (λ g. let no : ⊥ = omega arith in absurd no) f1 x1 f2 x2 refl
+        (rw z (sym (rows_none (λ i j. padding p.size p.pad) u.to p.d2.stride p.d3.stride b.rows d2)))

@@ -1,16 +1,16 @@
 -- A run of elements that lie side by side is a run of bytes. Assumes nothing.
 use Rattle.std.proofs.Common.{◌≡◌, ℕ, zero, suc, ◌+◌, ◌-◌, ◌*◌, ◌/◌, ◌%◌, ◌^◌, ◌<◌, ◌≤◌, List, length, take, drop, sym, refl, ap, ◌∙◌, subst, inl, inr, ⊎_elim, add-zero, add-suc, mul-le-mul_right, mod-lt, mod-eq_of_lt, suc-mul, div-lt_iff_lt-mul, div-add-mod', zero-add, zero-mul, mul-one, add-one, arith}
 use native.Mathlib.Decide.{dec_lt}
-use lib.Seq.{sets, length-sets}
+use lib.Seq.{sets}
 use Rattle.mover.specs.declared.elements.Course.{Course}
 use Rattle.mover.specs.declared.elements.Origin.{Origin}
 use Rattle.mover.specs.declared.elements.Origin.TheVariants.{Lent, Inside}
 use Rattle.mover.specs.Private.Elements.{source_bytes}
 use Rattle.mover.specs.Private.Adding.{along}
 use Rattle.mover.specs.Private.Runs.{element_copied, run_stored, kept_bytes, run_copied, Held, BytesApart, Blocked, Readable, Writable}
-use Rattle.mover.proofs.Places.{apart_part, still_held}
+use Rattle.mover.proofs.Places.{apart_part}
 use Rattle.plane.proofs.Bounds.{element_small}
-use Rattle.mover.proofs.Bytes.{get_d_sets_out, length_take_most, bytes_same, block_append, copied_one, source_long, copy_more}
+use Rattle.mover.proofs.Bytes.{copied_one, source_long, copy_more}
 use Rattle.mover.proofs.Adding.{along_none, along_next, along_on, along_is}
 
 -- ---- places
@@ -201,68 +201,3 @@ block o s d c fa ft f w r e g =
     let same : c ≡ sided c.at c.to c.pad c.size c.n = λ i. record { at = c.at; jump = e i; to = c.to; stride = g i; size = c.size; pad = c.pad; n = c.n } in
     subst (λ (y : Course). Block o s d y) (sym same)
     (sided_block o s d c.at c.to c.pad c.size c.n fa ft f (subst (λ (y : Course). Writable d y) same w) (subst (λ (y : Course). Readable o s d y) same r))
-
--- ---- bytes copied block by block: k of n are
-
-pub record Copied (o : Origin) (s d₀ : List ℕ) (at to n : ℕ) (d : List ℕ) (k : ℕ) : Type 0 where
-  pub within : k ≤ n
-  pub bytes : d ≡ element_copied o s d₀ at to k
-
-pub copied_start : (o : Origin) (s d : List ℕ) (at to n : ℕ) → Copied o s d at to n d 0
-copied_start o s d at to n = record { within = omega arith; bytes = refl }
-
--- what is still to be read is as it was
-still_same : (o : Origin) (s d w : List ℕ) (at to n k m : ℕ) → k + m ≤ n → BytesApart o at (at + n) to (to + n)
-    → take m (drop (at + k) (source_bytes o s (sets d to (take k w)))) ≡ take m (drop (at + k) (source_bytes o s d))
-still_same Lent s d w at to n k m h a = refl
-still_same Inside s d w at to n k m h a =
-    bytes_same (sets d to (take k w)) d (at + k) m (length-sets d to (take k w))
-    (λ x l g. let z = length_take_most k w in get_d_sets_out (take k w) d to x (⊎_elim (λ u. inl (omega arith)) (λ u. inr (omega arith)) a))
-
-module _ {o : Origin} {s d₀ : List ℕ} {at to n : ℕ} {d : List ℕ} {k : ℕ} (a : Copied o s d₀ at to n d k) (b : Blocked o s d₀ at to n) where
-  pub copied_length : length d ≡ length d₀
-  copied_length = ap length a.bytes ∙ length-sets d₀ to (take k (drop at (source_bytes o s d₀)))
-
-  -- a byte more, where one is left
-  module _ (m : ℕ) (p : 0 < m) (l : k + m ≤ n) where
-    pub more_reads : at + k + m ≤ length (source_bytes o s d)
-    more_reads = still_held o s d₀ d copied_length (omega (arith, b.read (omega arith)))
-
-    pub more_writes : to + k + m ≤ length d
-    more_writes = rw copied_length (omega (arith, b.write (omega arith)))
-
-    pub copied_more : {d' : List ℕ} → d' ≡ sets d (to + k) (take m (drop (at + k) (source_bytes o s d))) → Copied o s d₀ at to n d' (k + m)
-    copied_more e = record {
-      within = l;
-      bytes =
-          e ∙ rw (a.bytes, still_same o s d₀ (drop at (source_bytes o s d₀)) at to n k m l b.apart)
-          (block_append d₀ (source_bytes o s d₀) at to k m (omega (arith, b.read (omega arith))));
-    }
-
-  pub copied_end : n ≤ k → d ≡ element_copied o s d₀ at to n
-  copied_end h = let w = a.within in let e : k ≡ n = omega arith in a.bytes ∙ rw e
-
-  -- where what is left of it begins
-  pub rest_fits : at < 2 ^ 64 → to < 2 ^ 64 → length s + length d₀ < 2 ^ 64 → (at + k < 2 ^ 64) × (to + k < 2 ^ 64)
-  rest_fits fa ft f =
-      let w = a.within in
-      elim (dec_lt 0 n) [
-        | yes p ↦ (omega (arith, b.read p, source_long o s d₀), omega (arith, b.write p))
-        | no p ↦ (omega arith, omega arith)
-      ]
-
-  -- what is left of it
-  pub rest_asks : Blocked o s d (at + k) (to + k) (n - k)
-  rest_asks =
-      let w = a.within in
-      record {
-        read = λ p. still_held o s d₀ d copied_length (omega (arith, b.read (omega arith)));
-        write = λ p. rw copied_length (omega (arith, b.write (omega arith)));
-        apart = apart_part o b.apart (omega arith) (omega arith) (omega arith) (omega arith);
-      }
-
-  pub rest_copied : {d' : List ℕ} → d' ≡ element_copied o s d (at + k) (to + k) (n - k) → d' ≡ element_copied o s d₀ at to n
-  rest_copied e = elim (dec_lt k n) [
-    | yes l ↦ let w : k + (n - k) ≡ n = omega arith in (copied_more (n - k) (omega arith) (omega arith) e).bytes ∙ rw w
-    | no l ↦ let w = a.within in let z : n - k ≡ 0 = omega arith in e ∙ rw z (copied_end (omega arith))
-  ]

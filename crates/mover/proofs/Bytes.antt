@@ -1,5 +1,5 @@
 -- Laws of bytes stored at a place, `sets`, and of an element's. Assumes nothing.
-use Rattle.std.proofs.Common.{◌≡◌, ℕ, zero, suc, ◌+◌, ◌<◌, ◌≤◌, Bool, true, false, cond, ◌⊎◌, List, [], ◌∷◌, ◌++◌, length, get_or, take, drop, set, sym, refl, ◌∙◌, inl, inr, ⊎_elim, le_of_suc-le-suc, not-suc-le-zero, add-zero, add-suc, suc-add, add-one, arith, length-drop, length-set, length-take, length-take-le, get_or-drop, get_or-set_other, get_or-take, take-suc, get_or-set_same, drop-drop, ext_get_or, take-add}
+use Rattle.std.proofs.Common.{◌≡◌, ℕ, zero, suc, ◌+◌, ◌<◌, ◌≤◌, Bool, true, false, cond, ◌⊎◌, List, [], ◌∷◌, ◌++◌, length, get_or, take, drop, set, sym, refl, ◌∙◌, inl, inr, ⊎_elim, le_of_suc-le-suc, not-suc-le-zero, add-zero, add-suc, suc-add, add-one, arith, length-drop, length-set, length-take, length-take-le, get_or-drop, get_or-set_other, get_or-take, take-suc, get_or-set_same, ext_get_or}
 use native.Mathlib.Nat.{min-le_left}
 use lib.Seq.{sets}
 use Rattle.mover.specs.declared.elements.Origin.{Origin}
@@ -34,19 +34,6 @@ copy_more l s at to i h =
     let hd : i < length (drop at s) = simp length-drop (omega arith) in
     let n : length (take i (drop at s)) ≡ i = length-take-le i (drop at s) (omega arith) in
     rw (add-one, take-suc (drop at s) i 0 hd, get_or-drop) (sym (rw (sets_snoc, n)))
-
-sets_append : (us l : List ℕ) (i k : ℕ) (vs : List ℕ) → length us ≡ k → sets (sets l i us) (i + k) vs ≡ sets l i (us ++ vs)
-sets_append [] l i zero vs e = rw add-zero
-sets_append [] l i (suc k) vs e = absurd (omega arith)
-sets_append (u ∷ us) l i zero vs e = absurd (omega arith)
-sets_append (u ∷ us) l i (suc k) vs e = rw (add-suc, ← suc-add) (sets_append us (set l i u) (suc i) k vs (omega arith))
-
--- a block after a block
-pub block_append : (d s : List ℕ) (at to i k : ℕ) → at + i ≤ length s
-    → sets (sets d to (take i (drop at s))) (to + i) (take k (drop (at + i) s)) ≡ sets d to (take (i + k) (drop at s))
-block_append d s at to i k h =
-    sets_append (take i (drop at s)) d to i (take k (drop (at + i) s)) (length-take-le i (drop at s) (simp length-drop (omega arith)))
-    ∙ rw (take-add i k (drop at s), drop-drop i at s)
 
 module _ (d s : List ℕ) (at to : ℕ) where
   pub copied_one : at + 1 ≤ length s → set d to (get_or s at 0) ≡ sets d to (take 1 (drop at s))

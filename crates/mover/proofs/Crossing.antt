@@ -96,7 +96,7 @@ module _ (e : ℕ → ℕ → List ℕ) (to s t : ℕ) where
   abbrev pub AllOff : ℕ → ℕ → Type 0
   AllOff n m = (i j k l : ℕ) → i < n → k < n → j < m → l < m → ((i ≡ k) × (j ≡ l) → ⊥) → Off (along (along to s i) t j) (e i j) (along (along to s k) t l) (e k l)
 
-  rows_none : (n : ℕ) (d : List ℕ) → rows_stored e to s t 0 n d ≡ d
+  pub rows_none : (n : ℕ) (d : List ℕ) → rows_stored e to s t 0 n d ≡ d
   unfolding rows_stored run_stored
   rows_none zero d = refl
   rows_none (suc n) d = rows_none n d

@@ -6,6 +6,7 @@ use Rattle.plane.specs.declared.Config.{Config}
 use Rattle.plane.specs.declared.Source.{Source}
 use Rattle.plane.specs.declared.Answer.{Answer}
 use Rattle.plane.specs.Arrays.{at, sum}
+use Rattle.std.specs.Int.{w32, to_le_bytes}
 use Rattle.plane.specs.Numbers.{little}
 use Rattle.plane.specs.Planes.{src_strides, source_rules, source_of, source_fault}
 use Rattle.plane.specs.Moves.{count, extent, dst_extents, room_rules, room_fault, accepted}
@@ -20,13 +21,13 @@ use Rattle.mover.specs.declared.plan.Axis.{Axis}
 use Rattle.mover.specs.Element.{dim_of}
 use Rattle.mover.specs.Private.Plans.{axis_of, axis_at, plan_of, lone, axis_made, home_made, Fit}
 
--- four bytes divided out of a number that has no more are its low bytes
-pub bytes_little : (n : ℕ) → n < 2 ^ 32 → n % 256 ∷ n / 256 % 256 ∷ n / 65536 % 256 ∷ n / 16777216 ∷ [] ≡ little 4 n
+-- std's bytes of a number are its low bytes
+pub le_bytes_little : (n : ℕ) → n < 2 ^ 32 → to_le_bytes w32 n ≡ little 4 n
 unfolding little
-bytes_little n h =
+le_bytes_little n h =
     let a : n / 65536 ≡ n / 256 / 256 = omega arith in
-    let b : n / 16777216 ≡ n / 256 / 256 / 256 % 256 = omega arith in
-    λ i. n % 256 ∷ n / 256 % 256 ∷ a i % 256 ∷ b i ∷ []
+    let b : n / 16777216 ≡ n / 256 / 256 / 256 = omega arith in
+    λ i. n % 256 ∷ n / 256 % 256 ∷ a i % 256 ∷ b i % 256 ∷ []
 
 -- a sum of at most four numbers times strides, times an element size
 pub bytes_fit : (x n z : ℕ) → n ≤ 4 → z ≤ 4 → x ≤ n * (65535 * 4294967295) → x * z < 2 ^ 64

@@ -1,22 +1,23 @@
 -- A pixel as the code works it out: its refusals from those of a move, and the row of one element that it comes to. Assumes nothing.
-use Rattle.std.proofs.Common.{◌≡◌, ℕ, zero, suc, ◌+◌, ◌*◌, ◌/◌, ◌%◌, ◌^◌, ◌<◌, ◌≤◌, Bool, true, false, not, ◌&&◌, ltb, List, [], length, sym, refl, ap, ◌∙◌, ap₂, inl, inr, true≢false, add-mul, zero-mul, add-one, arith, ltb-false, le-ltb, leb-false}
+use Rattle.std.proofs.Common.{◌≡◌, ℕ, zero, suc, ◌+◌, ◌*◌, ◌/◌, ◌%◌, ◌^◌, ◌<◌, ◌≤◌, Bool, true, false, not, ◌&&◌, ltb, List, [], length, Result, Ok, Err, sym, refl, ap, ◌∙◌, ap₂, inl, inr, true≢false, add-mul, zero-mul, add-one, arith, ltb-false, le-ltb, leb-false}
+use Rattle.std.specs.Prelude.{⊤}
 use Rattle.faults.specs.declared.Fault.{Fault}
-use Rattle.faults.specs.Faults.{none, lowest}
+use Rattle.faults.specs.Faults.{none, lowest, outcome}
 use Rattle.faults.specs.Exactness.{Unbroken, Given}
 use Rattle.faults.proofs.Bools.{both_first}
 use Rattle.faults.proofs.Chains.{exact_fault, unbroken, unbroken_accepts, unbroken_none, given_fault}
-use Rattle.faults.proofs.Faults.{status, or_none, spared, if_fault_lem, if_none}
+use Rattle.faults.proofs.Faults.{or_none, spared, if_fault_lem, if_none}
+use Rattle.faults.proofs.Outcomes.{ends, tells_ok, tells_err}
 use Rattle.plane.specs.declared.Tensor.{Tensor}
 use Rattle.plane.specs.declared.Config.{Config}
 use Rattle.plane.specs.declared.Answer.{Answer}
 use Rattle.plane.specs.Arrays.{at, firsts, zeros, sum, every}
 use Rattle.plane.specs.Planes.{span, source_rules}
-use Rattle.plane.specs.Moves.{need, config_rules, dst_rules, move_rules, move_fault, judge_of}
+use Rattle.plane.specs.Moves.{need, config_rules, dst_rules, move_rules, move_fault, accepted}
 use Rattle.plane.specs.Good.{GoodSource, GoodConfig, GoodDst, GoodMove}
 use Rattle.plane.proofs.Arrays.{firsts_same}
 use Rattle.plane.proofs.Bounds.{element_small, span_fits, need_fits}
 use Rattle.plane.proofs.Good.{source_told, config_told, dst_told, source_tells, config_tells, dst_tells, positive}
-use Rattle.plane.proofs.Rules.{answer_refused, answer_status}
 use Rattle.mover.specs.declared.elements.Origin.TheVariants.{Lent}
 use Rattle.mover.specs.declared.plain.Row.{Row}
 use Rattle.mover.specs.Element.{is_kept, are_kept, source_place, padded, element}
@@ -27,7 +28,7 @@ use Rattle.mover.specs.Private.Rows.{size_of, row_byte, outermost_of, inward_of,
 use Rattle.mover.specs.Private.Pixels.{Pickable, row_to, row_at}
 use Rattle.mover.proofs.Making.{room_source, room_config, room_dst}
 use Rattle.mover.proofs.Demand2.{kept_byte, pad_byte}
-use Rattle.mover.proofs.Judged.{move_room, judged_move, judged_accepted}
+use Rattle.mover.proofs.Judged.{outcome_at, move_room, judged_move, judged_accepted}
 use Rattle.mover.proofs.Rows.{inward_row, its_kept, its_from, from_fits}
 use Rattle.mover.proofs.Storing.{little_at}
 use Rattle.mover.proofs.WholeRows.{outermost_row}
@@ -88,28 +89,35 @@ module _ (t : Tensor) (c : Config) (n m : ℕ) (x : List ℕ) where
 abbrev longest : ℕ
 longest = 18446744073709551615
 
-module _ (t : Tensor) (c : Config) (n : ℕ) (x : List ℕ) {a : Answer} (e : a ≡ judge_of t c n longest) where
+-- a check that has nothing else to say
+abbrev pub told : Fault → Result ⊤ Fault
+told f = outcome f tt
+
+module _ (t : Tensor) (c : Config) (n : ℕ) (x : List ℕ) where
   abbrev its : Fault
   its = move_fault t c n longest
 
-  pub picked_stopped : (a.status ≡ 0 → ⊥) → record { status = a.status; dim = a.dim } ≡ pixel_fault t c n x
-  unfolding judge_of
-  picked_stopped h =
-      let z : its.status ≡ 0 → ⊥ = λ w. h (ap (λ (y : Answer). y.status) e ∙ answer_status its t c ∙ w) in
-      ap (λ (y : Answer). record { status = y.status; dim = y.dim }) (e ∙ answer_refused its t c z) ∙
-      sym (refused_alike t c n longest x (λ _ s o w. omega (arith, need_fits t c s o w)) z)
+  abbrev picked : Result ⊤ Fault
+  picked = told (pixel_fault t c n x)
 
-  module _ (z : a.status ≡ 0) where
+  pub picked_stopped : {g : Fault} → Err g ≡ outcome_at t c n longest → Err g ≡ picked
+  picked_stopped e =
+      let w = tells_err its (accepted t c) e in
+      let s = refused_alike t c n longest x (λ _ s o w. omega (arith, need_fits t c s o w)) w.1 in
+      sym (ap told s ∙ ends its (accepted t c) tt e refl)
+
+  module _ {a : Answer} (e : Ok a ≡ outcome_at t c n longest) where
     good : GoodMove t c n longest
-    good = judged_move t c n longest e z
+    good = judged_move t c n longest e
 
     pub picked_rank : t.rank ≤ 4
     picked_rank = good.source.rank.1
 
-    pub picked_found : {f : Fault} → f ≡ lowest 35 t.rank (λ i. bad_coordinate (at a.extent i) (at x i)) → f ≡ pixel_fault t c n x
+    pub picked_found : {r : Result ⊤ Fault} → r ≡ told (lowest 35 t.rank (λ i. bad_coordinate (at a.extent i) (at x i))) → r ≡ picked
     picked_found h =
-        h ∙ ap (λ (y : Answer). lowest 35 t.rank (λ i. bad_coordinate (at y.extent i) (at x i))) (judged_accepted t c n longest e z).1 ∙
-        sym (passed_alike t c n longest x good)
+        h ∙
+        ap (λ (y : Answer). told (lowest 35 t.rank (λ i. bad_coordinate (at y.extent i) (at x i)))) (judged_accepted t c n longest e).1 ∙
+        ap told (sym (passed_alike t c n longest x good))
 
 -- a pixel that is not refused
 module _ (t : Tensor) (c : Config) (n : ℕ) (x : List ℕ) (z : (pixel_fault t c n x).status ≡ 0) where
@@ -249,16 +257,17 @@ module _ (t : Tensor) (c : Config) (x : List ℕ) (g : Pickable t c x) where
 
 -- ---- the answer
 
-module _ (t : Tensor) (c : Config) (src x : List ℕ) {f : Fault} (e : f ≡ pixel_fault t c (length src) x) where
-  pub answer_refuses : (f.status ≡ 0 → ⊥) → record { status = f.status; dim = f.dim; bytes = zeros; padding = false } ≡ pixel_of t c src x
+module _ (t : Tensor) (c : Config) (src x : List ℕ) where
+  pub answer_refuses : {g : Fault} → Err g ≡ told (pixel_fault t c (length src) x) → record { status = g.status; dim = g.dim; bytes = zeros; padding = false } ≡ pixel_of t c src x
   unfolding pixel_of
-  answer_refuses h =
-      let z : (pixel_fault t c (length src) x).status ≡ 0 → ⊥ = λ w. h (status e ∙ w) in
-      rw (if_fault_lem (pixel_fault t c (length src) x) zeros (pixel_bytes t c src x) z, if_fault_lem (pixel_fault t c (length src) x) false (not (are_kept t c (at x))) z, e)
+  answer_refuses e =
+      let p = pixel_fault t c (length src) x in
+      let w = tells_err {A = ⊤} p tt e in
+      rw (if_fault_lem p zeros (pixel_bytes t c src x) w.1, if_fault_lem p false (not (are_kept t c (at x))) w.1, w.0)
 
-  module _ (z : f.status ≡ 0) where
+  module _ {u : ⊤} (e : Ok u ≡ told (pixel_fault t c (length src) x)) where
     clear : (pixel_fault t c (length src) x).status ≡ 0
-    clear = sym (status e) ∙ z
+    clear = (tells_ok {A = ⊤} (pixel_fault t c (length src) x) tt e).1
 
     pub answer_pickable : Pickable t c x
     answer_pickable = (move_room t c (passed_just t c (length src) x clear), passed_coordinate t c (length src) x clear)

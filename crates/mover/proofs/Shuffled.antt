@@ -3,7 +3,7 @@ use Rattle.std.proofs.Common.{◌≡◌, ℕ, zero, suc, ◌+◌, ◌-◌, ◌*�
 use native.Mathlib.Nat.{zero-mod, add-mod_right, mul-add-mod_self_right, div-eq_of_lt, mul-add-div_right}
 use native.Mathlib.Decide.{dec_lt}
 use lib.Seq.{sets, length-sets}
-use Rattle.mover.specs.Private.Shuffles.{made, turn, zipped}
+use Rattle.mover.specs.Private.Shuffles.{made, turn, zipped, zips}
 use Rattle.mover.proofs.Bytes.{get_d_sets_out, sets_inside}
 
 pub length_made : (n : ℕ) (f : ℕ → ℕ) → length (made n f) ≡ n
@@ -166,10 +166,6 @@ module _ (half z : ℕ) (t : List ℕ) where
   length_zipped = length_made (half + half) (λ j. get_or t (turn half z j) 0)
 
 -- ---- several shuffles, one after the other
-
-abbrev pub zips : ℕ → ℕ → ℕ → List ℕ → List ℕ
-zips half z zero t = t
-zips half z (suc j) t = zipped half z (zips half z j t)
 
 abbrev pub turns : ℕ → ℕ → ℕ → ℕ → ℕ
 turns half z zero k = k

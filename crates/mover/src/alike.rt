@@ -9,12 +9,7 @@ use crate::plan::Axis;
 pub(crate) fn kept(outer: bool, x: Axis, c: usize) -> bool
     ensures { result ≡ (outer && axis_kept x c) }
 {
-    if outer {
-        if x.pre <= c {
-            return c - x.pre < x.count;
-        }
-    }
-    false
+    outer && x.pre <= c && c - x.pre < x.count
 }
 
 // Neighbours in a row, or rows, that are all kept or all padding.
@@ -22,13 +17,6 @@ pub(crate) fn kept(outer: bool, x: Axis, c: usize) -> bool
 pub(crate) struct Run {
     pub(crate) kept: bool,
     pub(crate) n: usize,
-}
-
-// The smaller of two.
-pub(crate) fn least(a: usize, b: usize) -> usize
-    ensures { result ≡ min a b }
-{
-    if a <= b { a } else { b }
 }
 
 // The run from coordinate c on, cut to `most`; `outer` tells whether the other coordinates are kept.
@@ -42,18 +30,18 @@ pub(crate) fn run_at(x: Axis, outer: bool, c: usize, most: usize) -> Run
         if c < x.pre {
             return Run {
                 kept: false,
-                n: least(x.pre - c, most),
+                n: (x.pre - c).min(most),
             };
         }
         if c - x.pre < x.count {
             return Run {
                 kept: true,
-                n: least(x.count - (c - x.pre), most),
+                n: (x.count - (c - x.pre)).min(most),
             };
         }
     }
     Run {
         kept: false,
-        n: least(x.extent - c, most),
+        n: (x.extent - c).min(most),
     }
 }

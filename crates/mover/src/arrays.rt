@@ -14,45 +14,7 @@ pub(crate) fn copy_block(src: &[u8], at: usize, dst: &mut [u8], to: usize, n: us
     requires n_in_bounds_2 { to + n ≤ length dst.old }
     ensures { dst.new ≡ sets dst.old to (take n (drop at src.now)) }
 {
-    let mut i = 0;
-    while i < n {
-        dst[to + i] = src[at + i];
-        i += 1;
-    }
-}
-
-// 16 bytes from `at` on, and 16 bytes stored from `to` on.
-pub(crate) fn read_sixteen(src: &[u8], at: usize) -> [u8; 16]
-    requires { at + 16 ≤ length src.now }
-    ensures { result ≡ take 16 (drop at src.now) }
-{
-    let mut a = [0u8; 16];
-    copy_block(src, at, &mut a, 0, 16);
-    a
-}
-
-pub(crate) fn write_sixteen(a: [u8; 16], dst: &mut [u8], to: usize)
-    requires { to + 16 ≤ length dst.old }
-    ensures { dst.new ≡ sets dst.old to a }
-{
-    copy_block(&a, 0, dst, to, 16);
-}
-
-// The same of 128 bytes.
-pub(crate) fn read_block(src: &[u8], at: usize) -> [u8; 128]
-    requires { at + 128 ≤ length src.now }
-    ensures { result ≡ take 128 (drop at src.now) }
-{
-    let mut a = [0u8; 128];
-    copy_block(src, at, &mut a, 0, 128);
-    a
-}
-
-pub(crate) fn write_block(a: [u8; 128], dst: &mut [u8], to: usize)
-    requires { to + 128 ≤ length dst.old }
-    ensures { dst.new ≡ sets dst.old to a }
-{
-    copy_block(&a, 0, dst, to, 128);
+    dst[to..to + n].copy_from_slice(&src[at..at + n]);
 }
 
 // A course of blocks: c.n blocks of c.size bytes, whatever that is.
@@ -63,12 +25,10 @@ pub(crate) fn copy_blocks(src: &[u8], dst: &mut [u8], c: Course)
 {
     let mut at = c.at;
     let mut to = c.to;
-    let mut k = 0;
-    while k < c.n {
+    for _ in 0..c.n {
         copy_block(src, at, dst, to, c.size);
         at = wrapping_add_usize(at, c.jump);
         to = wrapping_add_usize(to, c.stride);
-        k += 1;
     }
 }
 
@@ -78,12 +38,9 @@ fn pairs(src: &[u8], from: usize) -> [u16; 16]
     ensures { result ≡ made 16 (λ k. slice_index src.now (from + 2 * k) + slice_index src.now (from + 2 * k + 1) * 256) }
 {
     let mut a = [0u16; 16];
-    let mut at = from;
-    let mut k = 0;
-    while k < 16 {
-        a[k] = src[at] as u16 + src[at + 1] as u16 * 256;
-        at += 2;
-        k += 1;
+    for k in 0..16 {
+        let at = from + k + k;
+        a[k] = u16::from_le_bytes([src[at], src[at + 1]]);
     }
     a
 }
@@ -93,10 +50,8 @@ fn lows(a: [u16; 16]) -> [u8; 16]
     ensures { result ≡ made 16 (λ k. slice_index a k % 256) }
 {
     let mut o = [0u8; 16];
-    let mut k = 0;
-    while k < 16 {
-        o[k] = (a[k] % 256) as u8;
-        k += 1;
+    for k in 0..16 {
+        o[k] = a[k].to_le_bytes()[0];
     }
     o
 }

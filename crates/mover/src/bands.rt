@@ -1,12 +1,12 @@
 // Bands: whole rows of a layer that are moved together. Where a band begins and ends is worked out once for it, by products and a
-// quotient.
+// quotient. Functions, not methods, as a loop calls them (layers.rt, scripts/by-adding).
 ghost use Rattle.std.specs.Prelude.{◌≡◌, ◌+◌, ◌-◌, ◌*◌, ◌^◌, ◌<◌, ◌≤◌};
 ghost use Rattle.mover.specs.Private.Plans.{jump_length};
 ghost use Rattle.mover.specs.Private.Ready.{GoodAxis};
 ghost use Rattle.mover.specs.Private.Patches.{patch_of};
 ghost use Rattle.mover.specs.Private.Bands.{BandAt, Banded, Framed, band_moved, behind_rows};
 
-use crate::alike::{least, run_at};
+use crate::alike::run_at;
 use crate::elements::Origin;
 use crate::patches::Patch;
 use crate::plan::{Axis, Plan};
@@ -29,17 +29,14 @@ pub(crate) struct Band {
 pub(crate) struct Frame {
     pub(crate) most: usize,
     pub(crate) front: usize,
-    pub(crate) rear: usize,
+    pub(crate) rear: Option<usize>,
 }
 
 // Some thousands of elements, which a processor keeps at hand, or 64 rows.
 fn most_rows(e: usize) -> usize
     requires { 0 < e }
 {
-    if e < 256 {
-        return 16384 / e;
-    }
-    64
+    if e < 256 { 16384 / e } else { 64 }
 }
 
 // The frame of a plan's bands, worked out once a step.
@@ -49,19 +46,16 @@ pub(crate) fn frame_of(plan: Plan) -> Frame
     ensures { Framed plan.d3 result }
 {
     let x = plan.d3;
-    let most = most_rows(x.extent);
-    let front = x.pre * x.stride;
-    if x.pre + x.count < x.extent {
-        return Frame {
-            most,
-            front,
-            rear: (x.pre + x.count) * x.stride,
-        };
-    }
+    let end = x.pre + x.count;
+    let rear = if end < x.extent {
+        Some(end * x.stride)
+    } else {
+        None
+    };
     Frame {
-        most,
-        front,
-        rear: front,
+        most: most_rows(x.extent),
+        front: x.pre * x.stride,
+        rear,
     }
 }
 
@@ -74,7 +68,7 @@ pub(crate) fn band_at(x: Axis, e: usize, most: usize, outer: bool, c: usize, lef
     ensures { BandAt x e outer c left result }
 {
     let run = run_at(x, outer, c, left);
-    let rows = least(least(run.n, most), left / e);
+    let rows = run.n.min(most).min(left / e);
     let elements = rows * e;
     Band {
         kept: run.kept,
@@ -126,11 +120,11 @@ pub(crate) fn move_band(
         pad_patch(dst, patch(plan, row.at, row.to, n, x.pre));
         let first = wrapping_add_usize(row.to, f.front);
         copy_patch(src, dst, origin, patch(plan, row.at, first, n, x.count));
-        let rear = wrapping_add_usize(row.to, f.rear);
-        pad_patch(
-            dst,
-            patch(plan, row.at, rear, n, x.extent - x.pre - x.count),
-        );
+        if let Some(rear) = f.rear {
+            let last = wrapping_add_usize(row.to, rear);
+            let columns = x.extent - x.pre - x.count;
+            pad_patch(dst, patch(plan, row.at, last, n, columns));
+        }
         return;
     }
     pad_patch(dst, patch(plan, row.at, row.to, n, x.extent));

@@ -6,41 +6,16 @@ ghost use Rattle.mover.specs.Private.Adding.{along};
 ghost use Rattle.mover.specs.Private.Runs.{Readable, Writable, Evens, run_copied, course_moved};
 ghost use Rattle.mover.specs.Private.Shuffles.{made};
 
-use crate::arrays::{read_evens, write_sixteen};
+use crate::arrays::read_evens;
 use crate::copies::{bytes, copy_bytes};
-use crate::elements::{Course, Origin, copy_each, pad_run};
+use crate::elements::{Course, Origin, copy_each, pad_run, source};
 use std::num::wrapping_add_usize;
-
-// Every second of 32 bytes of the source, and how many bytes it has.
-fn evens(src: &[u8], dst: &[u8], origin: Origin, at: usize) -> [u8; 16]
-    requires { at + 32 ≤ length (source_bytes origin src.now dst.now) }
-    ensures { result ≡ made 16 (λ k. slice_index (source_bytes origin src.now dst.now) (at + 2 * k)) }
-{
-    match origin {
-        Origin::Lent => read_evens(src, at),
-        Origin::Inside => read_evens(dst, at),
-    }
-}
-
-fn source_length(src: &[u8], dst: &[u8], origin: Origin) -> usize
-    ensures { result ≡ length (source_bytes origin src.now dst.now) }
-{
-    match origin {
-        Origin::Lent => src.len(),
-        Origin::Inside => dst.len(),
-    }
-}
 
 // Whether n pairs of bytes from `at` on lie in `len` bytes.
 fn are_pairs(len: usize, at: usize, n: usize) -> bool
     ensures { result ≡ true → at + n + n ≤ len }
 {
-    if at <= len {
-        if n <= len - at {
-            return n <= len - at - n;
-        }
-    }
-    false
+    at <= len && n <= len - at && n <= len - at - n
 }
 
 // How many of n pairs do: all, or all but the last, or it is not looked further.
@@ -58,7 +33,8 @@ fn pairs_in(len: usize, at: usize, n: usize) -> usize
     0
 }
 
-// A run of single bytes, every second of the source's, to bytes side by side; tells where the next is stored.
+// A run of single bytes, every second of the source's, to bytes side by side; tells where the next is stored. As long as 16 are left it
+// takes as many: source and destination, which may be one memory, cannot both be lent in chunks.
 fn copy_evens(src: &[u8], dst: &mut [u8], origin: Origin, c: Course) -> usize
     requires evens { Evens c }
     requires writable { Writable dst.old c }
@@ -66,13 +42,13 @@ fn copy_evens(src: &[u8], dst: &mut [u8], origin: Origin, c: Course) -> usize
     ensures next { result ≡ along c.to c.stride c.n }
     ensures written { dst.new ≡ run_copied origin src.now dst.old c }
 {
-    let n = pairs_in(source_length(src, dst, origin), c.at, c.n);
+    let n = pairs_in(source(src, dst, origin).len(), c.at, c.n);
     let mut at = c.at;
     let mut to = c.to;
     let mut k = 0;
     while 16 <= n - k {
-        let a = evens(src, dst, origin, at);
-        write_sixteen(a, dst, to);
+        let a = read_evens(source(src, dst, origin), at);
+        dst[to..to + 16].copy_from_slice(&a);
         at = wrapping_add_usize(at, 32);
         to = wrapping_add_usize(to, 16);
         k += 16;
@@ -101,20 +77,16 @@ fn are_evens(c: Course) -> bool
     false
 }
 
-// A run of kept elements; tells where the next is stored. Side by side in both they are a run of bytes; side by side in one of them, the
-// compiler makes a shorter loop, where it is told.
-pub(crate) fn copy_run(src: &[u8], dst: &mut [u8], origin: Origin, c: Course) -> usize
+// A run that is not side by side in both: where the compiler is told that it is in one of them, it makes a shorter loop. Out of line, so
+// that a run of bytes saves nothing for it.
+#[inline(never)]
+fn copy_apart(src: &[u8], dst: &mut [u8], origin: Origin, c: Course) -> usize
     requires writable { Writable dst.old c }
     requires readable { Readable origin src.now dst.old c }
     ensures next { result ≡ along c.to c.stride c.n }
     ensures written { dst.new ≡ run_copied origin src.now dst.old c }
 {
     if c.stride == c.size {
-        if c.jump == c.size {
-            let n = bytes(c.size, c.n);
-            copy_bytes(src, dst, origin, c.at, c.to, n);
-            return wrapping_add_usize(c.to, n);
-        }
         if are_evens(c) {
             return copy_evens(src, dst, origin, c);
         }
@@ -132,6 +104,21 @@ pub(crate) fn copy_run(src: &[u8], dst: &mut [u8], origin: Origin, c: Course) ->
         return copy_each(src, dst, origin, Course { jump: c.size, ..c });
     }
     copy_each(src, dst, origin, c)
+}
+
+// A run of kept elements; tells where the next is stored. Side by side in both they are a run of bytes.
+pub(crate) fn copy_run(src: &[u8], dst: &mut [u8], origin: Origin, c: Course) -> usize
+    requires writable { Writable dst.old c }
+    requires readable { Readable origin src.now dst.old c }
+    ensures next { result ≡ along c.to c.stride c.n }
+    ensures written { dst.new ≡ run_copied origin src.now dst.old c }
+{
+    if c.stride == c.size && c.jump == c.size {
+        let n = bytes(c.size, c.n);
+        copy_bytes(src, dst, origin, c.at, c.to, n);
+        return wrapping_add_usize(c.to, n);
+    }
+    copy_apart(src, dst, origin, c)
 }
 
 // A run, of kept elements or of padding; tells where the next element is stored. For a few elements no way is looked for.

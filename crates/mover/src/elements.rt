@@ -28,14 +28,13 @@ pub(crate) struct Course {
     pub(crate) n: usize,
 }
 
-// A byte of the source.
-pub(crate) fn byte(src: &[u8], dst: &[u8], origin: Origin, i: usize) -> u8
-    requires { i < length (source_bytes origin src.now dst.now) }
-    ensures { result ≡ slice_index (source_bytes origin src.now dst.now) i }
+// The source's bytes, wherever they stand.
+pub(crate) fn source<'a>(src: &'a [u8], dst: &'a [u8], origin: Origin) -> &'a [u8]
+    ensures { result.now ≡ source_bytes origin src.now dst.now }
 {
     match origin {
-        Origin::Lent => src[i],
-        Origin::Inside => dst[i],
+        Origin::Lent => src,
+        Origin::Inside => dst,
     }
 }
 
@@ -46,25 +45,26 @@ pub(crate) fn copy(src: &[u8], dst: &mut [u8], origin: Origin, at: usize, to: us
     requires size_in_bounds_2 { to + size ≤ length dst.old }
     ensures { dst.new ≡ element_copied origin src.now dst.old at to size }
 {
-    let a = byte(src, dst, origin, at);
+    let bytes = source(src, dst, origin);
+    let a = bytes[at];
     if size == 1 {
         dst[to] = a;
         return;
     }
-    let b = byte(src, dst, origin, at + 1);
+    let b = bytes[at + 1];
     if size == 2 {
         dst[to] = a;
         dst[to + 1] = b;
         return;
     }
-    let c = byte(src, dst, origin, at + 2);
+    let c = bytes[at + 2];
     if size == 3 {
         dst[to] = a;
         dst[to + 1] = b;
         dst[to + 2] = c;
         return;
     }
-    let d = byte(src, dst, origin, at + 3);
+    let d = bytes[at + 3];
     dst[to] = a;
     dst[to + 1] = b;
     dst[to + 2] = c;
@@ -80,12 +80,10 @@ pub(crate) fn copy_each(src: &[u8], dst: &mut [u8], origin: Origin, c: Course) -
 {
     let mut at = c.at;
     let mut to = c.to;
-    let mut k = 0;
-    while k < c.n {
+    for _ in 0..c.n {
         copy(src, dst, origin, at, to, c.size);
         at = wrapping_add_usize(at, c.jump);
         to = wrapping_add_usize(to, c.stride);
-        k += 1;
     }
     to
 }
@@ -119,11 +117,9 @@ pub(crate) fn pad_run(dst: &mut [u8], c: Course) -> usize
 {
     let four = c.pad;
     let mut to = c.to;
-    let mut k = 0;
-    while k < c.n {
+    for _ in 0..c.n {
         pad(dst, to, c.size, four);
         to = wrapping_add_usize(to, c.stride);
-        k += 1;
     }
     to
 }

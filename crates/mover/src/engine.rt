@@ -38,7 +38,8 @@ fn move_run(src: &[u8], dst: &mut [u8], origin: Origin, plan: Plan, s: Spots, ru
 }
 
 // Writes the elements numbered from, from + 1, .. and tells how many: the budget, or what is left. Whether the outer coordinates are
-// kept is decided where they change.
+// kept is decided where they change. The form is the paper's: nested loops over four destination coordinates, left by a label when the
+// budget reaches zero.
 pub(crate) fn by_runs(
     src: &[u8],
     dst: &mut [u8],

@@ -1,61 +1,53 @@
 // Dimensions that are one: where each row goes on where the last one ended, in source and destination, the rows of a layer are one row. So
 // a plane that is copied whole is one row, whatever its rank. Worked out once a step.
 ghost use Rattle.std.specs.Prelude.{◌≡◌, ◌*◌, ◌^◌, ◌<◌, true};
-ghost use Rattle.mover.specs.Private.Folding.{Joins, as_one, Folds, Foldable};
+ghost use Rattle.mover.specs.Private.Folding.{Follows, Joins, as_one, Folds, Foldable};
 
 use crate::plan::{Axis, Plan, goes_down, length_of, lone};
 
 // Whether e times `inner` is `outer`.
 fn is_times(outer: usize, e: usize, inner: usize) -> bool
-    requires { 0 < e }
     ensures { result ≡ true → outer ≡ e * inner }
 {
-    if outer % e == 0 {
-        return outer / e == inner;
-    }
-    false
+    e.checked_mul(inner) == Some(outer)
 }
 
-// Whether two neighbouring dimensions are one: the inner has one coordinate, or nothing of it is padding and the outer goes on where it
-// ends, in the same direction. An outer one of one coordinate stays as it is.
-fn joins(x: Axis, y: Axis) -> bool
-    requires { 0 < y.extent }
-    ensures { result ≡ true → Joins x y }
-{
-    if x.extent == 1 {
-        return false;
+impl Axis {
+    // Whether nothing of the inner dimension is padding and this one goes on where it ends, in the same direction.
+    fn follows(self, inner: Axis) -> bool
+        ensures { result ≡ true → Follows self inner }
+    {
+        inner.count == inner.extent
+            && goes_down(self.jump) == goes_down(inner.jump)
+            && is_times(length_of(self.jump), inner.extent, length_of(inner.jump))
+            && is_times(self.stride, inner.extent, inner.stride)
     }
-    if y.extent == 1 {
-        return true;
-    }
-    if y.count != y.extent {
-        return false;
-    }
-    if goes_down(x.jump) != goes_down(y.jump) {
-        return false;
-    }
-    if is_times(length_of(x.jump), y.extent, length_of(y.jump)) {
-        return is_times(x.stride, y.extent, y.stride);
-    }
-    false
-}
 
-// Both as one.
-fn as_one(x: Axis, y: Axis) -> Axis
-    requires extent_bound { x.extent * y.extent < 2 ^ 64 }
-    requires extent_bound_2 { x.pre * y.extent < 2 ^ 64 × (x.count * y.extent < 2 ^ 64) }
-    ensures { result ≡ as_one x y }
-{
-    if y.extent == 1 {
-        return x;
+    // Whether this dimension and its inner neighbour are one: the inner has one coordinate, or this one follows it. One of one coordinate
+    // stays as it is.
+    fn joins(self, inner: Axis) -> bool
+        ensures { result ≡ true → Joins self inner }
+    {
+        self.extent != 1 && (inner.extent == 1 || self.follows(inner))
     }
-    let e = y.extent;
-    Axis {
-        extent: x.extent * e,
-        pre: x.pre * e,
-        count: x.count * e,
-        jump: y.jump,
-        stride: y.stride,
+
+    // Both as one.
+    fn as_one(self, inner: Axis) -> Axis
+        requires extent_bound { self.extent * inner.extent < 2 ^ 64 }
+        requires extent_bound_2 { self.pre * inner.extent < 2 ^ 64 × (self.count * inner.extent < 2 ^ 64) }
+        ensures { result ≡ as_one self inner }
+    {
+        if inner.extent == 1 {
+            return self;
+        }
+        let e = inner.extent;
+        Axis {
+            extent: self.extent * e,
+            pre: self.pre * e,
+            count: self.count * e,
+            jump: inner.jump,
+            stride: inner.stride,
+        }
     }
 }
 
@@ -69,17 +61,17 @@ pub(crate) fn folded(p: Plan) -> Plan
     let mut d1 = p.d1;
     let mut d2 = p.d2;
     let mut d3 = p.d3;
-    if joins(d0, d1) {
-        d1 = as_one(d0, d1);
+    if d0.joins(d1) {
+        d1 = d0.as_one(d1);
         d0 = lone();
     }
-    if joins(d1, d2) {
-        d2 = as_one(d1, d2);
+    if d1.joins(d2) {
+        d2 = d1.as_one(d2);
         d1 = d0;
         d0 = lone();
     }
-    if joins(d2, d3) {
-        d3 = as_one(d2, d3);
+    if d2.joins(d3) {
+        d3 = d2.as_one(d3);
         d2 = d1;
         d1 = d0;
         d0 = lone();

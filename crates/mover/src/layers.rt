@@ -3,7 +3,7 @@ ghost use Rattle.std.specs.Prelude.{◌≡◌, ◌-◌, ◌<◌, min};
 ghost use Rattle.mover.specs.Private.Elements.{plan_total, moved_from};
 ghost use Rattle.mover.specs.Private.Ready.{Ready};
 
-use crate::alike::{kept, least};
+use crate::alike::kept;
 use crate::bands::{band_at, behind, frame_of, move_band};
 use crate::elements::Origin;
 use crate::engine::by_runs;
@@ -11,7 +11,8 @@ use crate::plan::Plan;
 use crate::spots::{next_layer, next_row, next_slab};
 use crate::start::begin;
 
-// Writes the elements numbered from, from + 1, .. and tells how many: the budget, or what is left.
+// Writes the elements numbered from, from + 1, .. and tells how many: the budget, or what is left. The form of the loops is the paper's,
+// as in `by_runs`.
 pub(crate) fn by_bands(
     src: &[u8],
     dst: &mut [u8],
@@ -51,7 +52,7 @@ pub(crate) fn by_bands(
                         continue;
                     }
                 }
-                let n = least(plan.d3.extent - c3, left);
+                let n = (plan.d3.extent - c3).min(left);
                 by_runs(src, dst, origin, plan, from + (budget - left), n);
                 left -= n;
                 if left == 0 {

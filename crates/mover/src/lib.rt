@@ -2,6 +2,7 @@
 // and changes no other byte. Between two lent slices, or between two parts of one memory, from any element on.
 #![tactic(auto)]
 
+mod verdicts; // what the rules say of a move
 mod plan; // an accepted move as the engine wants it
 mod spots; // where an element stands, and where the next row, layer and slab start
 mod start; // where a step begins
@@ -34,13 +35,15 @@ pub use sub::{sub_part, sub_tensor};
 pub use within::{advance, judge_job, meets};
 
 // A move between two parts of one memory.
-#[derive(Clone, Copy)]
+#[derive(Clone, Copy, PartialEq, Eq)]
 pub struct Job {
     pub source: Part,
     pub destination: Part,
     pub tensor: Tensor,
     pub config: Config,
 }
+
+// The answers from here on are the paper's records, and no Results: of a refused one the zeros are promised too (DECISIONS 105).
 
 // What a job comes to over a memory: a number of refusal with its dimension, or how many elements there are to move.
 #[derive(Clone, Copy)]

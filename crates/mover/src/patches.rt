@@ -1,9 +1,10 @@
 // Patches: rows and columns of elements that are all kept, or all padding. A patch is moved by rows; by columns, where rows and columns are
-// exchanged; or tile by tile.
+// exchanged; or tile by tile. Each loop names what it does with a row, and what a patch tells is told by functions, not methods:
+// scripts/by-adding sees by the names that the loops call that no element costs a product, and a parameter or a method hides them.
 ghost use Rattle.std.specs.Prelude.{◌≡◌};
 ghost use Rattle.mover.specs.Private.Patches.{Lines, swapped_of, patch_row, patch_copied, patch_padded, PatchFits, PatchReads};
 
-use crate::copies::{bytes, copy_sixteens};
+use crate::copies::{bytes, copy_bytes};
 use crate::courses::copy_run;
 use crate::elements::{Course, Origin, copy_each, pad_run};
 use std::num::wrapping_add_usize;
@@ -60,32 +61,13 @@ pub(crate) fn pad_rows(dst: &mut [u8], p: Patch)
     ensures { dst.new ≡ patch_padded dst.old p }
 {
     let mut to = p.to;
-    let mut i = 0;
-    while i < p.rows {
+    for _ in 0..p.rows {
         pad_run(dst, row(p, p.at, to));
         to = wrapping_add_usize(to, p.row_stride);
-        i += 1;
     }
 }
 
-// Kept elements, row by row, where these are short: no way is looked for.
-pub(crate) fn copy_few(src: &[u8], dst: &mut [u8], origin: Origin, p: Patch)
-    requires patch_fits { PatchFits dst.old p }
-    requires patch_reads { PatchReads origin src.now dst.old p }
-    ensures { dst.new ≡ patch_copied origin src.now dst.old p }
-{
-    let mut at = p.at;
-    let mut to = p.to;
-    let mut i = 0;
-    while i < p.rows {
-        copy_each(src, dst, origin, row(p, at, to));
-        at = wrapping_add_usize(at, p.row_jump);
-        to = wrapping_add_usize(to, p.row_stride);
-        i += 1;
-    }
-}
-
-// Kept elements, row by row.
+// Kept elements, row by row. For short rows no way is looked for.
 pub(crate) fn copy_rows(src: &[u8], dst: &mut [u8], origin: Origin, p: Patch)
     requires patch_fits { PatchFits dst.old p }
     requires patch_reads { PatchReads origin src.now dst.old p }
@@ -93,12 +75,15 @@ pub(crate) fn copy_rows(src: &[u8], dst: &mut [u8], origin: Origin, p: Patch)
 {
     let mut at = p.at;
     let mut to = p.to;
-    let mut i = 0;
-    while i < p.rows {
-        copy_run(src, dst, origin, row(p, at, to));
+    for _ in 0..p.rows {
+        let c = row(p, at, to);
+        if c.n < 16 {
+            copy_each(src, dst, origin, c);
+        } else {
+            copy_run(src, dst, origin, c);
+        }
         at = wrapping_add_usize(at, p.row_jump);
         to = wrapping_add_usize(to, p.row_stride);
-        i += 1;
     }
 }
 
@@ -112,11 +97,9 @@ pub(crate) fn copy_lines(src: &[u8], dst: &mut [u8], origin: Origin, p: Patch)
     let n = bytes(p.size, p.columns);
     let mut at = p.at;
     let mut to = p.to;
-    let mut i = 0;
-    while i < p.rows {
-        copy_sixteens(src, dst, origin, at, to, n);
+    for _ in 0..p.rows {
+        copy_bytes(src, dst, origin, at, to, n);
         at = wrapping_add_usize(at, p.row_jump);
         to = wrapping_add_usize(to, p.row_stride);
-        i += 1;
     }
 }

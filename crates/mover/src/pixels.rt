@@ -1,6 +1,6 @@
 // One element of a destination, before anything is moved.
 ghost use Rattle.std.specs.Prelude.{◌≡◌, ◌+◌, ◌≤◌, true, [], length};
-ghost use Rattle.faults.specs.Faults.{lowest};
+ghost use Rattle.faults.specs.Faults.{lowest, outcome};
 ghost use Rattle.plane.specs.Arrays.{at, firsts};
 ghost use Rattle.mover.specs.declared.elements.Origin.TheVariants.{Lent};
 ghost use Rattle.mover.specs.Pixel.{bad_coordinate, pixel_fault, pixel_of};
@@ -10,36 +10,27 @@ ghost use Rattle.mover.specs.Private.Rows.{size_of, row_byte};
 use crate::PixelAnswer;
 use crate::elements::Origin;
 use crate::plain::{Row, byte, inward, outermost};
+use crate::verdicts::judged;
 use plane::{Config, Fault, Tensor};
 
 // 35: the lowest of n dimensions whose coordinate is at or above its extent.
-fn coordinate_fault(n: u8, extent: [u32; 4], x: [u32; 4]) -> Fault
+fn coordinate_fault(n: u8, extent: [u32; 4], x: [u32; 4]) -> Result<(), Fault>
     requires { n ≤ 4 }
-    ensures { result ≡ lowest 35 n (λ i. bad_coordinate (at extent i) (at x i)) }
+    ensures { result ≡ outcome (lowest 35 n (λ i. bad_coordinate (at extent i) (at x i))) tt }
 {
-    for i in 0..n {
-        let k = i as usize;
-        if extent[k] <= x[k] {
-            return Fault { status: 35, dim: i };
-        }
+    match (0..n).find(|&i| extent[i as usize] <= x[i as usize]) {
+        Some(i) => Err(Fault { status: 35, dim: i }),
+        None => Ok(()),
     }
-    Fault { status: 0, dim: 0 }
 }
 
 // What refuses a pixel of a source of len bytes: 1 to 12, then 35.
-fn pixel_fault(t: Tensor, c: Config, len: usize, x: [u32; 4]) -> Fault
-    ensures { result ≡ pixel_fault t c len x }
+fn pixel_fault(t: Tensor, c: Config, len: usize, x: [u32; 4]) -> Result<(), Fault>
+    ensures { result ≡ outcome (pixel_fault t c len x) tt }
 {
     // as a move into the longest destination that there is: 13 never applies
-    let a = plane::judge(t, c, len, usize::MAX);
-    if a.status != 0 {
-        return Fault {
-            status: a.status,
-            dim: a.dim,
-        };
-    }
-    let extent = a.extent;
-    coordinate_fault(t.rank, extent, x)
+    let a = judged(t, c, len, usize::MAX)?;
+    coordinate_fault(t.rank, a.extent, x)
 }
 
 // The element at this coordinate, as the plain engine comes to it: inward by one entry for each dimension.
@@ -73,20 +64,21 @@ fn bytes_of(src: &[u8], row: Row) -> [u8; 4]
 pub fn pixel(t: Tensor, c: Config, src: &[u8], at: [u32; 4]) -> PixelAnswer
     ensures { result ≡ pixel_of t c src.now at }
 {
-    let f = pixel_fault(t, c, src.len(), at);
-    if f.status != 0 {
-        return PixelAnswer {
+    match pixel_fault(t, c, src.len(), at) {
+        Ok(()) => {
+            let row = row_at(t, c, at);
+            PixelAnswer {
+                status: 0,
+                dim: 0,
+                bytes: bytes_of(src, row),
+                padding: !row.kept,
+            }
+        }
+        Err(f) => PixelAnswer {
             status: f.status,
             dim: f.dim,
             bytes: [0; 4],
             padding: false,
-        };
-    }
-    let row = row_at(t, c, at);
-    PixelAnswer {
-        status: 0,
-        dim: 0,
-        bytes: bytes_of(src, row),
-        padding: !row.kept,
+        },
     }
 }

@@ -40,7 +40,7 @@ pub(crate) fn byte(src: &[u8], dst: &[u8], row: Row, b: usize) -> u8
             Origin::Inside => dst[at],
         }
     } else {
-        ((row.config.fill >> (8 * b)) % 256) as u8
+        row.config.fill.to_le_bytes()[b]
     }
 }
 
@@ -150,7 +150,7 @@ pub fn move_plane(t: Tensor, config: Config, src: &[u8], dst: &mut [u8]) -> plan
     ensures answered { result ≡ judge_of t config (length src.now) (length dst.old) }
     ensures written { dst.new ≡ move_memory t config src.now dst.old }
 {
-    let a = plane::judge(t, config, src.len(), dst.len());
+    let a = plane::judge(t, config, src.len(), dst.len()); // it goes out as it is, refused or not
     if a.status == 0 {
         let row = outermost(t, config, Origin::Lent, 0, 0);
         store_row(src, dst, row, t.rank, 0, u64::MAX); // the end is above every number

@@ -8,7 +8,6 @@ ghost use Rattle.plane.specs.Moves.{room_fault, accepted};
 ghost use Rattle.mover.specs.Private.Plans.{jump_by, goes_down, jump_length, plan_of, axis_made, home_made, lone, Fit};
 
 use plane::{Answer, Config, Tensor};
-use std::num::wrapping_sub_usize;
 
 // One destination dimension.
 #[derive(Clone, Copy)]
@@ -44,17 +43,14 @@ fn times(a: u32, b: u32) -> usize
 fn jump_by(down: bool, n: usize) -> usize
     ensures { result ≡ jump_by down n }
 {
-    if down {
-        return wrapping_sub_usize(0, n);
-    }
-    n
+    if down { n.wrapping_neg() } else { n }
 }
 
 // Whether a jump goes down: it is 2^63 or above, and lengths are far below that.
 pub(crate) fn goes_down(jump: usize) -> bool
     ensures { result ≡ goes_down jump }
 {
-    9223372036854775808 <= jump
+    1 << 63 <= jump
 }
 
 // Over how many bytes it goes.
@@ -62,9 +58,10 @@ pub(crate) fn length_of(jump: usize) -> usize
     ensures { result ≡ jump_length jump }
 {
     if goes_down(jump) {
-        return wrapping_sub_usize(0, jump);
+        jump.wrapping_neg()
+    } else {
+        jump
     }
-    jump
 }
 
 // How many strides up from the lowest element of its dimension coordinate x lies.
@@ -72,70 +69,7 @@ fn up(stride: i32, shape: u32, x: u32) -> u32
     requires { x < shape }
     ensures { (result ≡ up (is_down stride) shape x) × (result < shape) }
 {
-    if stride < 0 {
-        return shape - 1 - x;
-    }
-    x
-}
-
-// The byte of the first kept element in the source. sizes has the sizes of its resolved strides.
-fn home_of(t: Tensor, c: Config, a: Answer, sizes: [u32; 4]) -> usize
-    requires { Fit t c a }
-    ensures { result ≡ home_made t c a sizes }
-{
-    let mut total: usize = 0;
-    for i in 0..a.rank {
-        let d = c.perm[i as usize] as usize;
-        total += times(up(t.stride[d], t.shape[d], c.offset[d]), sizes[d]);
-    }
-    total * (a.element_size as usize)
-}
-
-// The byte of the first element in the destination.
-fn base_of(t: Tensor, c: Config, a: Answer) -> usize
-    requires { Fit t c a }
-    ensures { result ≡ sum a.rank (λ i. at c.dst_offset i * at a.stride i) * a.element_size }
-{
-    let mut total: usize = 0;
-    for i in 0..a.rank {
-        let k = i as usize;
-        total += times(c.dst_offset[k], a.stride[k]);
-    }
-    total * (a.element_size as usize)
-}
-
-// The bytes of a fill, the lowest first.
-fn bytes_of(fill: u32) -> [u8; 4]
-    ensures { result ≡ little 4 fill }
-{
-    [
-        (fill % 256) as u8,
-        (fill / 256 % 256) as u8,
-        (fill / 65536 % 256) as u8,
-        (fill / 16777216) as u8,
-    ]
-}
-
-// Destination dimension i. What the padding leaves of its extent is kept.
-fn axis_of(t: Tensor, c: Config, a: Answer, sizes: [u32; 4], i: usize) -> Axis
-    requires fit { Fit t c a }
-    requires i_lt_rank { i < a.rank }
-    ensures { result ≡ axis_made t c a sizes i }
-{
-    let extent = a.extent[i] as usize;
-    let d = c.perm[i] as usize;
-    let pre = c.pre[d] as usize;
-    let post = c.post[d] as usize;
-    let step = c.step[d];
-    let between = times(step, sizes[d]) * (a.element_size as usize);
-    let down = t.stride[d] < 0;
-    Axis {
-        extent,
-        pre,
-        count: extent - pre - post,
-        jump: jump_by(down, between),
-        stride: times(a.stride[i], a.element_size as u32),
-    }
+    if stride < 0 { shape - 1 - x } else { x }
 }
 
 // A dimension that the rank lacks: one element.
@@ -151,17 +85,85 @@ pub(crate) fn lone() -> Axis
     }
 }
 
-// Axis j of four: those that the rank lacks stand first.
-fn axis_at(t: Tensor, c: Config, a: Answer, sizes: [u32; 4], j: usize) -> Axis
-    requires fit { Fit t c a }
-    requires j_bound { j < 4 }
-    ensures { result ≡ (if nat_lt j (4 - a.rank) then lone else axis_made t c a sizes (j - (4 - a.rank))) }
+// The bytes of a fill, the lowest first.
+fn bytes_of(fill: u32) -> [u8; 4]
+    ensures { result ≡ little 4 fill }
 {
-    let lacking = 4 - (a.rank as usize);
-    if j < lacking {
-        return lone();
+    fill.to_le_bytes()
+}
+
+// An accepted move: its record, its configuration, the sizes of the source's resolved strides, and its answer.
+#[derive(Clone, Copy)]
+struct Accepted {
+    tensor: Tensor,
+    config: Config,
+    sizes: [u32; 4],
+    answer: Answer,
+    ghost fit: { Fit tensor config answer },
+}
+
+impl Accepted {
+    // The byte of the first kept element in the source.
+    fn home(self) -> usize
+        ensures { result ≡ home_made self.tensor self.config self.answer self.sizes }
+    {
+        let t = self.tensor;
+        let c = self.config;
+        let mut total: usize = 0;
+        for i in 0..self.answer.rank {
+            let d = c.perm[i as usize] as usize;
+            total += times(up(t.stride[d], t.shape[d], c.offset[d]), self.sizes[d]);
+        }
+        total * (self.answer.element_size as usize)
     }
-    axis_of(t, c, a, sizes, j - lacking)
+
+    // The byte of the first element in the destination.
+    fn base(self) -> usize
+        ensures { result ≡ sum self.answer.rank (λ i. at self.config.dst_offset i * at self.answer.stride i) * self.answer.element_size }
+    {
+        let mut total: usize = 0;
+        for i in 0..self.answer.rank {
+            let k = i as usize;
+            total += times(self.config.dst_offset[k], self.answer.stride[k]);
+        }
+        total * (self.answer.element_size as usize)
+    }
+
+    // Destination dimension i. What the padding leaves of its extent is kept.
+    fn axis(self, i: usize) -> Axis
+        requires { i < self.answer.rank }
+        ensures { result ≡ axis_made self.tensor self.config self.answer self.sizes i }
+    {
+        let t = self.tensor;
+        let c = self.config;
+        let a = self.answer;
+        let extent = a.extent[i] as usize;
+        let d = c.perm[i] as usize;
+        let pre = c.pre[d] as usize;
+        let post = c.post[d] as usize;
+        let step = c.step[d];
+        let between = times(step, self.sizes[d]) * (a.element_size as usize);
+        let down = t.stride[d] < 0;
+        Axis {
+            extent,
+            pre,
+            count: extent - pre - post,
+            jump: jump_by(down, between),
+            stride: times(a.stride[i], a.element_size as u32),
+        }
+    }
+
+    // Axis j of four: those that the rank lacks stand first.
+    fn axis_of_four(self, j: usize) -> Axis
+        requires { j < 4 }
+        ensures { result ≡ (if nat_lt j (4 - self.answer.rank) then lone else axis_made self.tensor self.config self.answer self.sizes (j - (4 - self.answer.rank))) }
+    {
+        let lacking = 4 - (self.answer.rank as usize);
+        if j < lacking {
+            return lone();
+        }
+        self.axis(j - lacking)
+    }
 }
 
 // The plan of an accepted move, whose answer is a.
@@ -169,17 +171,23 @@ pub(crate) fn plan_of(t: Tensor, c: Config, a: Answer) -> Plan
     requires { ((room_fault t c).status ≡ 0) × (a ≡ accepted t c) }
     ensures { result ≡ plan_of t c }
 {
-    let s = plane::source_of(t);
-    let sizes = s.stride;
+    let source = plane::source_of(t);
+    let sizes = source.stride;
+    let it = Accepted {
+        tensor: t,
+        config: c,
+        sizes,
+        answer: a,
+    };
     Plan {
         size: a.element_size as usize,
         pad: bytes_of(c.fill),
-        home: home_of(t, c, a, sizes),
-        base: base_of(t, c, a),
-        d0: axis_at(t, c, a, sizes, 0),
-        d1: axis_at(t, c, a, sizes, 1),
-        d2: axis_at(t, c, a, sizes, 2),
-        d3: axis_at(t, c, a, sizes, 3),
+        home: it.home(),
+        base: it.base(),
+        d0: it.axis_of_four(0),
+        d1: it.axis_of_four(1),
+        d2: it.axis_of_four(2),
+        d3: it.axis_of_four(3),
     }
 }
 

@@ -3,7 +3,6 @@ ghost use Rattle.std.specs.Prelude.{◌≡◌};
 ghost use Rattle.mover.specs.Private.Adding.{onward_of, next_row, next_layer, next_slab};
 
 use crate::plan::Axis;
-use std::num::wrapping_add_usize;
 
 // Two places: `to` is the byte of an element in the destination, `at` that of its source element. In padding, and behind a run, `at`
 // stays at one that is kept.
@@ -28,17 +27,18 @@ pub(crate) struct Spots {
 fn onward(s: Spot, x: Axis, c: usize) -> Spot
     ensures { result ≡ onward_of s x c }
 {
-    let to = wrapping_add_usize(s.to, x.stride);
-    if x.pre < c {
-        if c - x.pre < x.count {
-            return Spot {
-                to,
-                at: wrapping_add_usize(s.at, x.jump),
-            };
-        }
+    let goes_on = x.pre < c && c - x.pre < x.count;
+    Spot {
+        to: s.to.wrapping_add(x.stride),
+        at: if goes_on {
+            s.at.wrapping_add(x.jump)
+        } else {
+            s.at
+        },
     }
-    Spot { to, at: s.at }
 }
+
+// A function for each of the three: they differ in what they keep, and one over a number for row, layer and slab would ask it each time.
 
 // The spots of the next row, which is number c of its dimension: back to where the last one started, and a stride further.
 pub(crate) fn next_row(s: Spots, x: Axis, c: usize) -> Spots

@@ -8,7 +8,6 @@ ghost use Rattle.mover.specs.Private.Ready.{reach_of, place_end, GoodAxes};
 
 use crate::plan::{Axis, Plan, goes_down, length_of};
 use crate::spots::{Spot, Spots};
-use std::num::{wrapping_add_usize, wrapping_sub_usize};
 
 // The coordinates of an element, and its spots.
 #[derive(Clone, Copy)]
@@ -25,13 +24,7 @@ fn jumps(x: Axis, c: usize) -> usize
     requires { 0 < x.count }
     ensures { result ≡ jumps_of x c }
 {
-    if c < x.pre {
-        return 0;
-    }
-    if c - x.pre < x.count {
-        return c - x.pre;
-    }
-    x.count - 1
+    c.saturating_sub(x.pre).min(x.count - 1)
 }
 
 // n jumps on from `at`.
@@ -41,9 +34,10 @@ fn after(at: usize, jump: usize, n: usize) -> usize
 {
     let far = n * length_of(jump);
     if goes_down(jump) {
-        return wrapping_sub_usize(at, far);
+        at.wrapping_sub(far)
+    } else {
+        at.wrapping_add(far)
     }
-    wrapping_add_usize(at, far)
 }
 
 // The spot at coordinate c of a dimension, from that at its start.

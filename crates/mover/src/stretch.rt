@@ -13,15 +13,7 @@ use crate::plan::Plan;
 
 // Whether a stretch is too short for more than its runs: a few elements, or a single row.
 fn is_short(plan: Plan, budget: usize) -> bool {
-    if budget < 64 {
-        return true;
-    }
-    if plan.d2.extent == 1 {
-        if plan.d1.extent == 1 {
-            return plan.d0.extent == 1;
-        }
-    }
-    false
+    budget < 64 || (plan.d2.extent == 1 && plan.d1.extent == 1 && plan.d0.extent == 1)
 }
 
 // Whether its layers are too small for bands: a single row, or fewer than 64 elements in rows of fewer than 9.
@@ -29,9 +21,10 @@ fn is_few(p: Plan) -> bool
     requires { 0 < p.d3.extent }
 {
     if p.d3.extent < 9 {
-        return p.d2.extent <= 63 / p.d3.extent;
+        p.d2.extent <= 63 / p.d3.extent
+    } else {
+        p.d2.extent == 1
     }
-    p.d2.extent == 1
 }
 
 // Writes the elements numbered from, from + 1, .. and tells how many: the budget, or what is left. What of the plan is one dimension is

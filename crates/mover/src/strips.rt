@@ -1,4 +1,5 @@
-// Strips: the rows of one tile, tile by tile, and what is left of the columns row by row.
+// Strips: the rows of one tile, tile by tile, and what is left of the columns row by row. As in patches.rt, each loop names what it does
+// with a part; and it counts its steps, since `step_by` divides.
 ghost use Rattle.std.specs.Prelude.{◌≡◌};
 ghost use Rattle.mover.specs.Private.Patches.{Tiled, Turns, across_of, sixteenth_of, tile_step, patch_copied, PatchFits, PatchReads};
 
@@ -21,27 +22,23 @@ fn across(size: usize, j: usize) -> usize
 {
     let two = wrapping_add_usize(j, j);
     let four = wrapping_add_usize(two, two);
-    if size == 4 {
-        return four;
-    }
     let eight = wrapping_add_usize(four, four);
-    if size == 2 {
-        return eight;
+    match size {
+        4 => four,
+        2 => eight,
+        _ => wrapping_add_usize(eight, eight),
     }
-    wrapping_add_usize(eight, eight)
 }
 
 // How many elements 16 bytes have.
 fn sixteenth(size: usize) -> usize
     ensures { result ≡ sixteenth_of size }
 {
-    if size == 4 {
-        return 4;
+    match size {
+        4 => 4,
+        2 => 8,
+        _ => 16,
     }
-    if size == 2 {
-        return 8;
-    }
-    16
 }
 
 // The step of a kind of tile.

@@ -18,6 +18,7 @@ pub fn sub_part(t: Tensor, s: SubConfig, src: &[u8]) -> &[u8]
 {
     let a = sub_tensor(t, s, src);
     let end = src.len();
+    // the part is empty where the paper's answer has a number, and its byte is else where it starts
     if a.status != 0 {
         return &src[end..];
     }

@@ -1,9 +1,10 @@
-// Which way a patch goes: one contract for all of them. The tests are equalities with what a way needs.
+// Which way a patch goes: one contract for all of them. The tests are equalities with what a way needs. Each stands beside the call that
+// it allows: with an enum of the ways a `match` would name each again.
 ghost use Rattle.std.specs.Prelude.{◌≡◌, true};
 ghost use Rattle.mover.specs.Private.Patches.{Tiled, Turns, Lines, patch_copied, patch_padded, PatchFits, PatchReads};
 
 use crate::elements::Origin;
-use crate::patches::{Patch, copy_few, copy_lines, copy_rows, pad_rows, swapped};
+use crate::patches::{Patch, copy_lines, copy_rows, pad_rows, swapped};
 use crate::strips::{copy_strip, copy_strips};
 use crate::tiles::Tile;
 
@@ -11,56 +12,28 @@ use crate::tiles::Tile;
 fn are_lines(p: Patch) -> bool
     ensures { result ≡ true → Lines p }
 {
-    if 1 < p.rows {
-        if p.jump == p.size {
-            return p.stride == p.size;
-        }
-    }
-    false
+    1 < p.rows && p.jump == p.size && p.stride == p.size
 }
 
 // Whether the rows are the channels of pixels of three bytes that stand side by side in the source.
 fn is_split(p: Patch) -> bool
     ensures { result ≡ true → Tiled Tile.Split p }
 {
-    if p.size == 1 {
-        if p.rows == 3 {
-            if p.row_jump == 1 {
-                if p.jump == 3 {
-                    return p.stride == 1;
-                }
-            }
-        }
-    }
-    false
+    p.size == 1 && p.rows == 3 && p.row_jump == 1 && p.jump == 3 && p.stride == 1
 }
 
 // Whether they are those of pixels that stand side by side in the destination.
 fn is_merged(p: Patch) -> bool
     ensures { result ≡ true → Tiled Tile.Merged p }
 {
-    if p.size == 1 {
-        if p.rows == 3 {
-            if p.row_stride == 1 {
-                if p.jump == 1 {
-                    return p.stride == 3;
-                }
-            }
-        }
-    }
-    false
+    p.size == 1 && p.rows == 3 && p.row_stride == 1 && p.jump == 1 && p.stride == 3
 }
 
 // Whether rows and columns are exchanged, of elements of 1, 2 or 4 bytes.
 fn turns(p: Patch) -> bool
     ensures { result ≡ true → Turns p }
 {
-    if p.size != 3 {
-        if p.row_jump == p.size {
-            return p.stride == p.size;
-        }
-    }
-    false
+    p.size != 3 && p.row_jump == p.size && p.stride == p.size
 }
 
 // Kept elements of a few columns: pixels put together, else column by column; of a few rows too, row by row.
@@ -70,15 +43,15 @@ fn copy_narrow(src: &[u8], dst: &mut [u8], origin: Origin, p: Patch)
     ensures { dst.new ≡ patch_copied origin src.now dst.old p }
 {
     if p.rows < 16 {
-        copy_few(src, dst, origin, p);
+        copy_rows(src, dst, origin, p);
         return;
     }
     let columns = swapped(p);
     if is_merged(columns) {
         copy_strip(src, dst, origin, Tile::Merged, columns);
-        return;
+    } else {
+        copy_rows(src, dst, origin, columns);
     }
-    copy_rows(src, dst, origin, columns);
 }
 
 // Kept elements of more columns: pixels taken apart, rows and columns exchanged, else row by row.
@@ -89,13 +62,11 @@ fn copy_wide(src: &[u8], dst: &mut [u8], origin: Origin, p: Patch)
 {
     if is_split(p) {
         copy_strip(src, dst, origin, Tile::Split, p);
-        return;
-    }
-    if turns(p) {
+    } else if turns(p) {
         copy_strips(src, dst, origin, p);
-        return;
+    } else {
+        copy_rows(src, dst, origin, p);
     }
-    copy_rows(src, dst, origin, p);
 }
 
 // Kept elements.
@@ -106,13 +77,11 @@ pub(crate) fn copy_patch(src: &[u8], dst: &mut [u8], origin: Origin, p: Patch)
 {
     if are_lines(p) {
         copy_lines(src, dst, origin, p);
-        return;
-    }
-    if p.columns < 16 {
+    } else if p.columns < 16 {
         copy_narrow(src, dst, origin, p);
-        return;
+    } else {
+        copy_wide(src, dst, origin, p);
     }
-    copy_wide(src, dst, origin, p);
 }
 
 // Padding: row by row, or column by column where these are few.
@@ -120,11 +89,9 @@ pub(crate) fn pad_patch(dst: &mut [u8], p: Patch)
     requires { PatchFits dst.old p }
     ensures { dst.new ≡ patch_padded dst.old p }
 {
-    if p.columns < 16 {
-        if p.columns < p.rows {
-            pad_rows(dst, swapped(p));
-            return;
-        }
+    if p.columns < 16 && p.columns < p.rows {
+        pad_rows(dst, swapped(p));
+    } else {
+        pad_rows(dst, p);
     }
-    pad_rows(dst, p);
 }

@@ -1,11 +1,12 @@
 // A move between two parts of one memory, a stretch at a time.
-ghost use Rattle.std.specs.Prelude.{◌≡◌, ◌<◌};
-ghost use Rattle.faults.specs.Faults.{fault};
-ghost use Rattle.plane.specs.Moves.{refused, answer_of};
-ghost use Rattle.mover.specs.Within.{leaves, off_boundary, meets, job_fault, verdict_of, advance_of, advance_memory};
+ghost use Rattle.std.specs.Prelude.{◌≡◌, ◌<◌, length};
+ghost use Rattle.faults.specs.Faults.{fault, outcome};
+ghost use Rattle.plane.specs.Moves.{accepted};
+ghost use Rattle.mover.specs.Within.{leaves, off_boundary, meets, job_fault, further, verdict_of, advance_of, advance_memory};
 
 use crate::plan::{plan_of, total};
 use crate::stretch::advance_within;
+use crate::verdicts::judged;
 use crate::{Advanced, Job, Part, Verdict};
 use plane::{Answer, Fault};
 
@@ -39,81 +40,66 @@ pub fn meets(p: Part, q: Part) -> bool
 }
 
 // A refusal that names no dimension.
-fn refused(status: u8) -> Answer
-    ensures { result ≡ refused (fault status 0) }
+fn overall(status: u8) -> Fault
+    ensures { result ≡ fault status 0 }
 {
-    Answer::refused(Fault { status, dim: 0 })
+    Fault { status, dim: 0 }
 }
 
 // What a job answers over a memory of len bytes: 20, 1 to 13, 34, 21, else as its move does.
-fn answer(len: usize, job: Job) -> Answer
-    ensures { result ≡ answer_of (job_fault len job) job.tensor job.config }
+fn answer(len: usize, job: Job) -> Result<Answer, Fault>
+    ensures { result ≡ outcome (job_fault len job) (accepted job.tensor job.config) }
 {
     if leaves(len, job.source) {
-        return refused(20);
+        return Err(overall(20));
     }
     if leaves(len, job.destination) {
-        return refused(20);
+        return Err(overall(20));
     }
-    let a = plane::judge(
+    let a = judged(
         job.tensor,
         job.config,
         job.source.length as usize,
         job.destination.length as usize,
-    );
-    if a.status != 0 {
-        return a;
-    }
+    )?;
     if is_off_boundary(job.tensor.element_size, job.source) {
-        return refused(34);
+        return Err(overall(34));
     }
     if is_off_boundary(job.tensor.element_size, job.destination) {
-        return refused(34);
+        return Err(overall(34));
     }
     if meets(job.source, job.destination) {
-        return refused(21);
+        return Err(overall(21));
     }
-    a
+    Ok(a)
 }
 
 // What a job comes to over a memory of len bytes. It moves nothing.
 pub fn judge_job(len: usize, job: Job) -> Verdict
     ensures { result ≡ verdict_of len job }
 {
-    let a = answer(len, job);
-    if a.status != 0 {
-        return Verdict {
-            status: a.status,
-            dim: a.dim,
+    match answer(len, job) {
+        Ok(a) => Verdict {
+            status: 0,
+            dim: 0,
+            total: total(a) as u64,
+        },
+        Err(f) => Verdict {
+            status: f.status,
+            dim: f.dim,
             total: 0,
-        };
-    }
-    Verdict {
-        status: 0,
-        dim: 0,
-        total: total(a) as u64,
+        },
     }
 }
 
-// Moves the elements of a job from number `from` on: budget of them, or what is left.
-pub fn advance(mem: &mut [u8], job: Job, from: u64, budget: u64) -> Advanced
-    ensures answered { result ≡ advance_of job from budget mem.old }
+// Moves the elements of a job from number `from` on, budget of them, or what is left, and tells how many.
+fn moved(mem: &mut [u8], job: Job, from: u64, budget: u64) -> Result<u64, Fault>
+    ensures counted { result ≡ outcome (job_fault (length mem.old) job) (further job from budget) }
     ensures written { mem.new ≡ advance_memory job from budget mem.old }
 {
-    let a = answer(mem.len(), job);
-    if a.status != 0 {
-        return Advanced {
-            status: a.status,
-            dim: a.dim,
-            count: 0,
-        };
-    }
+    let a = answer(mem.len(), job)?;
     if total(a) as u64 <= from {
-        return Advanced {
-            status: 0,
-            dim: 0,
-            count: 0,
-        };
+        return Ok(0);
     }
     let count = advance_within(
         mem,
@@ -123,9 +109,24 @@ pub fn advance(mem: &mut [u8], job: Job, from: u64, budget: u64) -> Advanced
         from as usize,
         budget as usize,
     );
-    Advanced {
-        status: 0,
-        dim: 0,
-        count: count as u64,
+    Ok(count as u64)
+}
+
+// Moves the elements of a job from number `from` on: budget of them, or what is left.
+pub fn advance(mem: &mut [u8], job: Job, from: u64, budget: u64) -> Advanced
+    ensures answered { result ≡ advance_of job from budget mem.old }
+    ensures written { mem.new ≡ advance_memory job from budget mem.old }
+{
+    match moved(mem, job, from, budget) {
+        Ok(count) => Advanced {
+            status: 0,
+            dim: 0,
+            count,
+        },
+        Err(f) => Advanced {
+            status: f.status,
+            dim: f.dim,
+            count: 0,
+        },
     }
 }

@@ -2,7 +2,7 @@
 #![tactic(auto)]
 
 // A part of a memory: length bytes from the byte start on.
-#[derive(Clone, Copy)]
+#[derive(Clone, Copy, PartialEq, Eq)]
 pub struct Part {
     pub start: u64,
     pub length: u64,

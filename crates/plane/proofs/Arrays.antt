@@ -9,7 +9,9 @@ use mathlib.Core.Logic.{⊎_elim}
 use mathlib.Core.Bool.{Bool, true, false, cond, ◌||◌, ◌&&◌, true≢false}
 use mathlib.Core.List.{List, [], ◌∷◌}
 use borrow.Author.Tests.{lt-ltb, le-ltb}
-use lib.ListN.{get_or, set, length, length-set}
+use lib.ListN.{get_or, set, take, length, length-set}
+use Rattle.std.specs.List.{list_any}
+use Rattle.std.proofs.lemmas.List.Folds.{list_any_more}
 use lib.Seq.{ext_get_or, get_or-set_same, get_or-set_other}
 use Rattle.plane.specs.Arrays.{at, below, array, firsts_or, zeros, sum, product, some, every, how_many}
 use Rattle.faults.proofs.Bools.{either_clear, either_first, either_second, neither, both_first, both_second, both, not_first, not_second}
@@ -190,6 +192,14 @@ some_found (suc n) k p h b =
     (λ q. either_second (some n p) (p n) (subst (λ (m : ℕ). p m ≡ true) q b))
     (λ q. either_first (some n p) (p n) (some_found n k p q b))
     (eq-or-lt_of_le (le_of_suc-le-suc h))
+
+-- whether p holds of one of the first i entries
+pub some_any : (p : ℕ → Bool) (xs : List ℕ) (i : ℕ) → i ≤ length xs → list_any p (take i xs) ≡ some i (λ j. p (at xs j))
+unfolding some
+some_any p xs zero h = refl
+some_any p xs (suc i) h =
+    ap (λ (k : ℕ). list_any p (take k xs)) (sym (add-one i)) ∙ list_any_more p xs i 0 (omega arith) ∙
+    ap (λ (b : Bool). b || p (at xs i)) (some_any p xs i (omega arith))
 
 pub some_end : (n j : ℕ) (p : ℕ → Bool) → some j p ≡ false → j ≤ n → n ≤ j → false ≡ some n p
 some_end n j p e h l = let q : j ≡ n = omega arith in sym (subst (λ (k : ℕ). some k p ≡ false) q e)

@@ -10,13 +10,11 @@ use lib.Dec.{leb, leb-zero}
 use lib.ListN.{get_or, set, length, length-set}
 use lib.Seq.{get_or-set_same, get_or-set_other}
 use Rattle.faults.specs.declared.Fault.{Fault}
-use Rattle.plane.specs.declared.strides.Strides.{Strides}
 use Rattle.plane.specs.Arrays.{below, firsts_or, zeros, or0}
-use Rattle.faults.specs.Faults.{none, fault, when, first, outward, if_fault}
+use Rattle.faults.specs.Faults.{none, fault, when, first, outward}
 use Rattle.plane.specs.Planes.{bad_stride, inner, resolved, bad_stride_at, strides}
-use Rattle.plane.specs.Private.{strides_of}
 use Rattle.plane.proofs.Arrays.{zeros_at, is_array}
-use Rattle.faults.proofs.Faults.{status, is_fault, or_none, when_bad, when_good, first_at, if_fault_lem, if_none}
+use Rattle.faults.proofs.Faults.{status, is_fault, or_none, when_bad, when_good, first_at}
 
 module _ (n : ℕ) (shape stride : ℕ → ℕ) where
   pub inner_out : (d : ℕ) → d < n → inner n shape stride (n - d) ≡ resolved n shape stride d * shape d
@@ -64,21 +62,6 @@ module _ (n : ℕ) (shape stride : ℕ → ℕ) where
     met_bad d p h e b =
         let w : met (n - suc d) ≡ fault num d = met_at d h ∙ when_bad num d _ b in
         first_at n (n - suc d) met e (omega arith) (is_fault num d p w) ∙ w
-
-    strides_path : {f : Fault} {l : List ℕ} → f ≡ outward num n (bad_stride_at n shape stride) → l ≡ if_fault f zeros (strides n shape stride) → record { fault = f; stride = l } ≡ strides_of num n shape stride
-    unfolding strides_of
-    strides_path {f} p q =
-        let r = q ∙ ap (λ (g : Fault). if_fault g zeros (strides n shape stride)) p in
-        λ i. record { fault = p i; stride = r i }
-
-    module _ {s : Strides} (es : s ≡ strides_of num n shape stride) where
-      pub strides_fault : s.fault ≡ outward num n (bad_stride_at n shape stride)
-      unfolding strides_of
-      strides_fault = ap (λ (x : Strides). x.fault) es
-
-      pub strides_ok : s.fault.status ≡ 0 → s.stride ≡ strides n shape stride
-      unfolding strides_of
-      strides_ok z = ap (λ (x : Strides). x.stride) es ∙ if_none (outward num n (bad_stride_at n shape stride)) _ _ (sym (status strides_fault) ∙ z)
 
     -- what holds when the dimensions from d on are resolved: their strides in out, and p the inner product outside them
     pub record Walked (out : List ℕ) (p d : ℕ) : Type 0 where
@@ -134,16 +117,14 @@ module _ (n : ℕ) (shape stride : ℕ → ℕ) where
             filled = part_set out d s lt h m resolves (λ j. subst (λ (k : ℕ). get_or out j 0 ≡ part k j) is (w.filled j));
           }
 
-      pub walked_bad : 0 < num → bad_stride s p ≡ true → record { fault = fault num d; stride = zeros } ≡ strides_of num n shape stride
-      walked_bad h b =
-          let l = w.within in
-          strides_path (sym (met_bad d h (omega arith) clear (sym tested ∙ b)))
-          (sym (if_fault_lem (fault num d) zeros (strides n shape stride) (is_fault num d h refl)))
+      pub walked_bad : 0 < num → bad_stride s p ≡ true → outward num n (bad_stride_at n shape stride) ≡ fault num d
+      walked_bad h b = let l = w.within in met_bad d h (omega arith) clear (sym tested ∙ b)
 
-    pub walked_end : {out : List ℕ} {p d : ℕ} {f : Fault} → f ≡ none → d ≡ 0 → Walked out p d → record { fault = f; stride = out } ≡ strides_of num n shape stride
-    unfolding outward firsts_or
-    walked_end {out} {p} {d} {f} is o w =
-        let z : n - d ≡ n = omega arith in
-        strides_path (is ∙ sym (subst (λ (k : ℕ). first k met ≡ none) z w.good))
-        (is_array 0 out (λ j. below 0 n j (resolved n shape stride j)) w.long (λ j q. w.filled j ∙ simp (o, leb-zero)) ∙
-        ap (λ (g : Fault). if_fault g zeros (strides n shape stride)) (sym is))
+    module _ {out : List ℕ} {p d : ℕ} (o : d ≡ 0) (w : Walked out p d) where
+      pub walked_clear : outward num n (bad_stride_at n shape stride) ≡ none
+      unfolding outward
+      walked_clear = let z : n - d ≡ n = omega arith in subst (λ (k : ℕ). first k met ≡ none) z w.good
+
+      pub walked_end : out ≡ strides n shape stride
+      unfolding firsts_or
+      walked_end = is_array 0 out (λ j. below 0 n j (resolved n shape stride j)) w.long (λ j q. w.filled j ∙ simp (o, leb-zero))

@@ -3,36 +3,51 @@ use Prim.Native.Nat.{ℕ, ◌+◌, ◌-◌, ◌*◌, ◌≤◌, ◌<◌}
 use native.Mathlib.Nat.{add-div_right}
 use native.Mathlib.Decide.{ℕ_discrete}
 use native.Mathlib.Omega.{arith}
-use mathlib.Core.Path.{◌≡◌, refl, sym, ap, ap₂, ◌∙◌}
+use mathlib.Core.Path.{◌≡◌, sym, ap, ap₂, subst, subst₂, ◌∙◌}
 use mathlib.Core.List.{List}
-use borrow.Author.Tests.{eq-eqb, ne_eqb, lt-ltb, le-ltb}
-use lib.Dec.{ltb}
+use borrow.Author.Tests.{eq-eqb, ne_eqb}
 use Rattle.plane.specs.declared.Tensor.{Tensor}
 use Rattle.plane.specs.declared.Config.{Config}
 use Rattle.faults.specs.declared.Fault.{Fault}
 use Rattle.plane.specs.declared.Answer.{Answer}
 use Rattle.plane.specs.declared.Source.{Source}
-use Rattle.plane.specs.declared.strides.Strides.{Strides}
 use Rattle.plane.specs.Arrays.{at, zeros}
-use Rattle.faults.specs.Faults.{none, fault, when, ◌or_else◌, lowest, if_fault}
-use Rattle.plane.specs.Planes.{bad_shape, shape_at, src_strides, span, source_fault, source_of}
-use Rattle.plane.specs.Moves.{upward, taken, count, extent, dst_extents, dst_strides, need, bad_dst_offset_at, config_fault, dst_fault, move_fault, room_fault, refused, accepted, answer_of, judge_of, room_of}
-use Rattle.plane.specs.Private.{strides_of, reach}
+use Rattle.std.specs.Prelude.{Result}
+use Rattle.std.proofs.Common.{rules}
+use Rattle.faults.specs.Faults.{none, lowest, outward, if_fault, outcome}
+use Rattle.faults.proofs.Chains.{unbroken, unbroken_none}
+use Rattle.plane.specs.Planes.{bad_shape, bad_stride_at, shape_at, stride_at, strides, src_strides, span, source_rules, source_fault, source_of}
+use Rattle.plane.specs.Signs.{sizes}
+use Rattle.plane.specs.Moves.{upward, taken, count, extent, dst_extents, dst_strides, need, bad_dst_offset_at, bad_dst_offset_of, room_fault, refused, accepted, answer_of, room_of}
+use Rattle.plane.specs.Private.{reach, source_accepted, room_accepted}
 use Rattle.plane.proofs.Arrays.{zeros_at, sum_same, firsts_at}
-use Rattle.faults.proofs.Faults.{status, or_none, or_found, or_assoc, passed, stopped, if_fault_lem, if_none, given, spared, when_bad, when_good, lowest_clear}
-use Rattle.plane.proofs.Resolving.{strides_fault, strides_ok}
+use Rattle.faults.proofs.Faults.{status, if_fault_lem, if_none, lowest_clear}
 use Rattle.plane.specs.Good.{GoodSource, GoodConfig}
 use Rattle.plane.proofs.Good.{positive, dst_offset_small, shapes_good, source_good}
 
 -- ---- a tensor record by itself
 
 module _ (t : Tensor) where
-  pub source_refused : {f : Fault} {r : Source} → source_fault t ≡ f → (f.status ≡ 0 → ⊥) → r ≡ record { fault = f; stride = zeros; span = 0 } → r ≡ source_of t
-  unfolding source_of
-  source_refused {f} e h p =
-      let st = sym (ap (λ (g : Fault). if_fault g zeros (src_strides t)) e ∙ if_fault_lem f zeros (src_strides t) h) in
-      let sp = sym (ap (λ (g : Fault). if_fault g 0 (span t)) e ∙ if_fault_lem f 0 (span t) h) in
-      p ∙ (λ i. record { fault = sym e i; stride = st i; span = sp i })
+  -- where it is refused, and where not
+  pub source_answer : if_fault (source_fault t) (record { fault = source_fault t; stride = zeros; span = 0 }) (source_accepted t) ≡ source_of t
+  unfolding source_of source_fault
+  source_answer = elim (ℕ_discrete (source_fault t).status 0) [
+    | yes z ↦
+        let n = unbroken_none (source_rules t) (unbroken (source_rules t) (search rules) z) in
+        let st = if_none (source_fault t) zeros (src_strides t) z in
+        let sp = if_none (source_fault t) 0 (span t) z in
+        if_none (source_fault t) _ _ z ∙ (λ i. record { fault = sym n i; stride = sym st i; span = sym sp i })
+    | no z ↦
+        let st = if_fault_lem (source_fault t) zeros (src_strides t) z in
+        let sp = if_fault_lem (source_fault t) 0 (span t) z in
+        if_fault_lem (source_fault t) _ _ z ∙ (λ i. record { fault = source_fault t; stride = sym st i; span = sym sp i })
+  ]
+
+  -- what `resolve` answers, of the sizes of the strides
+  pub source_strides : {l : List ℕ} {r : Result (List ℕ) Fault} → l ≡ sizes t.stride → r ≡ outcome (outward 4 t.rank (bad_stride_at t.rank (shape_at t) (at l))) (strides t.rank (shape_at t) (at l))
+      → r ≡ outcome (outward 4 t.rank (bad_stride_at t.rank (shape_at t) (stride_at t))) (src_strides t)
+  source_strides {l} {r} e p =
+      subst (λ (x : List ℕ). r ≡ outcome (outward 4 t.rank (bad_stride_at t.rank (shape_at t) (at x))) (strides t.rank (shape_at t) (at x))) e p
 
   -- the box of a plane: its shapes from coordinate 0 on
   pub span_is : {l : List ℕ} → l ≡ src_strides t → reach t.rank (at zeros) (shape_at t) (at l) * t.element_size ≡ span t
@@ -44,12 +59,8 @@ module _ (t : Tensor) where
       from_zero : (d : ℕ) → at zeros d + shape_at t d - 1 ≡ shape_at t d - 1
       from_zero d = let z = zeros_at d in omega arith
 
-  pub source_given : {f : Fault} {l : List ℕ} {b : ℕ} → source_fault t ≡ f → f.status ≡ 0 → l ≡ src_strides t → b ≡ reach t.rank (at zeros) (shape_at t) (at l) * t.element_size → record { fault = f; stride = l; span = b } ≡ source_of t
-  unfolding source_of
-  source_given {f} e h p q =
-      let st = p ∙ sym (ap (λ (g : Fault). if_fault g zeros (src_strides t)) e ∙ if_none f zeros (src_strides t) h) in
-      let sp = q ∙ span_is p ∙ sym (ap (λ (g : Fault). if_fault g 0 (span t)) e ∙ if_none f 0 (span t) h) in
-      λ i. record { fault = sym e i; stride = st i; span = sp i }
+  pub source_is : {f : Fault} {l : List ℕ} {b : ℕ} → f ≡ none → l ≡ src_strides t → b ≡ reach t.rank (at zeros) (shape_at t) (at l) * t.element_size → record { fault = f; stride = l; span = b } ≡ source_accepted t
+  source_is e p q = let sp = q ∙ span_is p in λ i. record { fault = e i; stride = p i; span = sp i }
 
   pub shape_box : (lowest 3 t.rank (λ d. bad_shape (shape_at t d))).status ≡ 0 → (d : ℕ) → d < t.rank → (0 < shape_at t d) × (at zeros d + shape_at t d ≤ 131072)
   shape_box z d h =
@@ -136,115 +147,46 @@ unfolding need
 need_is t c p q =
     ap₂ (λ (x y : List ℕ). reach t.rank (at c.dst_offset) (at x) (at y) * t.element_size) p q
 
-pub accepts : (t : Tensor) (c : Config) {e l : List ℕ} {b : ℕ} (g : Fault) → e ≡ dst_extents t c → l ≡ dst_strides t c → b ≡ reach t.rank (at c.dst_offset) (at e) (at l) * t.element_size → g.status ≡ 0 →
-    record { status = 0; dim = 0; rank = t.rank; element_size = t.element_size; extent = e; stride = l; need = b } ≡ answer_of g t c
-accepts t c g p q r z =
+pub accepts : (t : Tensor) (c : Config) {e l : List ℕ} {b : ℕ} → e ≡ dst_extents t c → l ≡ dst_strides t c → b ≡ reach t.rank (at c.dst_offset) (at e) (at l) * t.element_size →
+    record { status = 0; dim = 0; rank = t.rank; element_size = t.element_size; extent = e; stride = l; need = b } ≡ accepted t c
+accepts t c p q r =
     let n = r ∙ need_is t c p q in
-    (λ i. record { status = 0; dim = 0; rank = t.rank; element_size = t.element_size; extent = p i; stride = q i; need = n i }) ∙ sym (answer_given g t c z)
+    λ i. record { status = 0; dim = 0; rank = t.rank; element_size = t.element_size; extent = p i; stride = q i; need = n i }
 
--- ---- 11 and 12: extents e, resolved strides s
+-- ---- 11 and 12: extents e, resolved strides l
 
-module _ (t : Tensor) (c : Config) {e : List ℕ} {s : Strides} (ee : e ≡ dst_extents t c) (es : s ≡ strides_of 11 t.rank (at e) (at c.dst_stride)) where
-  resolved_is : s ≡ strides_of 11 t.rank (at (dst_extents t c)) (at c.dst_stride)
-  resolved_is = es ∙ ap (λ (x : List ℕ). strides_of 11 t.rank (at x) (at c.dst_stride)) ee
+module _ (t : Tensor) (c : Config) {e : List ℕ} (ee : e ≡ dst_extents t c) where
+  pub place_strides : {r : Result (List ℕ) Fault} → r ≡ outcome (outward 11 t.rank (bad_stride_at t.rank (at e) (at c.dst_stride))) (strides t.rank (at e) (at c.dst_stride))
+      → r ≡ outcome (outward 11 t.rank (bad_stride_at t.rank (at (dst_extents t c)) (at c.dst_stride))) (dst_strides t c)
+  place_strides {r} p =
+      subst (λ (x : List ℕ). r ≡ outcome (outward 11 t.rank (bad_stride_at t.rank (at x) (at c.dst_stride))) (strides t.rank (at x) (at c.dst_stride))) ee p
 
-  pub place_stopped : (s.fault.status ≡ 0 → ⊥) → dst_fault t c ≡ s.fault
-  unfolding dst_fault
-  place_stopped z = stopped _ (strides_fault _ _ _ _ resolved_is) z
+  pub place_offsets : {l : List ℕ} {r : Result Unit Fault} → l ≡ dst_strides t c → r ≡ outcome (lowest 12 t.rank (bad_dst_offset_at (at e) (at l) (at c.dst_offset))) tt
+      → r ≡ outcome (lowest 12 t.rank (bad_dst_offset_of t c)) tt
+  place_offsets {l} {r} el p =
+      subst₂ (λ (x y : List ℕ). r ≡ outcome (lowest 12 t.rank (bad_dst_offset_at (at x) (at y) (at c.dst_offset))) tt) ee el p
 
-  module _ (z : s.fault.status ≡ 0) where
-    pub place_strides : s.stride ≡ dst_strides t c
-    place_strides = strides_ok _ _ _ _ resolved_is z
-
-    pub place_offsets : {f : Fault} → f ≡ lowest 12 t.rank (bad_dst_offset_at (at e) (at s.stride) (at c.dst_offset)) → dst_fault t c ≡ f
-    unfolding dst_fault
-    place_offsets p =
-        passed _ (strides_fault _ _ _ _ resolved_is) z ∙
-        sym (p ∙ ap₂ (λ (x l : List ℕ). lowest 12 t.rank (bad_dst_offset_at (at x) (at l) (at c.dst_offset))) ee place_strides)
-
-pub place_offset_small : (t : Tensor) (c : Config) (e l : List ℕ) {f : Fault} → f ≡ lowest 12 t.rank (bad_dst_offset_at (at e) (at l) (at c.dst_offset)) → f.status ≡ 0 → (i : ℕ) → i < t.rank → at c.dst_offset i ≤ 65535
-place_offset_small t c e l p z i h =
+pub place_offset_small : (t : Tensor) (c : Config) (e l : List ℕ) → (lowest 12 t.rank (bad_dst_offset_at (at e) (at l) (at c.dst_offset))).status ≡ 0 → (i : ℕ) → i < t.rank → at c.dst_offset i ≤ 65535
+place_offset_small t c e l z i h =
     dst_offset_small (at e) (at l) (at c.dst_offset) i
-    (lowest_clear 12 t.rank (bad_dst_offset_at (at e) (at l) (at c.dst_offset)) i (omega arith) (sym (status p) ∙ z) h)
+    (lowest_clear 12 t.rank (bad_dst_offset_at (at e) (at l) (at c.dst_offset)) i (omega arith) z h)
 
--- ---- the room question and the verdict on a move, from the judgements of the source, `s`, and of the destination, `a`
+-- ---- the room question, from the judgements of the source, `s`, and of the destination, `a`
 
-module _ (t : Tensor) (c : Config) {s : Source} (es : s ≡ source_of t) where
-  -- where the source is refused, so is all
-  pub judge_source : (srcLen dstLen : ℕ) {a : Answer} → a ≡ refused s.fault → (s.fault.status ≡ 0 → ⊥) → a ≡ judge_of t c srcLen dstLen
-  unfolding judge_of move_fault source_fault config_fault dst_fault
-  judge_source srcLen dstLen e z = refuses t c e z (stopped _ (its_fault t es) z)
+module _ (t : Tensor) (c : Config) where
+  pub room_is : {s : Source} {a : Answer} → s ≡ source_accepted t → a ≡ accepted t c → record { answer = a; span = s.span } ≡ room_accepted t c
+  room_is es ea = let sp = ap (λ (x : Source). x.span) es in λ i. record { answer = ea i; span = sp i }
 
-  pub room_source : {a : Answer} → a ≡ refused s.fault → (s.fault.status ≡ 0 → ⊥) → record { answer = a; span = 0 } ≡ room_of t c
-  unfolding room_of room_fault source_fault config_fault dst_fault
-  room_source e z =
-      let q = stopped (config_fault t c or_else dst_fault t c) (its_fault t es) z in
-      let w = sym (ap (λ (f : Fault). if_fault f 0 (span t)) q ∙ if_fault_lem s.fault 0 (span t) z) in
-      let v = refuses t c e z q in
-      λ i. record { answer = v i; span = w i }
-
-  module _ (z : s.fault.status ≡ 0) where
-    room_is : room_fault t c ≡ (config_fault t c or_else dst_fault t c)
-    unfolding room_fault source_fault config_fault dst_fault
-    room_is = passed _ (its_fault t es) z
-
-    pub judge_short : (srcLen dstLen : ℕ) {r : Answer} → srcLen < s.span → r ≡ refused (fault 5 0) → r ≡ judge_of t c srcLen dstLen
-    unfolding judge_of move_fault source_fault config_fault dst_fault
-    judge_short srcLen dstLen l p =
-        let e = its_span t es z in
-        refuses t c p (λ x. omega arith) (passed _ (its_fault t es) z ∙ given 5 0 _ _ (omega arith) (lt-ltb srcLen (span t) (omega arith)))
-
-    module _ {a : Answer} (ea : a ≡ answer_of (config_fault t c or_else dst_fault t c) t c) where
-      its_status : a.status ≡ (config_fault t c or_else dst_fault t c).status
-      its_status = ap (λ (x : Answer). x.status) ea ∙ answer_status _ t c
-
-      room_path : {b : ℕ} → b ≡ if_fault (config_fault t c or_else dst_fault t c) 0 (span t) → record { answer = a; span = b } ≡ room_of t c
-      unfolding room_of
-      room_path p =
-          (λ i. record { answer = ea i; span = p i }) ∙
-          ap (λ (f : Fault). record { answer = answer_of f t c; span = if_fault f 0 (span t) }) (sym room_is)
-
-      pub room_refused : (a.status ≡ 0 → ⊥) → record { answer = a; span = 0 } ≡ room_of t c
-      room_refused y =
-          room_path (sym (if_fault_lem (config_fault t c or_else dst_fault t c) 0 (span t) (λ x. y (its_status ∙ x))))
-
-      pub room_given : a.status ≡ 0 → record { answer = a; span = s.span } ≡ room_of t c
-      room_given y =
-          room_path (its_span t es z ∙ sym (if_none (config_fault t c or_else dst_fault t c) 0 (span t) (sym its_status ∙ y)))
-
-      module _ (srcLen dstLen : ℕ) (enough : s.span ≤ srcLen) where
-        judge_is : move_fault t c srcLen dstLen ≡ ((config_fault t c or_else dst_fault t c) or_else when 13 0 (ltb dstLen (need t c)))
-        unfolding move_fault source_fault config_fault dst_fault
-        judge_is =
-            let e = its_span t es z in
-            passed _ (its_fault t es) z ∙ spared 5 0 _ _ (le-ltb srcLen (span t) (omega arith)) ∙ sym (or_assoc _ _ _)
-
-        pub judge_refused : (a.status ≡ 0 → ⊥) → a ≡ judge_of t c srcLen dstLen
-        unfolding judge_of
-        judge_refused y =
-            ea ∙ ap (λ (f : Fault). answer_of f t c) (sym (judge_is ∙ or_found _ _ (λ x. y (its_status ∙ x))))
-
-        module _ (y : a.status ≡ 0) where
-          fits : (config_fault t c or_else dst_fault t c).status ≡ 0
-          fits = sym its_status ∙ y
-
-          accepted_is : a ≡ accepted t c
-          accepted_is = ea ∙ answer_given _ t c fits
-
-          its_need : a.need ≡ need t c
-          its_need = ap (λ (x : Answer). x.need) accepted_is
-
-          pub judge_given : a.need ≤ dstLen → a ≡ judge_of t c srcLen dstLen
-          unfolding judge_of
-          judge_given l =
-              let e = its_need in
-              let w = when_good 13 0 _ (le-ltb dstLen (need t c) (omega arith)) in
-              accepted_is ∙
-              sym (ap (λ (f : Fault). answer_of f t c) (judge_is ∙ or_none _ _ fits ∙ w) ∙ answer_given none t c refl)
-
-          pub judge_small : {r : Answer} → dstLen < a.need → r ≡ refused (fault 13 0) → r ≡ judge_of t c srcLen dstLen
-          unfolding judge_of
-          judge_small l p =
-              let e = its_need in
-              refuses t c p (λ x. omega arith)
-              (judge_is ∙ or_none _ _ fits ∙ when_bad 13 0 _ (lt-ltb dstLen (need t c) (omega arith)))
+  -- where it is refused, and where not
+  pub room_answer : if_fault (room_fault t c) (record { answer = refused (room_fault t c); span = 0 }) (room_accepted t c) ≡ room_of t c
+  unfolding room_of answer_of
+  room_answer = elim (ℕ_discrete (room_fault t c).status 0) [
+    | yes z ↦
+        let an = if_none (room_fault t c) (refused (room_fault t c)) (accepted t c) z in
+        let sp = if_none (room_fault t c) 0 (span t) z in
+        if_none (room_fault t c) _ _ z ∙ (λ i. record { answer = sym an i; span = sym sp i })
+    | no z ↦
+        let an = if_fault_lem (room_fault t c) (refused (room_fault t c)) (accepted t c) z in
+        let sp = if_fault_lem (room_fault t c) 0 (span t) z in
+        if_fault_lem (room_fault t c) _ _ z ∙ (λ i. record { answer = sym an i; span = sym sp i })
+  ]

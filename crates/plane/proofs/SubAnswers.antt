@@ -13,30 +13,19 @@ use Rattle.plane.specs.declared.Tensor.{Tensor}
 use Rattle.faults.specs.declared.Fault.{Fault}
 use Rattle.plane.specs.declared.SubConfig.{SubConfig}
 use Rattle.plane.specs.declared.SubTensor.{SubTensor}
-use Rattle.plane.specs.declared.Source.{Source}
 use Rattle.plane.specs.declared.sub.Staying.{Staying}
 use Rattle.plane.specs.Arrays.{at, array, firsts, firsts_or, sum, how_many}
 use Rattle.plane.specs.Signs.{signed, at_z}
-use Rattle.faults.specs.Faults.{none, fault, when, ◌or_else◌, lowest}
-use Rattle.plane.specs.Planes.{shape_at, stride_at, down_at, up, resolved, src_strides, span, source_fault, source_of}
+use Rattle.faults.specs.Faults.{none, fault, lowest}
+use Rattle.plane.specs.Planes.{shape_at, stride_at, down_at, up, resolved, src_strides}
 use Rattle.plane.specs.Helpers.{bad_sub_size, is_unit, staying, excess, sub_dim, rank_fault, resolved_at, lowest_in, sub_of, sub_byte, no_sub, sub_answer}
-use Rattle.plane.specs.Private.{IsPart, staying_of}
+use Rattle.plane.specs.Private.{IsPart, staying_of, sub_accepted}
 use Rattle.faults.proofs.Bools.{either_clear}
-use Rattle.faults.proofs.Faults.{status, passed, given, spared, when_bad, when_good, if_fault_lem, if_none, lowest_clear}
+use Rattle.faults.proofs.Faults.{spared, when_bad, when_good, if_fault_lem, if_none, lowest_clear}
 use Rattle.plane.specs.Good.{GoodSource}
 use Rattle.plane.proofs.Good.{positive}
-use Rattle.plane.proofs.Rules.{its_fault, its_span}
 use Rattle.plane.proofs.Arrays.{array_at, firsts_at, firsts_past, firsts_same, sum_same}
 use Rattle.plane.proofs.Staying.{staying_count, staying_below}
-
--- the code refuses with f, which the rules g give
-pub sub_refuses : (u : Tensor) (byte : ℕ) {f g : Fault} {r : SubTensor} → r ≡ no_sub f → (f.status ≡ 0 → ⊥) → g ≡ f → r ≡ sub_answer g u byte
-unfolding sub_answer
-sub_refuses u byte {f} e h p = e ∙ sym (ap (λ (x : Fault). sub_answer x u byte) p ∙ if_fault_lem f (no_sub f) _ h)
-
--- the rules f leave the answer to g
-pub sub_defers : (u : Tensor) (byte : ℕ) {f g : Fault} {r : SubTensor} → r ≡ sub_answer g u byte → f ≡ g → r ≡ sub_answer f u byte
-sub_defers u byte e p = e ∙ sym (ap (λ (x : Fault). sub_answer x u byte) p)
 
 -- an answer's number is its fault's
 pub sub_status : (f : Fault) (t : Tensor) (x : ℕ) → (sub_answer f t x).status ≡ f.status
@@ -46,24 +35,13 @@ sub_status f t x = elim (ℕ_discrete f.status 0) [
   | no z ↦ ap (λ (s : SubTensor). s.status) (if_fault_lem f (no_sub f) (record { status = 0; dim = 0; tensor = t; byte = x }) z)
 ]
 
--- ---- 1 to 5, and then g
-
-module _ (t : Tensor) (srcLen : ℕ) (g : Fault) {w : Source} (es : w ≡ source_of t) (z : w.fault.status ≡ 0) where
-  pub sub_short : srcLen < w.span → (source_fault t or_else when 5 0 (ltb srcLen (span t)) or_else g) ≡ fault 5 0
-  sub_short l =
-      passed _ (its_fault t es) z ∙
-      given 5 0 _ _ (omega arith) (lt-ltb srcLen (span t) (omega (arith, its_span t es z)))
-
-  pub sub_long : w.span ≤ srcLen → (source_fault t or_else when 5 0 (ltb srcLen (span t)) or_else g) ≡ g
-  sub_long l = passed _ (its_fault t es) z ∙ spared 5 0 _ _ (le-ltb srcLen (span t) (omega (arith, its_span t es z)))
-
 -- ---- 8: where it passed, the part lies in the shape
 
-pub part_is : {t : Tensor} (s : SubConfig) {f : Fault} → GoodSource t → f ≡ lowest 8 t.rank (λ d. bad_sub_size (shape_at t d) (at s.offset d) (at s.size d)) → f.status ≡ 0
+pub part_is : {t : Tensor} (s : SubConfig) → GoodSource t → (lowest 8 t.rank (λ d. bad_sub_size (shape_at t d) (at s.offset d) (at s.size d))).status ≡ 0
     → (d : ℕ) → d < t.rank → IsPart (shape_at t d) (at s.offset d) (at s.size d)
-part_is {t} s g e z d h =
+part_is {t} s g z d h =
     let w = either_clear (eqb (at s.size d) 0) _
-    (lowest_clear 8 t.rank (λ d. bad_sub_size (shape_at t d) (at s.offset d) (at s.size d)) d (omega arith) (sym (status e) ∙ z) h) in
+    (lowest_clear 8 t.rank (λ d. bad_sub_size (shape_at t d) (at s.offset d) (at s.size d)) d (omega arith) z h) in
     record {
       some = positive _ (eqb-false _ _ w.0);
       fits = omega (arith, ltb-false (shape_at t d) (at s.size d + at s.offset d) w.1);
@@ -140,10 +118,9 @@ module _ (t : Tensor) (s : SubConfig) (r : (eqb s.rank 0 || ltb t.rank s.rank) �
 
       -- x is the distance from the source's lowest element to the sub-tensor's
       pub sub_given : {x : ℕ} {o : List ℕ} → o ≡ firsts t.rank (low_up t s) → x ≡ sum t.rank (λ d. at o d * at z d) →
-          record { status = 0; dim = 0; tensor = record { rank = s.rank; element_size = t.element_size; shape = p.shape; stride = p.stride }; byte = x * t.element_size } ≡ sub_answer (rank_fault t s) (sub_of t s) (sub_byte t s)
-      unfolding sub_answer sub_byte
+          record { status = 0; dim = 0; tensor = record { rank = s.rank; element_size = t.element_size; shape = p.shape; stride = p.stride }; byte = x * t.element_size } ≡ sub_accepted t s
+      unfolding sub_byte
       sub_given eo e =
           let ex = e ∙ sum_same t.rank _ _
           (λ d k. ap₂ (λ (v w : List ℕ). at v d * at w d) eo ez ∙ ap (λ (v : ℕ). v * at (src_strides t) d) (firsts_at 0 t.rank (low_up t s) d four k)) in
-          (λ i. record { status = 0; dim = 0; tensor = its_tensor i; byte = ex i * t.element_size }) ∙
-          sym (ap (λ (f : Fault). sub_answer f (sub_of t s) (sub_byte t s)) rank_none)
+          λ i. record { status = 0; dim = 0; tensor = its_tensor i; byte = ex i * t.element_size }

@@ -1,16 +1,23 @@
 -- What the contracts of private functions cite. No reader of a public contract needs this file.
-use Rattle.std.specs.Prelude.{ℕ, ◌+◌, ◌-◌, ◌*◌, ◌≤◌, ◌<◌, List, ℤ, pos, length}
+use Rattle.std.specs.Prelude.{ℕ, ◌+◌, ◌-◌, ◌*◌, ◌≤◌, ◌<◌, ◌≡◌, List, ℤ, pos, length}
 use Rattle.plane.specs.declared.Tensor.{Tensor}
 use Rattle.plane.specs.declared.Config.{Config}
-use Rattle.plane.specs.declared.strides.Strides.{Strides}
 use Rattle.plane.specs.declared.sub.Staying.{Staying}
-use Rattle.plane.specs.Arrays.{at, firsts, firsts_or, zeros, sum, how_many}
-use Rattle.faults.specs.Faults.{outward, if_fault}
-use Rattle.plane.specs.Planes.{shape_at, bad_stride_at, strides}
-use Rattle.plane.specs.Moves.{extent}
-use Rattle.plane.specs.Helpers.{is_unit, staying}
+use Rattle.plane.specs.Arrays.{at, firsts, firsts_or, sum, how_many}
+use Rattle.plane.specs.Planes.{shape_at, src_strides, span}
+use Rattle.plane.specs.Moves.{extent, accepted}
+use Rattle.plane.specs.declared.SubConfig.{SubConfig}
+use Rattle.plane.specs.declared.SubTensor.{SubTensor}
+use Rattle.plane.specs.declared.Source.{Source}
+use Rattle.plane.specs.declared.RoomAnswer.{RoomAnswer}
+use Rattle.faults.specs.Faults.{none}
+use Rattle.plane.specs.Helpers.{is_unit, staying, sub_of, sub_byte}
 
 -- ---- what they ask
+
+-- what is asked at d and answers b (where r d b) answers as f does below n
+abbrev pub Tells : {B : Type 0} → (ℕ → B → Type 0) → ℕ → (ℕ → B) → Type 0
+Tells {B} r n f = (d : ℕ) (b : B) → d < n → r d b → b ≡ f d
 
 -- the kept count of source dimension d can be worked out: its offset is within the shape, and its step is not 0
 abbrev pub Countable : Tensor → Config → ℕ → Type 0
@@ -36,13 +43,6 @@ pub record IsPart (shape offset size : ℕ) : Type 0 where
 
 -- ---- what they answer
 
--- strides resolved, or the fault and zeros
-unfoldable pub strides_of : ℕ → ℕ → (ℕ → ℕ) → (ℕ → ℕ) → Strides
-strides_of num n shape stride = record {
-  fault = outward num n (bad_stride_at n shape stride);
-  stride = if_fault (outward num n (bad_stride_at n shape stride)) zeros (strides n shape stride);
-}
-
 -- the elements from the first to the last coordinate of a box that starts at these offsets
 abbrev pub reach : ℕ → (ℕ → ℕ) → (ℕ → ℕ) → (ℕ → ℕ) → ℕ
 reach n offset extent stride = 1 + sum n (λ d. (offset d + extent d - 1) * stride d)
@@ -54,3 +54,13 @@ staying_of n size stride excess = record {
   shape = firsts (length (staying size excess n)) (λ i. size (at (staying size excess n) i));
   stride = firsts_or (pos 0) (length (staying size excess n)) (λ i. stride (at (staying size excess n) i));
 }
+
+-- what an accepted tensor record, an accepted room question and an accepted sub-tensor answer
+abbrev pub source_accepted : Tensor → Source
+source_accepted t = record { fault = none; stride = src_strides t; span = span t }
+
+abbrev pub room_accepted : Tensor → Config → RoomAnswer
+room_accepted t c = record { answer = accepted t c; span = span t }
+
+abbrev pub sub_accepted : Tensor → SubConfig → SubTensor
+sub_accepted t s = record { status = 0; dim = 0; tensor = sub_of t s; byte = sub_byte t s }

@@ -1,12 +1,12 @@
 // Kept counts and extents.
 ghost use Rattle.std.specs.Prelude.{◌≡◌, ℕ, ◌+◌, ◌-◌, ◌≤◌, ◌<◌};
 ghost use Rattle.plane.specs.Arrays.{at, or0};
-ghost use Rattle.faults.specs.Faults.{lowest};
+ghost use Rattle.faults.specs.Faults.{lowest, outcome};
 ghost use Rattle.plane.specs.Planes.{shape_at};
 ghost use Rattle.plane.specs.Moves.{upward, extent, dst_extents, bad_extent};
 ghost use Rattle.plane.specs.Private.{Countable, Extensive};
 
-use crate::zeros::no_fault;
+use crate::refusals::check_each;
 use crate::{Config, Fault, Tensor};
 
 // What is taken of a dimension: size 0 means all from the offset on.
@@ -22,8 +22,7 @@ fn kept_count(m: u32, step: u32) -> u64
     requires { 0 < step }
     ensures { (result ≡ upward m step) × (result ≤ 8589934590) }
 {
-    let s = step as u64;
-    ((m as u64) + (s - 1)) / s
+    (m as u64).div_ceil(step as u64)
 }
 
 fn padded(pre: u8, count: u64, post: u8) -> u64
@@ -43,20 +42,15 @@ fn extent_at(t: Tensor, c: Config, d: usize) -> u64
 }
 
 // 10
-pub(crate) fn extent_fault(t: Tensor, c: Config) -> Fault
+pub(crate) fn check_extent(t: Tensor, c: Config) -> Result<(), Fault>
     requires { (t.rank ≤ 4) × ((d : ℕ) → d < t.rank → Countable t c d) }
-    ensures { result ≡ lowest 10 t.rank (λ d. bad_extent (extent t c d)) }
+    ensures { result ≡ outcome (lowest 10 t.rank (λ d. bad_extent (extent t c d))) tt }
 {
-    let n = t.rank;
-    for d in 0..n {
-        if 65535 < extent_at(t, c, d as usize) {
-            return Fault { status: 10, dim: d };
-        }
-    }
-    no_fault()
+    check_each(10, t.rank, |d| 65535 < extent_at(t, c, d))
 }
 
-// The extents in destination order.
+// The extents in destination order. A loop that stores, so that the reading "source dimension k goes to perm[k]" is one word away from it
+// (must-fail/perm_other_way).
 pub(crate) fn dst_extents(t: Tensor, c: Config) -> [u32; 4]
     requires { (t.rank ≤ 4) × ((i : ℕ) → i < t.rank → at c.perm i < t.rank) × ((d : ℕ) → d < t.rank → Extensive t c d) }
     ensures { result ≡ dst_extents t c }

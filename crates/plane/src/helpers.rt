@@ -2,9 +2,10 @@
 ghost use Rattle.std.specs.Prelude.{◌≡◌, ℕ, ◌+◌, ◌-◌, ◌≤◌, ◌<◌};
 ghost use Rattle.plane.specs.Arrays.{at, product};
 ghost use Rattle.plane.specs.Planes.{element_size};
-ghost use Rattle.plane.specs.Helpers.{no_count, count_of};
+ghost use Rattle.faults.specs.Faults.{outcome};
+ghost use Rattle.plane.specs.Helpers.{count_fault, count_of, elements};
 
-use crate::refusals::{rank_is_bad, shape_fault};
+use crate::refusals::{check_shape, rank_is_bad};
 use crate::{Count, Fault, Tensor};
 
 // The element size in bytes, 1 to 4, and 0 for one that is not taken.
@@ -12,16 +13,6 @@ pub fn element_size(size: u8) -> u8
     ensures { result ≡ element_size size }
 {
     if (size < 1) | (4 < size) { 0 } else { size }
-}
-
-fn refused(f: Fault) -> Count
-    ensures { result ≡ no_count f }
-{
-    Count {
-        status: f.status,
-        dim: f.dim,
-        count: 0,
-    }
 }
 
 // The product of the shapes from a start dimension on. 64 bits hold it: there are four at most, of 65,535 at most.
@@ -32,31 +23,39 @@ fn product_from(n: u8, shape: [u32; 4], start: u8) -> u64
     let mut count: u64 = 1;
     for d in start..n {
         let s = shape[d as usize] as u64;
-        count = count * s;
+        count *= s;
     }
     count
+}
+
+// The count, or 1, 3 or 16.
+fn counted(t: Tensor, start: u32) -> Result<u64, Fault>
+    ensures { result ≡ outcome (count_fault t start) (elements t start) }
+{
+    if rank_is_bad(t.rank) {
+        return Err(Fault { status: 1, dim: 0 });
+    }
+    check_shape(t.rank, t.shape)?;
+    if (t.rank as u32) <= start {
+        return Err(Fault { status: 16, dim: 0 });
+    }
+    Ok(product_from(t.rank, t.shape, start as u8))
 }
 
 // How many elements there are from a start dimension on; all of them from 0 on.
 pub fn element_count(t: Tensor, start: u32) -> Count
     ensures { result ≡ count_of t start }
 {
-    let n = t.rank;
-    if rank_is_bad(n) {
-        return refused(Fault { status: 1, dim: 0 });
-    }
-    let shape = t.shape;
-    let f = shape_fault(n, shape);
-    if f.status != 0 {
-        return refused(f);
-    }
-    if (n as u32) <= start {
-        return refused(Fault { status: 16, dim: 0 });
-    }
-    let count = product_from(n, shape, start as u8);
-    Count {
-        status: 0,
-        dim: 0,
-        count: count,
+    match counted(t, start) {
+        Ok(count) => Count {
+            status: 0,
+            dim: 0,
+            count,
+        },
+        Err(Fault { status, dim }) => Count {
+            status,
+            dim,
+            count: 0,
+        },
     }
 }

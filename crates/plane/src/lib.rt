@@ -2,6 +2,7 @@
 // move answers. No call here touches a plane's bytes, asks anything of its caller, or sets memory aside.
 #![tactic(auto)]
 
+mod entries; // four entries, told one by one
 mod refusals; // a rule each: 1, and the dimension at fault for 3, 6, 7, 8, 9 and 12
 mod signs; // signed numbers: size and sign
 mod strides; // strides resolved outward, and the bytes that a box of elements reaches over
@@ -23,7 +24,7 @@ pub use verdict::{judge, room};
 
 // A plane in memory: dimension 0 has the stride of the largest size. Shapes and strides are in elements, the element size in bytes;
 // stride 0 stands for the inner product, and a dimension whose stride is below 0 counts down.
-#[derive(Clone, Copy)]
+#[derive(Clone, Copy, PartialEq, Eq)]
 pub struct Tensor {
     pub rank: u8,
     pub element_size: u8,
@@ -33,7 +34,7 @@ pub struct Tensor {
 
 // How a plane is to be laid out. By source dimension: offset, size, step, pre and post. By destination dimension:
 // dst_offset, dst_stride and perm, which names the source dimension. Of fill, a padded element holds the low bytes.
-#[derive(Clone, Copy)]
+#[derive(Clone, Copy, PartialEq, Eq)]
 pub struct Config {
     pub offset: [u32; 4],
     pub size: [u32; 4],
@@ -45,6 +46,8 @@ pub struct Config {
     pub post: [u8; 4],
     pub fill: u32,
 }
+
+// The answers from here on are the paper's records, and no Results: of a refused one the zeros are promised too (DECISIONS 105).
 
 // What a tensor record by itself comes to: the sizes of its resolved strides, whose signs are those of the record, and the bytes that it
 // spans; zeros besides a fault.

@@ -1,14 +1,13 @@
 // The rules that name the lowest dimension at fault, a function each. n is the rank; entries at or past it are not read.
-ghost use Rattle.std.specs.Prelude.{◌≡◌, ℕ, ◌+◌, ◌≤◌, ◌<◌, eqb};
+ghost use Rattle.std.specs.Prelude.{◌≡◌, ℕ, ◌+◌, ◌≤◌, ◌<◌, Bool, eqb};
 ghost use Rattle.plane.specs.Arrays.{at, some};
-ghost use Rattle.faults.specs.Faults.{lowest};
+ghost use Rattle.faults.specs.Faults.{lowest, outcome};
 ghost use Rattle.plane.specs.Planes.{bad_rank, bad_shape};
 ghost use Rattle.plane.specs.Moves.{bad_perm_at, bad_offset, bad_size, bad_step, bad_dst_offset_at};
-ghost use Rattle.plane.specs.Private.{IsExtent};
+ghost use Rattle.plane.specs.Private.{IsExtent, Tells};
 
 use crate::Fault;
 use crate::strides::times;
-use crate::zeros::no_fault;
 
 // 1: whether a rank is refused.
 pub fn rank_is_bad(n: u8) -> bool
@@ -17,18 +16,26 @@ pub fn rank_is_bad(n: u8) -> bool
     (n < 1) | (4 < n)
 }
 
-// 3
-pub(crate) fn shape_fault(n: u8, shape: [u32; 4]) -> Fault
-    requires { n ≤ 4 }
-    ensures { result ≡ lowest 3 n (λ d. bad_shape (at shape d)) }
+// Refuses with that number the lowest of n dimensions that is bad. `bad` stands for whatever the test tells.
+pub(crate) fn check_each<F: Fn(usize) -> bool>(status: u8, n: u8, is_bad: F) -> Result<(), Fault>
+    requires positive { 0 < status }
+    requires callable { (d : ℕ) → d < n → F.pre is_bad d }
+    ensures { (bad : ℕ → Bool) → Tells (F.post is_bad) n bad → result ≡ outcome (lowest status n bad) tt }
 {
-    for d in 0..n {
-        let s = shape[d as usize];
-        if (s < 1) | (65535 < s) {
-            return Fault { status: 3, dim: d };
+    for dim in 0..n {
+        if is_bad(dim as usize) {
+            return Err(Fault { status, dim });
         }
     }
-    no_fault()
+    Ok(())
+}
+
+// 3
+pub(crate) fn check_shape(n: u8, shape: [u32; 4]) -> Result<(), Fault>
+    requires { n ≤ 4 }
+    ensures { result ≡ outcome (lowest 3 n (λ d. bad_shape (at shape d))) tt }
+{
+    check_each(3, n, |d| (shape[d] < 1) | (65535 < shape[d]))
 }
 
 // Whether entry i equals an earlier one.
@@ -36,40 +43,23 @@ fn is_repeated(perm: [u8; 4], i: usize) -> bool
     requires { i < 4 }
     ensures { result ≡ some i (λ j. eqb (at perm j) (at perm i)) }
 {
-    for j in 0..i {
-        if perm[j] == perm[i] {
-            return true;
-        }
-    }
-    false
+    perm[..i].contains(&perm[i])
 }
 
 // 6
-pub(crate) fn perm_fault(n: u8, perm: [u8; 4]) -> Fault
+pub(crate) fn check_perm(n: u8, perm: [u8; 4]) -> Result<(), Fault>
     requires { n ≤ 4 }
-    ensures { result ≡ lowest 6 n (bad_perm_at n (at perm)) }
+    ensures { result ≡ outcome (lowest 6 n (bad_perm_at n (at perm))) tt }
 {
-    for i in 0..n {
-        let k = i as usize;
-        if (n <= perm[k]) | is_repeated(perm, k) {
-            return Fault { status: 6, dim: i };
-        }
-    }
-    no_fault()
+    check_each(6, n, |i| (n <= perm[i]) | is_repeated(perm, i))
 }
 
 // 7
-pub(crate) fn offset_fault(n: u8, shape: [u32; 4], offset: [u32; 4]) -> Fault
+pub(crate) fn check_offset(n: u8, shape: [u32; 4], offset: [u32; 4]) -> Result<(), Fault>
     requires { n ≤ 4 }
-    ensures { result ≡ lowest 7 n (λ d. bad_offset (at shape d) (at offset d)) }
+    ensures { result ≡ outcome (lowest 7 n (λ d. bad_offset (at shape d) (at offset d))) tt }
 {
-    for d in 0..n {
-        let k = d as usize;
-        if shape[k] <= offset[k] {
-            return Fault { status: 7, dim: d };
-        }
-    }
-    no_fault()
+    check_each(7, n, |d| shape[d] <= offset[d])
 }
 
 // Whether a part of this size at this offset runs past the shape. The sum needs more than 32 bits.
@@ -80,31 +70,24 @@ pub(crate) fn size_is_bad(shape: u32, offset: u32, size: u32) -> bool
 }
 
 // 8
-pub(crate) fn size_fault(n: u8, shape: [u32; 4], offset: [u32; 4], size: [u32; 4]) -> Fault
+pub(crate) fn check_size(
+    n: u8,
+    shape: [u32; 4],
+    offset: [u32; 4],
+    size: [u32; 4],
+) -> Result<(), Fault>
     requires { n ≤ 4 }
-    ensures { result ≡ lowest 8 n (λ d. bad_size (at shape d) (at offset d) (at size d)) }
+    ensures { result ≡ outcome (lowest 8 n (λ d. bad_size (at shape d) (at offset d) (at size d))) tt }
 {
-    for d in 0..n {
-        let k = d as usize;
-        if size_is_bad(shape[k], offset[k], size[k]) {
-            return Fault { status: 8, dim: d };
-        }
-    }
-    no_fault()
+    check_each(8, n, |d| size_is_bad(shape[d], offset[d], size[d]))
 }
 
 // 9
-pub(crate) fn step_fault(n: u8, step: [u32; 4]) -> Fault
+pub(crate) fn check_step(n: u8, step: [u32; 4]) -> Result<(), Fault>
     requires { n ≤ 4 }
-    ensures { result ≡ lowest 9 n (λ d. bad_step (at step d)) }
+    ensures { result ≡ outcome (lowest 9 n (λ d. bad_step (at step d))) tt }
 {
-    for d in 0..n {
-        let s = step[d as usize];
-        if (s == 0) | (65535 < s) {
-            return Fault { status: 9, dim: d };
-        }
-    }
-    no_fault()
+    check_each(9, n, |d| (step[d] == 0) | (65535 < step[d]))
 }
 
 // Whether the offset of dimension k is bad. No stride stands before the first dimension: besides 65,535 the room alone bounds it.
@@ -123,14 +106,14 @@ fn dst_offset_is_bad(k: usize, extent: [u32; 4], stride: [u32; 4], offset: [u32;
 }
 
 // 12: strides are the resolved ones.
-pub(crate) fn dst_offset_fault(n: u8, extent: [u32; 4], stride: [u32; 4], offset: [u32; 4]) -> Fault
+pub(crate) fn check_dst_offset(
+    n: u8,
+    extent: [u32; 4],
+    stride: [u32; 4],
+    offset: [u32; 4],
+) -> Result<(), Fault>
     requires { (n ≤ 4) × ((i : ℕ) → i < n → IsExtent extent i) }
-    ensures { result ≡ lowest 12 n (bad_dst_offset_at (at extent) (at stride) (at offset)) }
+    ensures { result ≡ outcome (lowest 12 n (bad_dst_offset_at (at extent) (at stride) (at offset))) tt }
 {
-    for i in 0..n {
-        if dst_offset_is_bad(i as usize, extent, stride, offset) {
-            return Fault { status: 12, dim: i };
-        }
-    }
-    no_fault()
+    check_each(12, n, |i| dst_offset_is_bad(i, extent, stride, offset))
 }

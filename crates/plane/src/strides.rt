@@ -1,17 +1,12 @@
 // Strides resolved outward, and the bytes that a box of elements reaches over.
 ghost use Rattle.std.specs.Prelude.{◌≡◌, ℕ, ◌+◌, ◌-◌, ◌*◌, ◌≤◌, ◌<◌};
 ghost use Rattle.plane.specs.Arrays.{at, firsts, sum, or0};
-ghost use Rattle.plane.specs.Private.{strides_of, reach, IsBox};
+ghost use Rattle.faults.specs.Faults.{outward, outcome};
+ghost use Rattle.plane.specs.Planes.{bad_stride_at, strides};
+ghost use Rattle.plane.specs.Private.{reach, IsBox};
 
 use crate::Fault;
-use crate::zeros::no_fault;
-
-// Resolved strides, or the fault of the first that is refused, with zeros.
-#[derive(Clone, Copy)]
-pub(crate) struct Strides {
-    pub(crate) fault: Fault,
-    pub(crate) stride: [u32; 4],
-}
+use crate::entries::firsts;
 
 // Stride 0 means the inner product.
 fn resolved(stride: u32, inner: u64) -> u64
@@ -27,34 +22,28 @@ pub(crate) fn times(a: u32, b: u32) -> u64
     (a as u64) * (b as u64)
 }
 
-// From the last dimension outward. num is the number to refuse with: 4 for a source, 11 for a destination.
-pub(crate) fn resolve(num: u8, n: u8, shape: [u32; 4], stride: [u32; 4]) -> Strides
-    requires { (0 < num) × (n ≤ 4) }
-    ensures { result ≡ strides_of num n (at shape) (at stride) }
+// From the last dimension outward; refuses with that number, 4 for a source and 11 for a destination, the first that is met.
+pub(crate) fn resolve(
+    status: u8,
+    n: u8,
+    shape: [u32; 4],
+    stride: [u32; 4],
+) -> Result<[u32; 4], Fault>
+    requires { (0 < status) × (n ≤ 4) }
+    ensures { result ≡ outcome (outward status n (bad_stride_at n (at shape) (at stride))) (strides n (at shape) (at stride)) }
 {
     let mut out = [0u32; 4];
     let mut inner: u64 = 1;
-    let mut d = n;
-    while 0 < d {
-        d -= 1;
-        let k = d as usize;
-        let s = resolved(stride[k], inner);
+    for dim in (0..n).rev() {
+        let d = dim as usize;
+        let s = resolved(stride[d], inner);
         if (s < inner) | (2147483647 < s) {
-            return Strides {
-                fault: Fault {
-                    status: num,
-                    dim: d,
-                },
-                stride: [0u32; 4],
-            };
+            return Err(Fault { status, dim });
         }
-        out[k] = s as u32;
-        inner = times(s as u32, shape[k]);
+        out[d] = s as u32;
+        inner = times(s as u32, shape[d]);
     }
-    Strides {
-        fault: no_fault(),
-        stride: out,
-    }
+    Ok(out)
 }
 
 // The sum of count x stride.
@@ -75,12 +64,7 @@ fn last(n: u8, offset: [u32; 4], extent: [u32; 4]) -> [u32; 4]
     requires { (n ≤ 4) × ((d : ℕ) → d < n → IsBox offset extent d) }
     ensures { result ≡ firsts n (λ d. at offset d + at extent d - 1) }
 {
-    let mut out = [0u32; 4];
-    for d in 0..n {
-        let k = d as usize;
-        out[k] = offset[k] + extent[k] - 1;
-    }
-    out
+    firsts(n, |d| offset[d] + extent[d] - 1)
 }
 
 // The bytes up to the end of the last element of such a box.

@@ -2,31 +2,29 @@
 ghost use Rattle.std.specs.Prelude.{◌≡◌, ℕ, ◌+◌, ◌-◌, ◌*◌, ◌≤◌, ◌<◌};
 ghost use Rattle.plane.specs.Arrays.{at, firsts};
 ghost use Rattle.plane.specs.Signs.{is_down, at_z};
-ghost use Rattle.faults.specs.Faults.{lowest};
+ghost use Rattle.faults.specs.Faults.{lowest, outcome};
 ghost use Rattle.plane.specs.Planes.{shape_at, up, src_strides};
-ghost use Rattle.plane.specs.Helpers.{bad_sub_size, rank_fault, no_sub, lowest_in, sub_of, sub_byte, sub_answer, sub_tensor_of};
+ghost use Rattle.plane.specs.Helpers.{bad_sub_size, rank_fault, sub_fault, lowest_in, sub_tensor_of};
 ghost use Rattle.plane.specs.Good.{GoodSource};
-ghost use Rattle.plane.specs.Private.{IsPart, staying_of};
+ghost use Rattle.plane.specs.Private.{IsPart, staying_of, sub_accepted};
 
-use crate::refusals::{offset_fault, size_is_bad};
+use crate::entries::firsts;
+use crate::refusals::{check_each, check_offset, size_is_bad};
 use crate::signs::{is_down, with_signs};
 use crate::strides::distance;
-use crate::tensors::source_of;
-use crate::zeros::no_fault;
+use crate::tensors::resolved_source;
 use crate::{Fault, SubConfig, SubTensor, Tensor};
 
 // 8: here a size of 0 is refused too.
-fn sub_size_fault(n: u8, shape: [u32; 4], offset: [u32; 4], size: [u32; 4]) -> Fault
+fn check_sub_size(n: u8, shape: [u32; 4], offset: [u32; 4], size: [u32; 4]) -> Result<(), Fault>
     requires { n ≤ 4 }
-    ensures { result ≡ lowest 8 n (λ d. bad_sub_size (at shape d) (at offset d) (at size d)) }
+    ensures { result ≡ outcome (lowest 8 n (λ d. bad_sub_size (at shape d) (at offset d) (at size d))) tt }
 {
-    for d in 0..n {
-        let k = d as usize;
-        if (size[k] == 0) | size_is_bad(shape[k], offset[k], size[k]) {
-            return Fault { status: 8, dim: d };
-        }
-    }
-    no_fault()
+    check_each(
+        8,
+        n,
+        |d| (size[d] == 0) | size_is_bad(shape[d], offset[d], size[d]),
+    )
 }
 
 // The dimensions that stay, and how many of those that should go are lacking.
@@ -63,17 +61,6 @@ fn without_units(n: u8, size: [u32; 4], stride: [i32; 4], excess: u8) -> Staying
     }
 }
 
-fn refused(f: Fault) -> SubTensor
-    ensures { result ≡ no_sub f }
-{
-    SubTensor {
-        status: f.status,
-        dim: f.dim,
-        tensor: Tensor::zero(),
-        byte: 0,
-    }
-}
-
 // How many strides up from the lowest element of a dimension the lowest of a part of it lies.
 fn low(down: bool, shape: u32, offset: u32, size: u32) -> u32
     requires { IsPart shape offset size }
@@ -87,72 +74,64 @@ fn lows(n: u8, stride: [i32; 4], shape: [u32; 4], offset: [u32; 4], size: [u32; 
     requires { (n ≤ 4) × ((d : ℕ) → d < n → IsPart (at shape d) (at offset d) (at size d)) }
     ensures { result ≡ firsts n (λ d. let down = is_down (at_z stride d) in up down (at shape d) (lowest_in down (at offset d) (at size d))) }
 {
-    let mut out = [0u32; 4];
-    for d in 0..n {
-        let k = d as usize;
-        out[k] = low(is_down(stride[k]), shape[k], offset[k], size[k]);
-    }
-    out
+    firsts(n, |d| low(is_down(stride[d]), shape[d], offset[d], size[d]))
 }
 
 // 14 and 15, else the sub-tensor. sizes has the sizes of the resolved strides of the whole plane.
-fn shrink(t: Tensor, s: SubConfig, sizes: [u32; 4]) -> SubTensor
+fn shrink(t: Tensor, s: SubConfig, sizes: [u32; 4]) -> Result<SubTensor, Fault>
     requires { (GoodSource t) × (sizes ≡ src_strides t) × ((d : ℕ) → d < t.rank → IsPart (shape_at t d) (at s.offset d) (at s.size d)) }
-    ensures { result ≡ sub_answer (rank_fault t s) (sub_of t s) (sub_byte t s) }
+    ensures { result ≡ outcome (rank_fault t s) (sub_accepted t s) }
 {
-    let n = t.rank;
-    let m = s.rank;
-    if (m == 0) | ((n as u32) < m) {
-        return refused(Fault { status: 14, dim: 0 });
+    let rank = s.rank;
+    if (rank == 0) | ((t.rank as u32) < rank) {
+        return Err(Fault { status: 14, dim: 0 });
     }
-    let size = s.size;
-    let written = t.stride;
-    let part = without_units(n, size, with_signs(written, sizes), n - (m as u8));
+    let part = without_units(
+        t.rank,
+        s.size,
+        with_signs(t.stride, sizes),
+        t.rank - (rank as u8),
+    );
     if part.lacking != 0 {
-        return refused(Fault { status: 15, dim: 0 });
+        return Err(Fault { status: 15, dim: 0 });
     }
-    let whole = t.shape;
-    let offset = s.offset;
-    let lowest = lows(n, written, whole, offset, size);
+    let lowest = lows(t.rank, t.stride, t.shape, s.offset, s.size);
     let shape = part.shape;
-    let kept = part.stride;
-    SubTensor {
+    let stride = part.stride;
+    Ok(SubTensor {
         status: 0,
         dim: 0,
         tensor: Tensor {
-            rank: m as u8,
+            rank: rank as u8,
             element_size: t.element_size,
             shape,
-            stride: kept,
+            stride,
         },
-        byte: distance(n, lowest, sizes) * (t.element_size as u64),
+        byte: distance(t.rank, lowest, sizes) * (t.element_size as u64),
+    })
+}
+
+// The sub-tensor, or 1 to 5, 7, 8, 14 or 15.
+fn part_of(t: Tensor, s: SubConfig, src_len: usize) -> Result<SubTensor, Fault>
+    ensures { result ≡ outcome (sub_fault t s src_len) (sub_accepted t s) }
+{
+    let whole = resolved_source(t)?;
+    if (src_len as u64) < whole.span {
+        return Err(Fault { status: 5, dim: 0 });
     }
+    check_offset(t.rank, t.shape, s.offset)?;
+    check_sub_size(t.rank, t.shape, s.offset, s.size)?;
+    shrink(t, s, whole.stride)
 }
 
 // The numbers of the part of a plane that a source of src_len bytes holds: its shape and strides, and the byte of its lowest element.
 pub fn sub_tensor(t: Tensor, s: SubConfig, src_len: usize) -> SubTensor
     ensures { result ≡ sub_tensor_of t s src_len }
 {
-    let whole = source_of(t);
-    let f = whole.fault;
-    if f.status != 0 {
-        return refused(f);
-    }
-    if (src_len as u64) < whole.span {
-        return refused(Fault { status: 5, dim: 0 });
-    }
-    let n = t.rank;
-    let shape = t.shape;
-    let offset = s.offset;
-    let f7 = offset_fault(n, shape, offset);
-    if f7.status != 0 {
-        return refused(f7);
-    }
-    let size = s.size;
-    let f8 = sub_size_fault(n, shape, offset, size);
-    if f8.status != 0 {
-        return refused(f8);
-    }
-    let sizes = whole.stride;
-    shrink(t, s, sizes)
+    part_of(t, s, src_len).unwrap_or_else(|fault| SubTensor {
+        status: fault.status,
+        dim: fault.dim,
+        tensor: Tensor::zero(),
+        byte: 0,
+    })
 }

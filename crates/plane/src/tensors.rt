@@ -1,50 +1,42 @@
 // A tensor record by itself: 1 to 4, the sizes of its resolved strides and its span.
 ghost use Rattle.std.specs.Prelude.{◌≡◌};
-ghost use Rattle.plane.specs.Arrays.{zeros};
-ghost use Rattle.plane.specs.Planes.{source_of};
+ghost use Rattle.faults.specs.Faults.{outcome};
+ghost use Rattle.plane.specs.Planes.{source_fault, source_of};
+ghost use Rattle.plane.specs.Private.{source_accepted};
 
 use crate::helpers::element_size;
-use crate::refusals::{rank_is_bad, shape_fault};
+use crate::refusals::{check_shape, rank_is_bad};
 use crate::signs::sizes;
 use crate::strides::{bytes, resolve};
+use crate::zeros::no_fault;
 use crate::{Fault, Source, Tensor};
 
-fn refused(f: Fault) -> Source
-    ensures { result ≡ record { fault = f; stride = zeros; span = 0 } }
+// What an accepted tensor record comes to, or 1 to 4.
+pub(crate) fn resolved_source(t: Tensor) -> Result<Source, Fault>
+    ensures { result ≡ outcome (source_fault t) (source_accepted t) }
 {
-    Source {
-        fault: f,
-        stride: [0u32; 4],
-        span: 0,
+    if rank_is_bad(t.rank) {
+        return Err(Fault { status: 1, dim: 0 });
     }
+    if element_size(t.element_size) == 0 {
+        return Err(Fault { status: 2, dim: 0 });
+    }
+    check_shape(t.rank, t.shape)?;
+    let stride = resolve(4, t.rank, t.shape, sizes(t.stride))?;
+    Ok(Source {
+        fault: no_fault(),
+        stride,
+        span: bytes(t.rank, [0u32; 4], t.shape, stride, t.element_size),
+    })
 }
 
 // The judgement of a tensor record by itself: the sizes of its resolved strides and its span, or 1 to 4.
 pub fn source_of(t: Tensor) -> Source
     ensures { result ≡ source_of t }
 {
-    let n = t.rank;
-    if rank_is_bad(n) {
-        return refused(Fault { status: 1, dim: 0 });
-    }
-    if element_size(t.element_size) == 0 {
-        return refused(Fault { status: 2, dim: 0 });
-    }
-    let shape = t.shape;
-    let f = shape_fault(n, shape);
-    if f.status != 0 {
-        return refused(f);
-    }
-    let written = t.stride;
-    let s = resolve(4, n, shape, sizes(written));
-    let g = s.fault;
-    if g.status != 0 {
-        return refused(g);
-    }
-    let stride = s.stride;
-    Source {
-        fault: g,
-        stride: stride,
-        span: bytes(n, [0u32; 4], shape, stride, t.element_size),
-    }
+    resolved_source(t).unwrap_or_else(|fault| Source {
+        fault,
+        stride: [0u32; 4],
+        span: 0,
+    })
 }

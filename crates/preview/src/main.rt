@@ -4,9 +4,10 @@
 // thumbnail in a frame, and its record by itself, and at last a record that asks for more than anybody would lend.
 #![tactic(auto)]
 
+use output::Hex;
 use plane::{Config, Tensor};
 use record::Reading;
-use std::io;
+use std::{fmt, io};
 use transfers::{Job, Part, Poll, Table};
 
 const HEIGHT: usize = 4;
@@ -73,96 +74,114 @@ fn picture() -> Tensor {
 
 // A ready-made configuration with one setting: one row in two, one byte in two.
 fn thumbnail() -> Config {
-    let copy = ready_made::copy(2);
-    copy.config.with_step([2, 2, 0, 0])
+    ready_made::copy(2).config.with_step([2, 2, 0, 0])
 }
 
 // Rows become columns.
 fn turned() -> Config {
-    let turn = ready_made::permute(2, [1, 0, 0, 0]);
-    turn.config
+    ready_made::permute(2, [1, 0, 0, 0]).config
 }
 
-// The stride of a dimension that counts down, n elements a coordinate; 0 where n has no negative.
-fn down(n: u32) -> i32 {
-    if 2147483647 < n {
-        return 0;
-    }
-    -(n as i32)
-}
-
-// A compact plane from its last row up: the stride from row to row, written with its sign.
+// A compact plane from its last row up: the stride from row to row, written with its sign; 0 where it has none.
 fn upside_down(t: Tensor) -> Tensor {
-    let row = down(t.shape[1]);
+    let row = match i32::try_from(t.shape[1]) {
+        Ok(n) => -n,
+        Err(_) => 0,
+    };
     let stride = [row, 0, 0, 0];
     Tensor { stride, ..t }
 }
 
-fn print_number(rt: &impl Print, text: &str, number: u64) -> io::Result<()> {
-    println!(rt; "{text} {number}")
+// Why something is not done, with its number of refusal.
+#[derive(Clone, Copy)]
+enum Failure {
+    Refused(u8),
+    BadRecord(u8),
+    NoRoom(u8),
 }
 
-fn print_status(rt: &impl Print, text: &str, status: u8) -> io::Result<()> {
-    print_number(rt, text, status as u64)
-}
-
-// Whether byte i is the last of its row.
-fn ends_row(i: usize, width: usize) -> bool {
-    if width == 0 {
-        return false;
+impl fmt::Display for Failure {
+    fn fmt<W: fmt::Write>(&self, f: &mut fmt::Formatter<W>) -> fmt::Result {
+        match self {
+            Failure::Refused(status) => write!(f, "refused {status}"),
+            Failure::BadRecord(status) => write!(f, "bad record {status}"),
+            Failure::NoRoom(status) => write!(f, "no room {status}"),
+        }
     }
-    i % width == width - 1
 }
 
-fn print_byte(rt: &impl Print, byte: u8, is_last: bool) -> io::Result<()> {
-    if is_last {
-        return println!(rt; "{byte:02x}");
-    }
-    print!(rt; "{byte:02x} ")
-}
-
-// A plane of bytes without gaps, a row a line.
-fn print_plane(rt: &impl Print, bytes: &[u8], width: u32) -> io::Result<()> {
-    for (i, byte) in bytes.iter().enumerate() {
-        print_byte(rt, *byte, ends_row(i, width as usize))?;
+// What a status says of a move, a pixel or a transfer.
+fn accepted(status: u8) -> Result<(), Failure> {
+    if status != 0 {
+        return Err(Failure::Refused(status));
     }
     Ok(())
 }
 
-// A whole move into the room lent.
-fn move_and_print(
-    rt: &impl Print,
-    t: Tensor,
-    c: Config,
-    source: &[u8],
-    room: &mut [u8],
-) -> io::Result<()> {
-    let answer = mover::move_plane(t, c, source, room);
-    if answer.status != 0 {
-        return print_status(rt, "refused", answer.status);
-    }
-    print_status(rt, "moved", 0)?;
-    print_plane(rt, room, answer.extent[1])
+// A plane of bytes without gaps, printed a row a line.
+#[derive(Clone, Copy)]
+struct Rows<'a> {
+    bytes: &'a [u8],
+    width: usize,
 }
 
-// The same into the start of a buffer. The limit comes first, since a stranger's record may ask for any room: what needs more than
-// MOST is refused with 13, and what the move would refuse with its number. Of the rest n is the need, just what is lent.
-fn move_into(
-    rt: &impl Print,
-    t: Tensor,
-    c: Config,
-    source: &[u8],
-    buffer: &mut [u8],
-) -> io::Result<()> {
-    let asked = plane::judge(t, c, source.len(), MOST);
-    if asked.status != 0 {
-        return print_status(rt, "refused", asked.status);
+impl fmt::Display for Rows<'_> {
+    fn fmt<W: fmt::Write>(&self, f: &mut fmt::Formatter<W>) -> fmt::Result {
+        for row in self.bytes.chunks(self.width.max(1)) {
+            writeln!(f, "{}", Hex(row))?;
+        }
+        Ok(())
     }
-    let n = asked.need as usize;
-    if buffer.len() < n {
-        return print_status(rt, "refused", 13);
+}
+
+// A move that is asked for: of the plane that a source holds, laid out as the configuration says.
+#[derive(Clone, Copy)]
+struct Move<'a> {
+    tensor: Tensor,
+    config: Config,
+    source: &'a [u8],
+}
+
+impl Move<'_> {
+    // The whole move into the start of a buffer. The limit comes first, since a stranger's record may ask for any room: what needs more
+    // than MOST is refused with 13, and what the move would refuse with its number. Of the rest n is the need, just what is lent.
+    fn into_start<'b>(self, buffer: &'b mut [u8]) -> Result<Rows<'b>, Failure> {
+        let asked = plane::judge(self.tensor, self.config, self.source.len(), MOST);
+        accepted(asked.status)?;
+        let n = asked.need as usize;
+        if buffer.len() < n {
+            return Err(Failure::Refused(13));
+        }
+        let answer = mover::move_plane(self.tensor, self.config, self.source, &mut buffer[..n]);
+        accepted(answer.status)?;
+        Ok(Rows {
+            bytes: &buffer[..n],
+            width: answer.extent[1] as usize,
+        })
     }
-    move_and_print(rt, t, c, source, &mut buffer[0..n])
+
+    // One pixel before anything is moved, as a colour picker asks for it. Elements are single bytes here, so the first of the four is
+    // the pixel.
+    fn pick(self, rt: &impl Print, at: [u32; 4]) -> io::Result<()> {
+        let p = mover::pixel(self.tensor, self.config, self.source, at);
+        if let Err(failure) = accepted(p.status) {
+            return println!(rt; "{failure}");
+        }
+        let kind = if p.padding { "padding" } else { "picked" };
+        println!(rt; "{kind} {:02x}", p.bytes[0])
+    }
+}
+
+fn print_rows(rt: &impl Print, bytes: &[u8], width: usize) -> io::Result<()> {
+    rt.print(Rows { bytes, width })
+}
+
+// What a move left, or why there is none.
+fn print_moved(rt: &impl Print, moved: Result<Rows<'_>, Failure>) -> io::Result<()> {
+    match moved {
+        Ok(rows) => print!(rt; "moved 0\n{rows}"),
+        Err(failure) => println!(rt; "{failure}"),
+    }
 }
 
 // A plane of the picture in two planes, with so many channels.
@@ -177,149 +196,177 @@ fn plane_of(channels: u32) -> Tensor {
 
 // Sets a plane into the joined one, behind so many channels. The strides are those of the joined plane.
 fn behind(channels: u32) -> Config {
-    let set = ready_made::concatenate(
-        3,
-        [0, 0, channels, 0],
-        [JOINED_ROW as u32, CHANNELS as u32, 1, 0],
-    );
-    set.config
+    let stride = [JOINED_ROW as u32, CHANNELS as u32, 1, 0];
+    ready_made::concatenate(3, [0, 0, channels, 0], stride).config
 }
 
 // Joins colour and alpha along channels. Neither move touches a byte of the other's.
 fn join(rt: &impl Print, room: &mut [u8]) -> io::Result<()> {
-    let colour = COLOUR;
-    let alpha = ALPHA;
-    let first = mover::move_plane(plane_of(COLOURS as u32), behind(0), &colour, room);
-    let second = mover::move_plane(plane_of(1), behind(COLOURS as u32), &alpha, room);
-    print_status(rt, "colour", first.status)?;
-    print_status(rt, "alpha", second.status)?;
-    if (first.status == 0) & (second.status == 0) {
-        print_plane(rt, room, JOINED_ROW as u32)?;
+    let colour = mover::move_plane(plane_of(COLOURS as u32), behind(0), &COLOUR, room);
+    let alpha = mover::move_plane(plane_of(1), behind(COLOURS as u32), &ALPHA, room);
+    println!(rt; "colour {}", colour.status)?;
+    println!(rt; "alpha {}", alpha.status)?;
+    if colour.status != 0 || alpha.status != 0 {
+        return Ok(());
     }
-    Ok(())
+    print_rows(rt, room, JOINED_ROW)
 }
 
-// A transfer within the memory: it reads the picture, and writes length bytes from byte start on.
-fn job(config: Config, start: usize, length: usize) -> Job {
+// A part of the memory: length bytes, from byte start on.
+fn part(start: usize, length: usize) -> Part {
+    Part {
+        start: start as u64,
+        length: length as u64,
+    }
+}
+
+// A transfer of the picture within the memory, from the part that holds it into another.
+fn job(config: Config, source: Part, destination: Part) -> Job {
     Job {
-        source: Part {
-            start: 0,
-            length: PICTURE as u64,
-        },
-        destination: Part {
-            start: start as u64,
-            length: length as u64,
-        },
+        source,
+        destination,
         tensor: picture(),
         config,
     }
 }
 
-// The thumbnail, from the part that holds the picture into another.
-fn between(source: Part, destination: Part) -> Job {
-    Job {
-        source,
-        destination,
-        tensor: picture(),
-        config: thumbnail(),
-    }
+// A memory, and the table of the transfers over it. Each call hands back the next table, which is kept here.
+#[derive(Drop)]
+struct Memory<'a> {
+    table: Table,
+    bytes: &'a mut [u8],
 }
 
-fn is_done(table: Table, handle: u32) -> bool {
-    let poll = table.poll(handle);
-    match poll {
-        Poll::Done => true,
-        _ => false,
+impl Memory<'_> {
+    // The handle of a transfer that is now prepared.
+    fn prepare(&mut self, job: Job) -> Result<u32, Failure> {
+        let made = self.table.prepare(self.bytes, job);
+        self.table = made.table;
+        accepted(made.status)?;
+        Ok(made.handle)
     }
-}
 
-// Steps two running transfers by turns until both are done. Each turn moves at least one element of each that is not done (a
-// step of one that is done is refused and changes nothing), and neither has more elements than the memory has bytes: so there
-// are turns enough.
-fn by_turns(table: Table, mem: &mut [u8], first: u32, second: u32) -> Table {
-    let mut now = table;
-    for _ in 0..mem.len() {
-        let a = now.step(mem, first, BUDGET);
-        let b = a.table.step(mem, second, BUDGET);
-        now = b.table;
-        if is_done(now, first) & is_done(now, second) {
-            return now;
+    fn start(&mut self, handle: u32) {
+        self.table = self.table.start(self.bytes, handle).table;
+    }
+
+    fn step(&mut self, handle: u32, budget: u64) {
+        self.table = self.table.step(self.bytes, handle, budget).table;
+    }
+
+    // A transfer that is not done is not released: so the number tells whether all went well.
+    fn release(&mut self, handle: u32) -> u8 {
+        let less = self.table.release(self.bytes, handle);
+        self.table = less.table;
+        less.status
+    }
+
+    fn is_done(&self, handle: u32) -> bool {
+        matches!(self.table.poll(handle), Poll::Done)
+    }
+
+    // Steps two running transfers by turns until both are done. Each turn moves at least one element of each that is not done (a
+    // step of one that is done is refused and changes nothing), and neither has more elements than the memory has bytes: so there
+    // are turns enough.
+    fn step_by_turns(&mut self, first: u32, second: u32) {
+        for _ in 0..self.bytes.len() {
+            self.step(first, BUDGET);
+            self.step(second, BUDGET);
+            if self.is_done(first) && self.is_done(second) {
+                return;
+            }
         }
     }
-    now
 }
 
-// Starts the transfers a and b that a table has prepared, and releases them once they are done. A transfer that is not done is
-// not released: so the two numbers printed tell whether all went well.
-fn run_both(rt: &impl Print, table: Table, mem: &mut [u8], a: u32, b: u32) -> io::Result<()> {
-    let one = table.start(mem, a);
-    let both = one.table.start(mem, b);
-    let done = by_turns(both.table, mem, a, b);
-    let less = done.release(mem, a);
-    let none = less.table.release(mem, b);
-    print_status(rt, "released", less.status)?;
-    print_status(rt, "released", none.status)
+// Starts two prepared transfers, and releases them once they are done.
+fn run_both(rt: &impl Print, memory: &mut Memory<'_>, a: u32, b: u32) -> io::Result<()> {
+    memory.start(a);
+    memory.start(b);
+    memory.step_by_turns(a, b);
+    println!(rt; "released {}", memory.release(a))?;
+    println!(rt; "released {}", memory.release(b))
 }
 
-// Two transfers over one memory: the thumbnail, and the picture turned.
-fn transfer_both(rt: &impl Print, mem: &mut [u8]) -> io::Result<()> {
-    let made = Table::fresh(mem.len() as u64);
-    let small = made.table.prepare(mem, job(thumbnail(), SMALL_AT, SMALL));
-    let large = small.table.prepare(mem, job(turned(), TURNED_AT, PICTURE));
-    if (small.status != 0) | (large.status != 0) {
-        print_status(rt, "refused", small.status)?;
-        return print_status(rt, "refused", large.status);
+// Two transfers over one memory that holds the picture: the thumbnail, and the picture turned.
+fn transfer_both(rt: &impl Print, bytes: &mut [u8]) -> io::Result<()> {
+    let table = Table::fresh(bytes.len() as u64).table;
+    let mut memory = Memory { table, bytes };
+    let from = part(0, PICTURE);
+    let small = memory.prepare(job(thumbnail(), from, part(SMALL_AT, SMALL)));
+    let large = memory.prepare(job(turned(), from, part(TURNED_AT, PICTURE)));
+    match (small, large) {
+        (Ok(a), Ok(b)) => run_both(rt, &mut memory, a, b),
+        (Err(failure), _) => println!(rt; "{failure}"),
+        (_, Err(failure)) => println!(rt; "{failure}"),
     }
-    run_both(rt, large.table, mem, small.handle, large.handle)
 }
 
-// Starts a prepared transfer, moves all of it in one step, and releases it.
-fn run_one(rt: &impl Print, table: Table, mem: &mut [u8], handle: u32) -> io::Result<Table> {
-    let one = table.start(mem, handle);
-    let done = one.table.step(mem, handle, u64::MAX);
-    let none = done.table.release(mem, handle);
-    print_status(rt, "released", none.status)?;
-    Ok(none.table)
-}
-
-// Gives a run back: before its transfer is released, which is refused with 33, and after that.
-fn run_and_give_back(
-    rt: &impl Print,
-    table: Table,
-    mem: &mut [u8],
-    handle: u32,
-    word: u64,
+// Blocks that the keeper granted, from number first on.
+#[derive(Clone, Copy)]
+struct Run {
     first: u32,
-) -> io::Result<()> {
-    let early = keeper::give_back(table, word, first, SMALL_BLOCKS);
-    print_status(rt, "given back", early.status)?;
-    let after = run_one(rt, table, mem, handle)?;
-    let back = keeper::give_back(after, early.word, first, SMALL_BLOCKS);
-    print_status(rt, "given back", back.status)?;
-    print_number(rt, "free blocks", keeper::free_blocks(back.word) as u64)
+    blocks: u32,
 }
 
-// A transfer in room that the keeper grants: each request is given the word that the one before handed back, so no block is granted
-// twice, and nobody else's parts meet these. The picture's run is asked for first, so it is the lowest: the memory's start, where the
-// picture stands. (Where part_of were refused, its part would be empty, and prepare would refuse the job.)
-fn transfer_kept(rt: &impl Print, mem: &mut [u8]) -> io::Result<()> {
-    let length = mem.len() as u64;
-    let large = keeper::request(0, PICTURE_BLOCKS);
-    if large.status != 0 {
-        return print_status(rt, "no room", large.status);
+// A memory whose room is kept: the word says which blocks are taken.
+#[derive(Drop)]
+struct Kept<'a> {
+    memory: Memory<'a>,
+    word: u64,
+}
+
+impl Kept<'_> {
+    // Each request is given the word that the one before handed back, so no block is granted twice.
+    fn request(&mut self, blocks: u32) -> Result<Run, Failure> {
+        let granted = keeper::request(self.word, blocks);
+        if granted.status != 0 {
+            return Err(Failure::NoRoom(granted.status));
+        }
+        self.word = granted.word;
+        Ok(Run {
+            first: granted.first,
+            blocks,
+        })
     }
-    let small = keeper::request(large.word, SMALL_BLOCKS);
-    if small.status != 0 {
-        return print_status(rt, "no room", small.status);
+
+    // The part of the memory that a run is. (Where part_of were refused, it would be empty, and prepare would refuse the job.)
+    fn part(&self, run: Run) -> Part {
+        keeper::part_of(self.memory.bytes.len() as u64, run.first, run.blocks).part
     }
-    let from = keeper::part_of(length, large.first, PICTURE_BLOCKS);
-    let to = keeper::part_of(length, small.first, SMALL_BLOCKS);
-    let made = Table::fresh(length);
-    let ready = made.table.prepare(mem, between(from.part, to.part));
-    if ready.status != 0 {
-        return print_status(rt, "refused", ready.status);
+
+    fn give_back(&mut self, run: Run) -> u8 {
+        let back = keeper::give_back(self.memory.table, self.word, run.first, run.blocks);
+        self.word = back.word;
+        back.status
     }
-    run_and_give_back(rt, ready.table, mem, ready.handle, small.word, small.first)
+
+    // Prepares the thumbnail in room of its own, and tells its handle and its run. The picture's run is asked for first, so it is the
+    // lowest: the memory's start, where the picture stands.
+    fn prepare_thumbnail(&mut self) -> Result<(u32, Run), Failure> {
+        let large = self.request(PICTURE_BLOCKS)?;
+        let small = self.request(SMALL_BLOCKS)?;
+        let made = job(thumbnail(), self.part(large), self.part(small));
+        Ok((self.memory.prepare(made)?, small))
+    }
+}
+
+// A transfer in room that the keeper grants, which nobody else's parts meet. Its run is given back before it is released, which is
+// refused with 33, and after that.
+fn transfer_kept(rt: &impl Print, bytes: &mut [u8]) -> io::Result<()> {
+    let table = Table::fresh(bytes.len() as u64).table;
+    let memory = Memory { table, bytes };
+    let mut kept = Kept { memory, word: 0 };
+    let (handle, run) = match kept.prepare_thumbnail() {
+        Ok(made) => made,
+        Err(failure) => return println!(rt; "{failure}"),
+    };
+    println!(rt; "given back {}", kept.give_back(run))?;
+    kept.memory.start(handle);
+    kept.memory.step(handle, u64::MAX);
+    println!(rt; "released {}", kept.memory.release(handle))?;
+    println!(rt; "given back {}", kept.give_back(run))?;
+    println!(rt; "free blocks {}", keeper::free_blocks(kept.word))
 }
 
 // Appends the two moves to a list that was just started, as a camera stores them beside the picture. Each goes behind the length that
@@ -327,34 +374,28 @@ fn transfer_kept(rt: &impl Print, mem: &mut [u8]) -> io::Result<()> {
 fn append_both(rt: &impl Print, buffer: &mut [u8]) -> io::Result<()> {
     let small = list::append(buffer, list::HEAD, picture(), thumbnail());
     let large = list::append(buffer, small.length, picture(), turned());
-    print_status(rt, "appended", small.status)?;
-    print_status(rt, "appended", large.status)
+    println!(rt; "appended {}", small.status)?;
+    println!(rt; "appended {}", large.status)
 }
 
 // Makes the move of a record that was read. A bad one has its number of refusal.
-fn move_read(rt: &impl Print, r: Reading, source: &[u8], buffer: &mut [u8]) -> io::Result<()> {
+fn move_read<'a>(r: Reading, source: &[u8], buffer: &'a mut [u8]) -> Result<Rows<'a>, Failure> {
     if r.status != 0 {
-        return print_status(rt, "bad record", r.status);
+        return Err(Failure::BadRecord(r.status));
     }
-    move_into(rt, r.tensor, r.config, source, buffer)
+    let asked = Move {
+        tensor: r.tensor,
+        config: r.config,
+        source,
+    };
+    asked.into_start(buffer)
 }
 
-// The same of record k of a list. Those behind a bad one are still read.
-fn move_record(
-    rt: &impl Print,
-    bytes: &[u8],
-    k: usize,
-    source: &[u8],
-    buffer: &mut [u8],
-) -> io::Result<()> {
-    let r = list::record_at(bytes, k);
-    move_read(rt, r.reading, source, buffer)
-}
-
-// Makes the move of each record. A refused list has none.
+// Makes the move of each record. A refused list has none, and those behind a bad record are still read.
 fn move_listed(rt: &impl Print, bytes: &[u8], source: &[u8], buffer: &mut [u8]) -> io::Result<()> {
     for k in 0..list::record_count(bytes) {
-        move_record(rt, bytes, k, source, buffer)?;
+        let r = list::record_at(bytes, k).reading;
+        print_moved(rt, move_read(r, source, buffer))?;
     }
     Ok(())
 }
@@ -365,40 +406,16 @@ fn framed() -> Config {
     small.with_pre([1, 1, 0, 0]).with_post([1, 1, 0, 0])
 }
 
-// One pixel of a move before anything is moved, as a colour picker asks for it. Elements are single bytes here, so the first of the
-// four is the pixel.
-fn pick(rt: &impl Print, t: Tensor, c: Config, source: &[u8], at: [u32; 4]) -> io::Result<()> {
-    let p = mover::pixel(t, c, source, at);
-    if p.status != 0 {
-        return print_status(rt, "refused", p.status);
-    }
-    if p.padding {
-        rt.print("padding ")?;
-    } else {
-        rt.print("picked ")?;
-    }
-    print_byte(rt, p.bytes[0], true)
-}
-
-// Of the thumbnail in its frame: a pixel of the frame, the first within it, and one that is not there.
-fn pick_framed(rt: &impl Print, source: &[u8]) -> io::Result<()> {
-    pick(rt, picture(), framed(), source, [0, 0, 0, 0])?;
-    pick(rt, picture(), framed(), source, [1, 1, 0, 0])?;
-    pick(rt, picture(), framed(), source, [4, 0, 0, 0])
-}
-
-// Writes a record into the room, which has to be just as long as the record is, reads it, and makes its move.
+// Writes a move's record into the room, which has to be just as long as the record is, reads it, and makes the move.
 fn write_and_move(
     rt: &impl Print,
-    t: Tensor,
-    c: Config,
+    asked: Move<'_>,
     room: &mut [u8],
-    source: &[u8],
     buffer: &mut [u8],
 ) -> io::Result<()> {
-    let f = record::write(t, c, room);
-    print_status(rt, "written", f.status)?;
-    move_read(rt, record::read(room), source, buffer)
+    let f = record::write(asked.tensor, asked.config, room);
+    println!(rt; "written {}", f.status)?;
+    print_moved(rt, move_read(record::read(room), asked.source, buffer))
 }
 
 // A plane of one pixel, of four bytes.
@@ -413,34 +430,62 @@ fn pixel() -> Tensor {
 
 // Sets it far behind in a larger plane: the need is (1 + 65,534 x 2,147,483,647) x 4, which are 562,932,773,289,996 bytes.
 fn far() -> Config {
-    let set = ready_made::concatenate(1, [65534, 0, 0, 0], [2147483647, 0, 0, 0]);
-    set.config
+    ready_made::concatenate(1, [65534, 0, 0, 0], [2147483647, 0, 0, 0]).config
+}
+
+// Moves the picture itself to the memory's start, where transfers read it, makes two of them, and prints what they left.
+fn show_transfers(rt: &impl Print, copied: Move<'_>, mem: &mut [u8; MEMORY]) -> io::Result<()> {
+    print_moved(rt, copied.into_start(mem))?;
+    transfer_both(rt, mem)?;
+    print_rows(rt, &mem[SMALL_AT..TURNED_AT], WIDTH / 2)?;
+    print_rows(rt, &mem[TURNED_AT..], HEIGHT)
+}
+
+// The same with one transfer, in room that is kept.
+fn show_kept(rt: &impl Print, copied: Move<'_>) -> io::Result<()> {
+    let mut kept = [0u8; KEPT];
+    print_moved(rt, copied.into_start(&mut kept))?;
+    transfer_kept(rt, &mut kept)?;
+    print_rows(rt, &kept[PICTURE..PICTURE + SMALL], WIDTH / 2)
+}
+
+// Of the thumbnail in its frame: a pixel of the frame, the first within it, and one that is not there.
+fn pick_framed(rt: &impl Print, framed: Move<'_>) -> io::Result<()> {
+    framed.pick(rt, [0, 0, 0, 0])?;
+    framed.pick(rt, [1, 1, 0, 0])?;
+    framed.pick(rt, [4, 0, 0, 0])
 }
 
 fn main(rt: HostRuntime) -> io::Result<()> {
-    let pixels = PIXELS;
+    let small = Move {
+        tensor: picture(),
+        config: thumbnail(),
+        source: &PIXELS,
+    };
     let mut mem = [0u8; MEMORY];
-    move_into(&rt, picture(), thumbnail(), &pixels, &mut mem)?;
-    move_into(&rt, upside_down(picture()), thumbnail(), &pixels, &mut mem)?;
+    print_moved(&rt, small.into_start(&mut mem))?;
+    let tensor = upside_down(picture());
+    print_moved(&rt, Move { tensor, ..small }.into_start(&mut mem))?;
     let mut joined = [0u8; JOINED];
     join(&rt, &mut joined)?;
-    // The picture itself, at the memory's start: the transfers read it there.
-    let copy = ready_made::copy(2);
-    move_into(&rt, picture(), copy.config, &pixels, &mut mem)?;
-    transfer_both(&rt, &mut mem)?;
-    print_plane(&rt, &mem[SMALL_AT..TURNED_AT], WIDTH as u32 / 2)?;
-    print_plane(&rt, &mem[TURNED_AT..MEMORY], HEIGHT as u32)?;
-    let mut kept = [0u8; KEPT];
-    move_into(&rt, picture(), copy.config, &pixels, &mut kept)?;
-    transfer_kept(&rt, &mut kept)?;
-    print_plane(&rt, &kept[PICTURE..PICTURE + SMALL], WIDTH as u32 / 2)?;
+    let config = ready_made::copy(2).config;
+    let copied = Move { config, ..small };
+    show_transfers(&rt, copied, &mut mem)?;
+    show_kept(&rt, copied)?;
     let mut burst = [0u8; LISTED];
-    print_status(&rt, "started", list::start(&mut burst))?;
+    println!(&rt; "started {}", list::start(&mut burst))?;
     append_both(&rt, &mut burst)?;
-    move_listed(&rt, &burst, &pixels, &mut mem)?;
-    pick_framed(&rt, &pixels)?;
+    move_listed(&rt, &burst, &PIXELS, &mut mem)?;
+    let config = framed();
+    let framed = Move { config, ..small };
+    pick_framed(&rt, framed)?;
     let mut filled = [0u8; record::FILLED_LENGTH];
-    write_and_move(&rt, picture(), framed(), &mut filled, &pixels, &mut mem)?;
+    write_and_move(&rt, framed, &mut filled, &mut mem)?;
+    let far = Move {
+        tensor: pixel(),
+        config: far(),
+        source: &PIXELS,
+    };
     let mut alone = [0u8; record::LENGTH];
-    write_and_move(&rt, pixel(), far(), &mut alone, &pixels, &mut mem)
+    write_and_move(&rt, far, &mut alone, &mut mem)
 }

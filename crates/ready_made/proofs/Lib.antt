@@ -2,3 +2,5 @@
 -- looked at).
 pub mod Decided
 pub mod Exact
+-- A law over plain lists, which a function's proof cites.
+pub mod Cutting

@@ -2,13 +2,13 @@
 // one; all have fill 0, which a setting changes. No call here asks anything of its caller.
 #![tactic(auto)]
 
-ghost use Rattle.std.specs.Prelude.{◌≡◌, ◌≤◌};
-ghost use Rattle.plane.specs.Arrays.{at, firsts};
+ghost use Rattle.std.specs.Prelude.{◌≡◌, ◌≤◌, get_or};
+ghost use Rattle.plane.specs.Arrays.{firsts_or};
 ghost use Rattle.ready_made.specs.ReadyMade.{defaults, cut_to, made_for, copy_of, slice_of, concatenate_of, subsample_of, permute_of, pad_chw_of, pad_hwc_of, all_of};
 
 use plane::{Config, rank_is_bad};
 
-// A configuration made for a rank, or 1 and zeros.
+// A configuration made for a rank, or 1 and zeros, which are promised too: so it is no Result (DECISIONS 105).
 #[derive(Clone, Copy)]
 pub struct Made {
     pub status: u8,
@@ -23,29 +23,14 @@ fn defaults() -> Config
         .with_perm([0, 1, 2, 3])
 }
 
-// The entries below the rank, and 0 at and past it.
-fn cut(n: u8, a: [u32; 4]) -> [u32; 4]
+// The entries below the rank, and zero at and past it.
+fn cut<T: Copy>(n: u8, zero: T, a: [T; 4]) -> [T; 4]
     requires { n ≤ 4 }
-    ensures { result ≡ firsts n (at a) }
+    ensures { result ≡ firsts_or zero n (λ d. get_or a d zero) }
 {
-    let mut out = [0u32; 4];
-    for d in 0..n {
-        let k = d as usize;
-        out[k] = a[k];
-    }
-    out
-}
-
-// The same of bytes.
-fn cut_bytes(n: u8, a: [u8; 4]) -> [u8; 4]
-    requires { n ≤ 4 }
-    ensures { result ≡ firsts n (at a) }
-{
-    let mut out = [0u8; 4];
-    for d in 0..n {
-        let k = d as usize;
-        out[k] = a[k];
-    }
+    let n = n as usize;
+    let mut out = [zero; 4];
+    out[..n].copy_from_slice(&a[..n]);
     out
 }
 
@@ -53,23 +38,15 @@ fn cut_to(n: u8, c: Config) -> Config
     requires { n ≤ 4 }
     ensures { result ≡ cut_to n c }
 {
-    let offset = c.offset;
-    let size = c.size;
-    let step = c.step;
-    let dst_offset = c.dst_offset;
-    let dst_stride = c.dst_stride;
-    let perm = c.perm;
-    let pre = c.pre;
-    let post = c.post;
     Config {
-        offset: cut(n, offset),
-        size: cut(n, size),
-        step: cut(n, step),
-        dst_offset: cut(n, dst_offset),
-        dst_stride: cut(n, dst_stride),
-        perm: cut_bytes(n, perm),
-        pre: cut_bytes(n, pre),
-        post: cut_bytes(n, post),
+        offset: cut(n, 0, c.offset),
+        size: cut(n, 0, c.size),
+        step: cut(n, 0, c.step),
+        dst_offset: cut(n, 0, c.dst_offset),
+        dst_stride: cut(n, 0, c.dst_stride),
+        perm: cut(n, 0, c.perm),
+        pre: cut(n, 0, c.pre),
+        post: cut(n, 0, c.post),
         fill: c.fill,
     }
 }

@@ -2,23 +2,28 @@
 use Prim.Native.Nat.{ℕ}
 use native.Mathlib.Decide.{ℕ_discrete}
 use native.Mathlib.Omega.{arith}
-use mathlib.Core.Path.{◌≡◌, refl, sym, ap, ap₂, ◌∙◌}
-use mathlib.Core.Bool.{true, false, not}
+use mathlib.Core.Path.{◌≡◌, refl, sym, ap, ◌∙◌}
+use mathlib.Core.Bool.{Bool, true, false, not}
 use mathlib.Core.List.{List}
-use borrow.Author.Tests.{eq-eqb, ne_eqb}
+use borrow.Author.Tests.{eq-eqb, ne_eqb, eqb-true, not-false}
+use lib.Dec.{eqb}
 use lib.ListN.{length}
 use lib.Seq.{sets}
+use Rattle.std.specs.Prelude.{Result}
 use Rattle.plane.specs.declared.Tensor.{Tensor}
 use Rattle.plane.specs.declared.Config.{Config}
 use Rattle.faults.specs.declared.Fault.{Fault}
-use Rattle.faults.specs.Faults.{fault}
-use Rattle.faults.proofs.Faults.{status, is_fault, given, spared, if_fault_lem, if_none}
+use Rattle.faults.specs.Faults.{fault, outcome}
+use Rattle.faults.proofs.Faults.{status, given, spared, if_fault_lem, if_none, when_clear, or_clear}
 use Rattle.record.specs.declared.Reading.{Reading}
 use Rattle.plane.specs.Numbers.{little}
-use Rattle.record.specs.Layout.{record_length, fill_width, length_of, version_by_length, version_for}
-use Rattle.record.specs.Records.{tensor_in, config_in, record_bytes, bad_length, bad_room, bad_mark, bad_version, fields_fault, read_fault, write_fault, no_reading, reading, read_of, written_room}
-use Rattle.record.specs.Private.{tensor_bytes, config_at, config_bytes}
-use Rattle.record.proofs.Lengths.{fill_none}
+use Rattle.std.specs.List.{starts_with}
+use Rattle.record.specs.Layout.{mark, version_in, record_length, fill_width, length_of, version_by_length, version_for}
+use Rattle.record.specs.Records.{tensor_in, config_in, record_bytes, bad_length, bad_room, bad_mark, bad_version, fields_fault, read_fault, write_rules, write_fault, no_reading, reading, read_of, written_room}
+use Rattle.record.specs.Private.{fault_in, tensor_bytes, config_at, config_bytes}
+use Rattle.record.proofs.Lengths.{fill_none, long_enough}
+use Rattle.record.proofs.Digits.{mark_told}
+use Rattle.record.proofs.Fields.{fault_back}
 use Rattle.record.proofs.Laying.{record_laid}
 
 -- ---- read
@@ -65,16 +70,21 @@ module _ (bs : List ℕ) where
     | no z ↦ ap (λ (r : Reading). r.config.fill) (sym (read-refused {f = read_fault bs} refl z refl))
   ]
 
+  -- the tests in code
+  pub marked : bad_length (length bs) ≡ false → {b d : Bool} → b ≡ starts_with eqb bs mark → b ≡ d → bad_mark bs ≡ not d
+  marked l e h = let n = long_enough (length bs) l in mark_told 82 77 86 bs (omega arith) e h
+
+  module _ {m n : ℕ} (me : m ≡ version_in bs) (ne : n ≡ version_by_length (length bs)) where
+    pub version-other : (m ≡ n → ⊥) → bad_version bs ≡ true
+    version-other h = ap not (ne_eqb _ _ (λ e. h (me ∙ e ∙ sym ne)))
+
+    pub version-same : m ≡ n → bad_version bs ≡ false
+    version-same h = ap not (eq-eqb _ _ (sym me ∙ h ∙ ne))
+
   -- as the code comes to it: the fields read, and then judged
   module _ {t : Tensor} {c : Config} {v : ℕ} {f : Fault} (te : t ≡ tensor_in bs) (ce : c ≡ config_in bs) (ve : v ≡ version_by_length (length bs)) (fe : f ≡ fields_fault v t c) (l : bad_length (length bs) ≡ false) (m : bad_mark bs ≡ false) (w : bad_version bs ≡ false) where
-    read-judged : read_fault bs ≡ f
+    pub read-judged : read_fault bs ≡ f
     read-judged = read-fields l m w ∙ sym (λ i. fields_fault (ve i) (te i) (ce i)) ∙ sym fe
-
-    pub fields-refused : {r : Reading} → (f.status ≡ 0 → ⊥) → r ≡ no_reading f → r ≡ read_of bs
-    fields-refused h q = read-refused read-judged h q
-
-    pub fields-given : f.status ≡ 0 → reading t c ≡ read_of bs
-    fields-given z = ap₂ reading te ce ∙ sym (read-given (status read-judged ∙ z))
 
 -- ---- write
 
@@ -86,30 +96,30 @@ module _ (t : Tensor) (c : Config) where
   unfolding write_fault fields_fault
   write-fields n l = spared 25 0 _ _ (ap not (eq-eqb n (length_of (version_for c)) l))
 
+  -- as the code comes to it
+  pub write-25 : (n : ℕ) → (n ≡ length_of (version_for c) → ⊥) → write_fault t c n ≡ fault 25 0
+  unfolding write_fault fields_fault
+  write-25 n l = given 25 0 _ _ (omega arith) (room-bad n l)
+
+  pub write-told : (n : ℕ) {r : Result (Unit {0}) Fault} {f : Fault} → r ≡ outcome (write_fault t c n) tt → f ≡ fault_in r → f ≡ write_fault t c n
+  unfolding write_fault
+  write-told n re fe = fe ∙ ap fault_in re ∙ fault_back (write_rules t c n) (omega arith) tt
+
+  pub write-long : (n : ℕ) → (write_fault t c n).status ≡ 0 → n ≡ length_of (version_for c)
+  unfolding write_fault
+  write-long n z = eqb-true _ _ (not-false _ (when_clear 25 0 (bad_room c n) (omega arith) (or_clear _ _ z).0))
+
   module _ (room : List ℕ) where
     pub room-kept : ((write_fault t c (length room)).status ≡ 0 → ⊥) → written_room t c room ≡ room
     unfolding written_room
     room-kept h = if_fault_lem (write_fault t c (length room)) room (record_bytes t c) h
 
-    pub room-written : (write_fault t c (length room)).status ≡ 0 → written_room t c room ≡ record_bytes t c
-    unfolding written_room
-    room-written z = if_none (write_fault t c (length room)) room (record_bytes t c) z
+    module _ (z : (write_fault t c (length room)).status ≡ 0) where
+      pub room-written : written_room t c room ≡ record_bytes t c
+      unfolding written_room
+      room-written = if_none (write_fault t c (length room)) room (record_bytes t c) z
 
-    -- as the code comes to it
-    pub write-short : (length room ≡ length_of (version_for c) → ⊥) → (fault 25 0 ≡ write_fault t c (length room)) × (room ≡ written_room t c room)
-    unfolding write_fault fields_fault
-    write-short l =
-        let e : write_fault t c (length room) ≡ fault 25 0 = given 25 0 _ _ (omega arith) (room-bad (length room) l) in
-        (sym e, sym (room-kept (is_fault 25 0 (omega arith) e)))
-
-    module _ {v : ℕ} {f : Fault} (l : length room ≡ length_of (version_for c)) (ve : v ≡ version_for c) (fe : f ≡ fields_fault v t c) where
-      write-judged : f ≡ write_fault t c (length room)
-      write-judged = fe ∙ ap (λ (v : ℕ). fields_fault v t c) ve ∙ sym (write-fields (length room) l)
-
-      pub write-refused : (f.status ≡ 0 → ⊥) → (f ≡ write_fault t c (length room)) × (room ≡ written_room t c room)
-      write-refused h = (write-judged, sym (room-kept (λ z. h (status write-judged ∙ z))))
-
-      pub write-given : {a b d : List ℕ} → f.status ≡ 0 → a ≡ sets room 0 (tensor_bytes v t) → b ≡ sets a config_at (config_bytes c) → d ≡ sets b record_length (little (fill_width (version_for c)) c.fill) → (f ≡ write_fault t c (length room)) × (d ≡ written_room t c room)
-      write-given z ea eb ed =
+      pub write-given : {v : ℕ} {a b d : List ℕ} → v ≡ version_for c → a ≡ sets room 0 (tensor_bytes v t) → b ≡ sets a config_at (config_bytes c) → d ≡ sets b record_length (little (fill_width (version_for c)) c.fill) → d ≡ written_room t c room
+      write-given ve ea eb ed =
           let e = ea ∙ ap (λ (v : ℕ). sets room 0 (tensor_bytes v t)) ve in
-          (write-judged, record_laid t c room l e eb ed ∙ sym (room-written (sym (status write-judged) ∙ z)))
+          record_laid t c room (write-long (length room) z) e eb ed ∙ sym room-written

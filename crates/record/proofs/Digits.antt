@@ -2,21 +2,26 @@
 -- and lists share. Assumes nothing.
 use Prim.Native.Nat.{ℕ, zero, suc, ◌+◌, ◌*◌, ◌/◌, ◌%◌, ◌^◌, ◌≤◌, ◌<◌}
 use native.Mathlib.Nat.{div-lt_iff_lt-mul, pow-suc}
+use native.Mathlib.Decide.{ℕ_discrete}
 use native.Mathlib.Omega.{arith}
 use mathlib.Core.Path.{◌≡◌, refl, sym, ap, ap₂, ◌∙◌}
-use mathlib.Core.Bool.{false, not}
+use mathlib.Core.Bool.{Bool, true, false, not, ◌||◌, ◌&&◌}
 use mathlib.Core.List.{List, [], ◌∷◌, ◌++◌}
-use borrow.Author.Tests.{eqb-true, not-false}
+use borrow.Author.Tests.{eq-eqb, ne_eqb, eqb-true, not-false}
 use lib.Dec.{eqb}
 use lib.ListN.{length, take, drop}
-use lib.Seq.{sets, get_or-drop}
-use Rattle.plane.specs.Arrays.{at, some}
+use lib.Seq.{get_or-take, get_or-drop}
+use mir.Syntax.{w16, w32}
+use Rattle.std.specs.Int.{from_le_bytes, to_le_bytes}
+use Rattle.std.specs.List.{flat_map, starts_with}
+use Rattle.plane.specs.Arrays.{at, some, array}
 use Rattle.plane.proofs.Numbers.{length_little}
 use Rattle.faults.proofs.Bools.{either_clear}
 use Rattle.plane.specs.Numbers.{little, number}
 use Rattle.record.specs.Layout.{part, consecutive, four_in, four_bytes}
 use Rattle.record.specs.RoundTrip.{Bytes}
-use Rattle.record.proofs.Parts.{part_cons, length_consecutive, sum_const, stored_next}
+use Rattle.plane.proofs.Arrays.{is_array}
+use Rattle.record.proofs.Parts.{part_cons, length_part, length_consecutive, sum_const}
 
 bytes_take : (n : ℕ) (bs : List ℕ) → Bytes bs → Bytes (take n bs)
 bytes_take zero bs h i = omega arith
@@ -66,42 +71,99 @@ unfolding number
 number_two p bs h =
     ap number (part_cons p 1 bs (omega arith)) ∙ ap (λ (m : ℕ). at bs p + 256 * m) (number_one (p + 1) bs (omega arith))
 
-pub number_four : (p : ℕ) (bs : List ℕ) → p + 4 ≤ length bs → number (part p 4 bs) ≡ number (part p 2 bs) + 65536 * number (part (p + 2) 2 bs)
+-- what the library makes of two bytes and of four, and the bytes that it makes of a number
+pub two_bytes : (bs : List ℕ) → length bs ≡ 2 → from_le_bytes w16 bs ≡ number bs
 unfolding number
-number_four p bs h =
-    let e : p + 1 + 1 ≡ p + 2 = omega arith in
-    ap number (part_cons p 3 bs (omega arith) ∙ ap (λ (l : List ℕ). at bs p ∷ l) (part_cons (p + 1) 2 bs (omega arith) ∙ ap (λ (k : ℕ). at bs (p + 1) ∷ part k 2 bs) e)) ∙
-    (let t = number_two p bs (omega arith) in
-    let z : at bs p + 256 * (at bs (p + 1) + 256 * number (part (p + 2) 2 bs)) ≡ number (part p 2 bs) + 65536 * number (part (p + 2) 2 bs) = omega arith in
-    z)
+two_bytes (a ∷ b ∷ []) h = omega arith
+two_bytes [] h = omega arith
+two_bytes (a ∷ []) h = omega arith
+two_bytes (a ∷ b ∷ c ∷ bs) h = omega arith
 
--- the bytes of a word are those of its halves
-pub little_halves : (x : ℕ) → little 4 x ≡ little 2 x ++ little 2 (x / 65536)
+pub four_bytes_are : (bs : List ℕ) → length bs ≡ 4 → from_le_bytes w32 bs ≡ number bs
+unfolding number
+four_bytes_are (a ∷ b ∷ c ∷ d ∷ []) h = omega arith
+four_bytes_are [] h = omega arith
+four_bytes_are (a ∷ []) h = omega arith
+four_bytes_are (a ∷ b ∷ []) h = omega arith
+four_bytes_are (a ∷ b ∷ c ∷ []) h = omega arith
+four_bytes_are (a ∷ b ∷ c ∷ d ∷ e ∷ bs) h = omega arith
+
+pub half_bytes : (x : ℕ) → to_le_bytes w16 x ≡ little 2 x
 unfolding little
-little_halves x =
+half_bytes x = refl
+
+pub word_bytes : (x : ℕ) → to_le_bytes w32 x ≡ little 4 x
+unfolding little
+word_bytes x =
     let two : x / 256 / 256 ≡ x / 65536 = omega arith in
-    rw two
+    let three : x / 256 / 256 / 256 ≡ x / 16777216 = omega arith in
+    λ i. x % 256 ∷ x / 256 % 256 ∷ sym two i % 256 ∷ sym three i % 256 ∷ []
 
--- ---- numbers stored one after another
-
-pub two_halves : (l : List ℕ) (p x : ℕ) {a b : List ℕ} → a ≡ sets l p (little 2 x) → b ≡ sets a (p + 2) (little 2 (x / 65536)) → b ≡ sets l p (little 4 x)
-two_halves l p x ea eb =
-    (stored_next l p (little 2 x) (little 2 (x / 65536)) 2 (record { is = ea; long = length_little 2 x }) (length_little 2 (x / 65536)) eb).is ∙
-    ap (sets l p) (sym (little_halves x))
+-- ---- groups
 
 pub length_four : (w : ℕ) (xs : List ℕ) → length (four_bytes w xs) ≡ 4 * w
 length_four w xs = length_consecutive 4 (λ d. little w (at xs d)) (λ _. w) (λ k _. length_little w (at xs k)) ∙ sum_const 4 w
 
-pub four_stored : (l : List ℕ) (p w : ℕ) (xs : List ℕ) {a b c d : List ℕ} → a ≡ sets l p (little w (at xs 0)) → b ≡ sets a (p + w) (little w (at xs 1)) → c ≡ sets b (p + (w + w)) (little w (at xs 2)) → d ≡ sets c (p + (w + w + w)) (little w (at xs 3)) → d ≡ sets l p (four_bytes w xs)
+-- a group of single bytes is those four bytes
+pub four_singles : (p : ℕ) (bs : List ℕ) → p + 4 ≤ length bs → part p 4 bs ≡ four_in p 1 bs
+four_singles p bs h =
+    let one : (d : ℕ) → d < 4 → number (part (p + d * 1) 1 bs) ≡ at (part p 4 bs) d =
+    λ d q. ap (λ (k : ℕ). number (part k 1 bs)) (let z : p + d * 1 ≡ p + d = omega arith in z) ∙ number_one (p + d) bs (omega arith) ∙
+    sym (get_or-take 4 (drop p bs) d 0 q ∙ get_or-drop p bs d 0) in
+    is_array 0 (part p 4 bs) _ (length_part p 4 bs h) (λ d q. sym (one d q))
+
+pub singles_bytes : (xs : List ℕ) → length xs ≡ 4 → Bytes xs → xs ≡ four_bytes 1 xs
+unfolding consecutive little
+singles_bytes (x ∷ y ∷ z ∷ w ∷ []) h b =
+    let e0 : x % 256 ≡ x = let l = b 0 in omega arith in
+    let e1 : y % 256 ≡ y = let l = b 1 in omega arith in
+    let e2 : z % 256 ≡ z = let l = b 2 in omega arith in
+    let e3 : w % 256 ≡ w = let l = b 3 in omega arith in
+    λ i. sym e0 i ∷ sym e1 i ∷ sym e2 i ∷ sym e3 i ∷ []
+singles_bytes [] h b = absurd (omega arith)
+singles_bytes (x ∷ []) h b = absurd (omega arith)
+singles_bytes (x ∷ y ∷ []) h b = absurd (omega arith)
+singles_bytes (x ∷ y ∷ z ∷ []) h b = absurd (omega arith)
+singles_bytes (x ∷ y ∷ z ∷ w ∷ v ∷ xs) h b = absurd (omega arith)
+
+-- the bytes that the library makes of four words, one after the other
+pub words_bytes : (xs : List ℕ) → flat_map (λ x. x) (array (λ d. to_le_bytes w32 (at xs d))) ≡ four_bytes 4 xs
 unfolding consecutive
-four_stored l p w xs ea eb ec ed =
-    let n : ℕ → List ℕ = λ k. little w (at xs k) in
-    let long : (k : ℕ) → length (little w (at xs k)) ≡ w = λ k. length_little w (at xs k) in
-    let one = stored_next l p (n 0) (n 1) w (record { is = ea; long = long 0 }) (long 1) eb in
-    let two = stored_next l p (n 0 ++ n 1) (n 2) w one (long 2) ec in
-    (stored_next l p (n 0 ++ n 1 ++ n 2) (n 3) w two (long 3) ed).is
+words_bytes xs =
+    let w : (d : ℕ) → to_le_bytes w32 (at xs d) ≡ little 4 (at xs d) = λ d. word_bytes (at xs d) in
+    ap (λ (f : ℕ → List ℕ). f 0 ++ f 1 ++ f 2 ++ f 3) (λ i d. w d i)
 
 -- ---- a head: a mark of three bytes, a version in two, and two bytes more
+
+turned : (m n : ℕ) → eqb m n ≡ eqb n m
+turned m n = elim (ℕ_discrete m n) [
+  | yes e ↦ eq-eqb m n e ∙ sym (eq-eqb n m (sym e))
+  | no h ↦ ne_eqb m n h ∙ sym (ne_eqb n m (λ e. h (sym e)))
+]
+
+-- the library's test of the mark, and the definition's
+mark_tested : (x y z : ℕ) (bs : List ℕ) → 3 ≤ length bs → starts_with eqb bs (x ∷ y ∷ z ∷ []) ≡ not (some 3 (λ k. not (eqb (at bs k) (at (x ∷ y ∷ z ∷ []) k))))
+unfolding some
+mark_tested x y z (a ∷ b ∷ c ∷ bs) h = ap₃ x a y b z c ∙ each (eqb a x) (eqb b y) (eqb c z)
+  where
+    ap₃ : (x a y b z c : ℕ) → (eqb x a && (eqb y b && (eqb z c && true))) ≡ (eqb a x && (eqb b y && (eqb c z && true)))
+    ap₃ x a y b z c = λ i. turned x a i && (turned y b i && (turned z c i && true))
+
+    each : (p q r : Bool) → (p && (q && (r && true))) ≡ not (not p || not q || not r)
+    each true true true = refl
+    each true true false = refl
+    each true false r = refl
+    each false q r = refl
+mark_tested x y z [] h = absurd (omega arith)
+mark_tested x y z (a ∷ []) h = absurd (omega arith)
+mark_tested x y z (a ∷ b ∷ []) h = absurd (omega arith)
+
+pub mark_told : (x y z : ℕ) (bs : List ℕ) → 3 ≤ length bs → {b d : Bool} → b ≡ starts_with eqb bs (x ∷ y ∷ z ∷ []) → b ≡ d → some 3 (λ k. not (eqb (at bs k) (at (x ∷ y ∷ z ∷ []) k))) ≡ not d
+mark_told x y z bs l e h = sym (not_not _) ∙ ap not (sym (mark_tested x y z bs l) ∙ sym e ∙ h)
+  where
+    not_not : (b : Bool) → not (not b) ≡ b
+    not_not true = refl
+    not_not false = refl
 
 -- bytes that have this mark and this version start with them
 pub head_is : (x y z v : ℕ) (bs rest : List ℕ) → Bytes bs → 7 ≤ length bs → some 3 (λ k. not (eqb (at bs k) (at (x ∷ y ∷ z ∷ []) k))) ≡ false → not (eqb (number (part 3 2 bs)) v) ≡ false → rest ≡ part 5 2 bs → (x ∷ y ∷ z ∷ []) ++ little 2 v ++ rest ≡ part 0 7 bs
@@ -121,11 +183,3 @@ head_is x y z v bs rest b l m same r =
   where
     next : (p n byte : ℕ) (after : List ℕ) → p < length bs → byte ≡ at bs p → after ≡ part (p + 1) n bs → byte ∷ after ≡ part p (suc n) bs
     next p n byte after h e q = (λ i. e i ∷ q i) ∙ sym (part_cons p n bs h)
-
--- ---- four numbers read
-
-pub four_read : (p w : ℕ) (bs : List ℕ) {a b c d : ℕ} → a ≡ number (part p w bs) → b ≡ number (part (p + 1 * w) w bs) → c ≡ number (part (p + 2 * w) w bs) → d ≡ number (part (p + 3 * w) w bs) → a ∷ b ∷ c ∷ d ∷ [] ≡ four_in p w bs
-four_read p w bs ea eb ec ed =
-    let z : p ≡ p + 0 * w = omega arith in
-    let ez = ea ∙ ap (λ (k : ℕ). number (part k w bs)) z in
-    λ i. ez i ∷ eb i ∷ ec i ∷ ed i ∷ []

@@ -1,27 +1,30 @@
 -- What the fields of a record come to where a test in code stops them, and where none does. Assumes nothing.
-use Prim.Native.Nat.{ℕ, ◌^◌, ◌<◌}
+use Prim.Native.Nat.{ℕ}
 use native.Mathlib.Omega.{arith}
-use mathlib.Core.Path.{◌≡◌, refl, sym, ◌∙◌}
-use mathlib.Core.Bool.{Bool, true, false, ◌||◌}
-use borrow.Author.Tests.{eq-eqb, ne_eqb, lt-leb}
+use native.Mathlib.Decide.{ℕ_discrete}
+use mathlib.Core.Path.{◌≡◌, refl, sym, ap, ◌∙◌}
+use mathlib.Core.Bool.{true, false}
+use borrow.Author.Tests.{eq-eqb, ne_eqb}
 use lib.Dec.{eqb}
 use Rattle.plane.specs.declared.Tensor.{Tensor}
 use Rattle.plane.specs.declared.Config.{Config}
 use Rattle.plane.specs.Planes.{bad_rank, bad_element}
 use Rattle.faults.specs.declared.Fault.{Fault}
-use Rattle.faults.specs.Faults.{fault, lowest, from_first}
+use Rattle.faults.specs.Faults.{fault, lowest, from_first, Rules, first_fault, outcome}
 use Rattle.faults.proofs.Bools.{both, not_first, not_second}
 use Rattle.faults.proofs.Faults.{or_path, given, spared, when_bad, when_good, passed, stopped}
-use Rattle.faults.proofs.Chains.{unbroken, or_last}
+use Rattle.faults.proofs.Chains.{unbroken, unbroken_none, or_last}
+use Rattle.faults.proofs.Outcomes.{outcome_ok, outcome_err}
+use Rattle.faults.specs.Exactness.{Positive}
+use Rattle.record.specs.Private.{fault_in}
 use Rattle.record.specs.Records.{stray, bad_fill, fields_rules, fields_fault}
 
--- of an element of four bytes every byte of a fill is used
-pub fill_used : (z n : ℕ) → z ≡ 4 → n < 256 ^ 4 → eqb n 0 ≡ bad_fill z n
-fill_used z n e h = rw (e, lt-leb (256 ^ 4) n h) (right (eqb n 0))
-  where
-    right : (b : Bool) → b ≡ (b || false)
-    right true = refl
-    right false = refl
+-- the fault that a check of rules tells is what they give
+pub fault_back : {A : Type 0} (rs : Rules) → Positive rs → (x : A) → fault_in (outcome (first_fault rs) x) ≡ first_fault rs
+fault_back rs p x = elim (ℕ_discrete (first_fault rs).status 0) [
+  | yes z ↦ ap fault_in (outcome_ok (first_fault rs) x z) ∙ sym (unbroken_none rs (unbroken rs p z))
+  | no z ↦ ap fault_in (outcome_err (first_fault rs) x z)
+]
 
 module _ (v : ℕ) (t : Tensor) (c : Config) where
   pub fields_1 : bad_rank t.rank ≡ true → fault 1 0 ≡ fields_fault v t c

@@ -1,11 +1,12 @@
 -- Laws of lists: parts of a list, lists one after the other (`specs/Layout.antt`), and runs of stores. Assumes nothing.
-use Prim.Native.Nat.{ℕ, zero, suc, ◌+◌, ◌*◌, ◌≤◌, ◌<◌}
+use Prim.Native.Nat.{ℕ, zero, suc, ◌+◌, ◌-◌, ◌*◌, ◌≤◌, ◌<◌}
 use native.Mathlib.Nat.{not-suc-le-zero, le_of_suc-le-suc, eq-or-lt_of_le}
 use native.Mathlib.Numerals.{add-one}
 use native.Mathlib.Omega.{arith}
 use mathlib.Core.Path.{◌≡◌, refl, sym, ap, ap₂, subst, ◌∙◌}
 use mathlib.Core.Logic.{⊎_elim}
-use mathlib.Core.List.{List, [], ◌∷◌, ◌++◌, append-nil}
+use mathlib.Core.List.{List, [], ◌∷◌, ◌++◌, append-nil, append_assoc}
+use borrow.Rule.Slice.PartMut.{put_mid}
 use lib.ListN.{length, take, drop, length-append, length-drop, drop_of_length-le}
 use lib.Seq.{sets, sets-eq, length-take-le, take_all, drop-cons, take-append-le, drop-append-le, drop-append-add, drop_at, take-take, take-add, drop-drop}
 use Rattle.plane.specs.Arrays.{at, sum}
@@ -116,3 +117,10 @@ stored_next l i xs ys k {n} s q e =
       is = e ∙ ap (λ (m : List ℕ). sets m (i + n) ys) s.is ∙ sets_next xs ys l i (i + n) (omega arith);
       long = omega arith;
     }
+
+-- in code: a list copied into the part of l that is as long
+pub part_put : (l : List ℕ) (p : ℕ) (xs ys : List ℕ) → p + length xs ≤ length l → ys ≡ xs → put_mid p (p + length xs - p) l ys ≡ sets l p xs
+part_put l p xs ys h e =
+    let n : p + length xs - p ≡ length xs = omega arith in
+    (λ i. take p l ++ (e i ++ drop (n i) (drop p l))) ∙ ap (λ (r : List ℕ). take p l ++ (xs ++ r)) (drop-drop (length xs) p l) ∙
+    sym (append_assoc (take p l) xs (drop (p + length xs) l)) ∙ sym (sets-eq xs l p h)

@@ -7,15 +7,14 @@ use mathlib.Core.Bool.{Bool, true, false, cond}
 use mathlib.Core.List.{List, [], ◌∷◌}
 use borrow.Author.Tests.{lt-ltb, le-ltb, ltb-true, ltb-false}
 use lib.Dec.{ltb}
-use lib.IntN.{ℤ, pos, negsuc, ◌-ℤ◌}
+use lib.IntN.{ℤ, pos, negsuc}
 use lib.ListN.{length, length-map}
 use mir.Syntax.{w32}
-use mir.Val.{SFits, to_z, of_z}
+use mir.Val.{Fits, to_z, of_z}
 use mir.Facts.{to_z-of_z}
 use Rattle.plane.specs.Arrays.{at, array}
 use Rattle.plane.specs.Signs.{at_z}
 use Rattle.plane.proofs.Arrays.{is_array}
-use Rattle.plane.proofs.Signed.{cast_is, minus_pos}
 use Rattle.record.specs.Layout.{twos_word, twos_number, twos_words, twos_numbers}
 use Rattle.record.specs.RoundTrip.{InRange, TwosComplement, WordsAtTheEnds}
 
@@ -114,34 +113,22 @@ words_back (x ∷ xs) h = λ i. word_back x (h 0 (omega arith)) i ∷ words_back
 
 -- ---- in code
 
--- one by one
-pub words_array : (zs : List ℤ) → length zs ≡ 4 → array (λ d. twos_word (at_z zs d)) ≡ twos_words zs
-words_array zs e = sym (is_array 0 (twos_words zs) _ (words_length zs ∙ e) (λ d h. words_at zs d))
-
-pub numbers_array : (xs : List ℕ) → length xs ≡ 4 → array (λ d. twos_number (at xs d)) ≡ twos_numbers xs
-numbers_array xs e = sym (is_array (pos 0) (twos_numbers xs) _ (numbers_length xs ∙ e) (λ d h. numbers_at xs d))
-
 -- the word of a number is what the machine has of it
+machine_is : (z : ℤ) → of_z w32 z ≡ twos_word z
+machine_is (pos n) = refl
+machine_is (negsuc n) = refl
+
 pub machine_word : (zs : List ℤ) (d : ℕ) → at (twos_words zs) d ≡ of_z w32 (at_z zs d)
-machine_word zs d = words_at zs d ∙ sym (same (at_z zs d))
-  where
-    same : (z : ℤ) → of_z w32 z ≡ twos_word z
-    same (pos n) = refl
-    same (negsuc n) = refl
+machine_word zs d = words_at zs d ∙ sym (machine_is (at_z zs d))
 
--- `x as i32`, of a word below 2^31
-pub low_is : (x : ℕ) → x < 2147483648 → to_z w32 x ≡ twos_number x
-low_is x h = cast_is h ∙ sym (low x h)
+pub machine_words : (zs : List ℤ) → length zs ≡ 4 → array (λ d. of_z w32 (at_z zs d)) ≡ twos_words zs
+machine_words zs e = sym (is_array 0 (twos_words zs) _ (words_length zs ∙ e) (λ d h. machine_word zs d))
 
--- `-1 - (0xffffffff - x) as i32`, of any other
-module _ (x : ℕ) (h : 2147483648 ≤ x) where
-  less : negsuc 0 -ℤ to_z w32 (4294967295 - x) ≡ negsuc (4294967295 - x)
-  less = ap (λ (z : ℤ). negsuc 0 -ℤ z) (cast_is {n = 4294967295 - x} (omega arith)) ∙ minus_pos (4294967295 - x)
+-- and the number of a word is what it reads
+machine_number : (x : ℕ) → x < 4294967296 → to_z w32 x ≡ twos_number x
+machine_number x h =
+    ap (to_z w32) (sym (word_back x h) ∙ sym (machine_is (twos_number x))) ∙ to_z-of_z {w = w32} {z = twos_number x} (record { sfits = in_range x h })
 
-  pub high_fits : SFits w32 (negsuc 0 -ℤ to_z w32 (4294967295 - x))
-  high_fits = rw less (record { sfits = omega arith })
-
-  pub high_is : to_z w32 (of_z w32 (negsuc 0 -ℤ to_z w32 (4294967295 - x))) ≡ twos_number x
-  high_is =
-      let e : 4294967295 - x ≡ 4294967296 - suc x = omega arith in
-      to_z-of_z high_fits ∙ less ∙ ap negsuc e ∙ sym (high x h)
+pub machine_numbers : (xs : List ℕ) → length xs ≡ 4 → ((d : ℕ) → Fits w32 (at xs d)) → array (λ d. to_z w32 (at xs d)) ≡ twos_numbers xs
+machine_numbers xs e f =
+    sym (is_array (pos 0) (twos_numbers xs) _ (numbers_length xs ∙ e) (λ d h. numbers_at xs d ∙ sym (machine_number (at xs d) (f d).fits)))

@@ -1,9 +1,16 @@
 -- What the contracts of private functions cite. No reader of a public contract needs this file.
-use Rattle.std.specs.Prelude.{ℕ, ◌+◌, ◌*◌, List, ◌++◌}
+use Rattle.std.specs.Prelude.{ℕ, ◌+◌, ◌*◌, List, ◌++◌, Result, Ok, Err}
+use Rattle.faults.specs.declared.Fault.{Fault}
+use Rattle.faults.specs.Faults.{none}
 use Rattle.plane.specs.declared.Tensor.{Tensor}
 use Rattle.plane.specs.declared.Config.{Config}
 use Rattle.plane.specs.Settings.{array_count, array_of}
 use Rattle.record.specs.Layout.{consecutive, twos_words, head_length, head_bytes, width, four_bytes}
+
+-- the fault that a check tells: none where it passes
+abbrev pub fault_in : {A : Type 0} → Result A Fault → Fault
+fault_in (Ok x) = none
+fault_in (Err f) = f
 
 -- the bytes of a record of version v up to the end of the strides
 unfoldable pub tensor_bytes : ℕ → Tensor → List ℕ

@@ -2,14 +2,15 @@
 ghost use Rattle.std.specs.Prelude.{◌≡◌, not, ◌≤◌, ◌<◌, eqb};
 ghost use Rattle.plane.specs.Arrays.{at, some};
 ghost use Rattle.plane.specs.Planes.{Sized};
-ghost use Rattle.faults.specs.Faults.{lowest};
+ghost use Rattle.faults.specs.Faults.{lowest, outcome};
 ghost use Rattle.record.specs.Layout.{group_count, group};
 ghost use Rattle.record.specs.Records.{stray, bad_fill, fields_fault};
+ghost use Rattle.record.specs.Private.{fault_in};
 
 use crate::layout;
 use plane::{Config, Fault, Tensor, element_size, rank_is_bad};
 
-// Whether some group has an entry d that is not 0.
+// Whether some group has an entry d that is not 0. The groups have three types of number, so an array of them would need conversions.
 fn has_entry(t: Tensor, c: Config, d: usize) -> bool
     requires { d < 4 }
     ensures { result ≡ some group_count (λ k. not (eqb (at (group t c k) d) 0)) }
@@ -27,17 +28,17 @@ fn has_entry(t: Tensor, c: Config, d: usize) -> bool
 }
 
 // 28: the lowest dimension at or past the rank that has an entry.
-fn stray_fault(t: Tensor, c: Config) -> Fault
+fn check_stray(t: Tensor, c: Config) -> Result<(), Fault>
     requires { t.rank ≤ 4 }
-    ensures { result ≡ lowest 28 4 (stray t c) }
+    ensures { result ≡ outcome (lowest 28 4 (stray t c)) tt }
 {
     let n = t.rank;
     for d in n..4 {
         if has_entry(t, c, d as usize) {
-            return Fault { status: 28, dim: d };
+            return Err(Fault { status: 28, dim: d });
         }
     }
-    Fault { status: 0, dim: 0 }
+    Ok(())
 }
 
 // 28 of version 2: a fill of 0, or one with a byte past the element size that is not 0.
@@ -45,39 +46,49 @@ fn fill_is_bad(size: u8, fill: u32) -> bool
     requires { Sized size }
     ensures { result ≡ bad_fill size fill }
 {
-    if size == 1 {
-        return (fill == 0) | (0x100 <= fill);
+    match size {
+        1 => (fill == 0) | (0x100 <= fill),
+        2 => (fill == 0) | (0x10000 <= fill),
+        3 => (fill == 0) | (0x1000000 <= fill),
+        _ => fill == 0,
     }
-    if size == 2 {
-        return (fill == 0) | (0x10000 <= fill);
-    }
-    if size == 3 {
-        return (fill == 0) | (0x1000000 <= fill);
-    }
-    fill == 0
 }
 
 // What a record of that version refuses of its fields: 1, for version 2 also 2, 28, and for version 2 also 28 at dimension 0. Any
 // version but 2 is judged as 1 is, which asks nothing of the fill.
-pub fn fields_fault(version: u16, tensor: Tensor, config: Config) -> Fault
-    ensures { result ≡ fields_fault version tensor config }
+pub(crate) fn check_fields(version: u16, tensor: Tensor, config: Config) -> Result<(), Fault>
+    ensures { result ≡ outcome (fields_fault version tensor config) tt }
 {
     if rank_is_bad(tensor.rank) {
-        return Fault { status: 1, dim: 0 };
+        return Err(Fault { status: 1, dim: 0 });
     }
     let is_plain = version != layout::VERSION_2;
     if is_plain {
-        return stray_fault(tensor, config);
+        return check_stray(tensor, config);
     }
     if element_size(tensor.element_size) == 0 {
-        return Fault { status: 2, dim: 0 };
+        return Err(Fault { status: 2, dim: 0 });
     }
-    let f = stray_fault(tensor, config);
-    if f.status != 0 {
-        return f;
-    }
+    check_stray(tensor, config)?;
     if fill_is_bad(tensor.element_size, config.fill) {
-        return Fault { status: 28, dim: 0 };
+        return Err(Fault { status: 28, dim: 0 });
     }
-    f
+    Ok(())
+}
+
+// The fault that a check tells, with number 0 where it passed.
+pub(crate) fn fault_of(checked: Result<(), Fault>) -> Fault
+    ensures { result ≡ fault_in checked }
+{
+    match checked {
+        Ok(()) => Fault { status: 0, dim: 0 },
+        Err(fault) => fault,
+    }
+}
+
+// What a record of that version refuses of its fields.
+pub fn fields_fault(version: u16, tensor: Tensor, config: Config) -> Fault
+    ensures { result ≡ fields_fault version tensor config }
+{
+    fault_of(check_fields(version, tensor, config))
 }

@@ -16,7 +16,8 @@ pub use reader::read;
 pub use versions::{length_for, length_in};
 pub use writer::write;
 
-// What bytes hold: status 0 with the fields, or a number of refusal with its dimension and zeros besides.
+// What bytes hold: status 0 with the fields, or a number of refusal with its dimension and zeros besides. `read` promises these numbers, and
+// the theorems on `read_of` speak of them, so the public answer is no Result.
 #[derive(Clone, Copy)]
 pub struct Reading {
     pub status: u8,

@@ -1,29 +1,14 @@
-// A record read.
+// A record read, each field at its place, as layout.rt and the table in specs/Layout have them.
 ghost use Rattle.std.specs.Prelude.{◌≡◌, false, ◌≤◌, length};
 ghost use Rattle.record.specs.Layout.{record_length, fill_in};
-ghost use Rattle.record.specs.Records.{bad_length, bad_mark, bad_version, tensor_in, config_in, no_reading, read_of};
+ghost use Rattle.faults.specs.Faults.{outcome};
+ghost use Rattle.record.specs.Records.{bad_length, tensor_in, config_in, read_fault, read_of};
 
-use crate::checks::fields_fault;
+use crate::checks::check_fields;
 use crate::numbers::{half, of_words, singles, word, words};
 use crate::versions::version_by_length;
 use crate::{Reading, layout};
 use plane::{Config, Fault, Tensor};
-
-// 26
-fn mark_is_bad(bytes: &[u8]) -> bool
-    requires { record_length ≤ length bytes.now }
-    ensures { result ≡ bad_mark bytes.now }
-{
-    (bytes[0] != layout::MARK[0]) | (bytes[1] != layout::MARK[1]) | (bytes[2] != layout::MARK[2])
-}
-
-// 27
-fn version_is_bad(bytes: &[u8]) -> bool
-    requires { record_length ≤ length bytes.now }
-    ensures { result ≡ bad_version bytes.now }
-{
-    half(bytes, layout::VERSION_AT) != version_by_length(bytes.len()) as u32
-}
 
 // The tensor record, unjudged.
 fn tensor_in(bytes: &[u8]) -> Tensor
@@ -68,41 +53,42 @@ fn config_in(bytes: &[u8]) -> Config
     }
 }
 
-// Zeros besides the fault.
-fn refused(f: Fault) -> Reading
-    ensures { result ≡ no_reading f }
+// The fields that any bytes hold, or 25 to 27, 1, 2 or 28. In version 1 the element size is not looked at.
+fn fields_in(bytes: &[u8]) -> Result<(Tensor, Config), Fault>
+    ensures { result ≡ outcome (read_fault bytes.now) (tensor_in bytes.now, config_in bytes.now) }
 {
-    Reading {
-        status: f.status,
-        dim: f.dim,
-        tensor: Tensor::zero(),
-        config: Config::zero(),
+    if (bytes.len() != layout::LENGTH) & (bytes.len() != layout::FILLED_LENGTH) {
+        return Err(Fault { status: 25, dim: 0 });
     }
+    if !bytes.starts_with(&layout::MARK) {
+        return Err(Fault { status: 26, dim: 0 });
+    }
+    let version = version_by_length(bytes.len());
+    if half(bytes, layout::VERSION_AT) != version {
+        return Err(Fault { status: 27, dim: 0 });
+    }
+    let tensor = tensor_in(bytes);
+    let config = config_in(bytes);
+    check_fields(version, tensor, config)?;
+    Ok((tensor, config))
 }
 
-// The fields that any bytes hold, or 25 to 27, 1, 2 or 28. In version 1 the element size is not looked at.
+// The fields that any bytes hold, or a refusal and zeros besides.
 pub fn read(bytes: &[u8]) -> Reading
     ensures { result ≡ read_of bytes.now }
 {
-    if (bytes.len() != layout::LENGTH) & (bytes.len() != layout::FILLED_LENGTH) {
-        return refused(Fault { status: 25, dim: 0 });
-    }
-    if mark_is_bad(bytes) {
-        return refused(Fault { status: 26, dim: 0 });
-    }
-    if version_is_bad(bytes) {
-        return refused(Fault { status: 27, dim: 0 });
-    }
-    let t = tensor_in(bytes);
-    let c = config_in(bytes);
-    let f = fields_fault(version_by_length(bytes.len()), t, c);
-    if f.status != 0 {
-        return refused(f);
-    }
-    Reading {
-        status: 0,
-        dim: 0,
-        tensor: t,
-        config: c,
+    match fields_in(bytes) {
+        Ok((tensor, config)) => Reading {
+            status: 0,
+            dim: 0,
+            tensor,
+            config,
+        },
+        Err(fault) => Reading {
+            status: fault.status,
+            dim: fault.dim,
+            tensor: Tensor::zero(),
+            config: Config::zero(),
+        },
     }
 }

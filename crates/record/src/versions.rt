@@ -1,4 +1,5 @@
-// The two versions of a record. Version 2 is version 1 with the fill at the end; a fill of 0 is written as version 1.
+// The two versions of a record. Version 2 is version 1 with the fill at the end; a fill of 0 is written as version 1. A version stays the
+// number that the bytes have: fields_fault takes any number, so an enum would be made of a number and turned back wherever it is used.
 ghost use Rattle.std.specs.Prelude.{◌≡◌};
 ghost use Rattle.record.specs.Layout.{length_of, version_by_length, version_for};
 ghost use Rattle.record.specs.Records.{length_in};
@@ -45,8 +46,7 @@ pub fn length_in(bytes: &[u8]) -> usize
     if bytes.len() < layout::VERSION_END {
         return layout::LENGTH;
     }
-    let version = half(bytes, layout::VERSION_AT);
-    length_of(version as u16)
+    length_of(half(bytes, layout::VERSION_AT))
 }
 
 // How long the record of a configuration is: the room that a write asks for.

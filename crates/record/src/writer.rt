@@ -1,14 +1,15 @@
 // A record written.
 ghost use Rattle.std.specs.Prelude.{◌≡◌, ◌≤◌, length};
 ghost use Rattle.std.proofs.lemmas.List.Edits.{sets};
+ghost use Rattle.faults.specs.Faults.{outcome};
 ghost use Rattle.plane.specs.Numbers.{little};
 ghost use Rattle.record.specs.Layout.{record_length, fill_width, length_of, version_for, head_bytes};
 ghost use Rattle.record.specs.Records.{write_fault, written_room};
 ghost use Rattle.record.specs.Private.{tensor_bytes, config_at, config_bytes};
 
-use crate::checks::fields_fault;
+use crate::checks::{check_fields, fault_of};
 use crate::layout;
-use crate::numbers::{put_half, put_singles, put_word, put_words, words_of};
+use crate::numbers::{put, put_half, put_singles, put_word, put_words, words_of};
 use crate::versions::{length_for, version_for};
 use plane::{Config, Fault, Tensor};
 
@@ -17,12 +18,9 @@ fn put_head(room: &mut [u8], version: u16, rank: u8, size: u8)
     requires { record_length ≤ length room.old }
     ensures { room.new ≡ sets room.old 0 (head_bytes version rank size) }
 {
-    room[0] = layout::MARK[0];
-    room[1] = layout::MARK[1];
-    room[2] = layout::MARK[2];
-    put_half(room, layout::VERSION_AT, version as u32);
-    room[layout::RANK] = rank;
-    room[layout::ELEMENT_SIZE] = size;
+    put(room, 0, &layout::MARK);
+    put_half(room, layout::VERSION_AT, version);
+    put(room, layout::RANK, &[rank, size]);
 }
 
 // The bytes up to the end of the strides.
@@ -30,11 +28,9 @@ fn put_tensor(room: &mut [u8], version: u16, t: Tensor)
     requires { record_length ≤ length room.old }
     ensures { room.new ≡ sets room.old 0 (tensor_bytes version t) }
 {
-    let shape = t.shape;
-    let stride = t.stride;
     put_head(room, version, t.rank, t.element_size);
-    put_words(room, layout::SHAPE, shape);
-    put_words(room, layout::STRIDE, words_of(stride));
+    put_words(room, layout::SHAPE, t.shape);
+    put_words(room, layout::STRIDE, words_of(t.stride));
 }
 
 // The bytes from there to the end of the groups.
@@ -42,22 +38,14 @@ fn put_config(room: &mut [u8], c: Config)
     requires { record_length ≤ length room.old }
     ensures { room.new ≡ sets room.old config_at (config_bytes c) }
 {
-    let offset = c.offset;
-    let size = c.size;
-    let step = c.step;
-    let dst_offset = c.dst_offset;
-    let dst_stride = c.dst_stride;
-    let perm = c.perm;
-    let pre = c.pre;
-    let post = c.post;
-    put_words(room, layout::OFFSET, offset);
-    put_words(room, layout::SIZE, size);
-    put_words(room, layout::STEP, step);
-    put_words(room, layout::DST_OFFSET, dst_offset);
-    put_words(room, layout::DST_STRIDE, dst_stride);
-    put_singles(room, layout::PERM, perm);
-    put_singles(room, layout::PRE, pre);
-    put_singles(room, layout::POST, post);
+    put_words(room, layout::OFFSET, c.offset);
+    put_words(room, layout::SIZE, c.size);
+    put_words(room, layout::STEP, c.step);
+    put_words(room, layout::DST_OFFSET, c.dst_offset);
+    put_words(room, layout::DST_STRIDE, c.dst_stride);
+    put_singles(room, layout::PERM, c.perm);
+    put_singles(room, layout::PRE, c.pre);
+    put_singles(room, layout::POST, c.post);
 }
 
 // The fill, where it is written.
@@ -71,21 +59,27 @@ fn put_fill(room: &mut [u8], c: Config)
     put_word(room, layout::FILL, c.fill);
 }
 
-// The record into a room of its length, or 25, 1, 2 or 28 and the room as it was. A fill of 0 is written as version 1.
+// 25, 1, 2 or 28, for a room of n bytes.
+fn check_write(t: Tensor, c: Config, n: usize) -> Result<(), Fault>
+    ensures { result ≡ outcome (write_fault t c n) tt }
+{
+    if n != length_for(c) {
+        return Err(Fault { status: 25, dim: 0 });
+    }
+    check_fields(version_for(c), t, c)
+}
+
+// The record into a room of its length, or a refusal and the room as it was. A fill of 0 is written as version 1.
 pub fn write(tensor: Tensor, config: Config, room: &mut [u8]) -> Fault
     ensures answered { result ≡ write_fault tensor config (length room.old) }
     ensures written { room.new ≡ written_room tensor config room.old }
 {
-    if room.len() != length_for(config) {
-        return Fault { status: 25, dim: 0 };
+    // the public answer is the fault with its number, which `write_fault` says; and it decides what is written
+    let f = fault_of(check_write(tensor, config, room.len()));
+    if f.status == 0 {
+        put_tensor(room, version_for(config), tensor);
+        put_config(room, config);
+        put_fill(room, config);
     }
-    let version = version_for(config);
-    let f = fields_fault(version, tensor, config);
-    if f.status != 0 {
-        return f;
-    }
-    put_tensor(room, version, tensor);
-    put_config(room, config);
-    put_fill(room, config);
     f
 }

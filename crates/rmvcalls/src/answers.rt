@@ -1,169 +1,367 @@
-// What an answer's bytes are. Each function puts its value from byte p on and tells where the next goes; a byte that has no
-// place is left out.
-use crate::layout::{LONG, OUT, WORD};
-use list::Numbered;
-use mover::PixelAnswer;
-use plane::{Answer, Config, Fault, Tensor};
+// What a call answers, as a line of hexadecimal digits: its fields one after another, as docs/CALLS.md lists them. Numbers are
+// little endian.
+ghost use Rattle.std.specs.Prelude.{◌≤◌};
+ghost use Rattle.rmvcalls.specs.declared.answers.TheConstants.{LINE};
+
+use crate::lines::LONGEST;
+use keeper::{GivenBack, Granted, Placed};
+use list::{Appended, FirstTwo, Numbered};
+use mover::{Advanced, Job, Part, PixelAnswer, Verdict};
+use plane::{Answer, Config, Count, Fault, RoomAnswer, Source, SubTensor, Tensor};
 use ready_made::Made;
 use record::Reading;
-use transfers::{Job, Part, Slot, Table};
+use transfers::{
+    Changed, DONE, FREE, FreshTable, PREPARED, Poll, Prepared, RUNNING, Slot, Stepped, Table,
+};
 
-// Room for any answer.
-pub(crate) type Out = [u8; OUT];
+// The longest answer, a part of a source, is shorter than the longest call. A byte has two digits, and the line a newline.
+const LINE: usize = 2 * LONGEST + 1;
 
-pub(crate) fn byte(out: &mut Out, p: usize, x: u8) -> usize {
-    if p < OUT {
-        out[p] = x;
-        return p + 1;
+const DIGITS: [u8; 16] = *b"0123456789abcdef";
+
+// An answer's line so far, and how long it is. A character that has no place is left out.
+#[derive(Drop)]
+pub(crate) struct Out {
+    text: [u8; LINE],
+    len: usize,
+    ghost within: { len ≤ LINE },
+}
+
+impl Out {
+    pub(crate) fn new() -> Out {
+        Out {
+            text: [0; LINE],
+            len: 0,
+        }
     }
-    p
-}
 
-// The count lowest bytes of x, the lowest first.
-fn number(out: &mut Out, p: usize, x: u64, count: usize) -> usize {
-    let mut end = p;
-    let mut left = x;
-    for _ in 0..count {
-        end = byte(out, end, (left % 256) as u8);
-        left = left / 256;
+    pub(crate) fn clear(&mut self) {
+        self.len = 0;
     }
-    end
-}
 
-pub(crate) fn word(out: &mut Out, p: usize, x: u32) -> usize {
-    number(out, p, x as u64, WORD)
-}
-
-pub(crate) fn long(out: &mut Out, p: usize, x: u64) -> usize {
-    number(out, p, x, LONG)
-}
-
-pub(crate) fn words(out: &mut Out, p: usize, a: [u32; 4]) -> usize {
-    let mut end = p;
-    for d in 0..4 {
-        end = word(out, end, a[d]);
+    pub(crate) fn put<T: Put>(&mut self, x: T) {
+        x.put(self);
     }
-    end
-}
 
-// The word of a signed number, in two's complement.
-fn unsigned(s: i32) -> u32 {
-    if s < 0 {
-        return 0xffffffff - (-1 - s) as u32;
+    pub(crate) fn end_line(&mut self) {
+        self.push(b'\n');
     }
-    s as u32
-}
 
-fn strides(out: &mut Out, p: usize, a: [i32; 4]) -> usize {
-    let w = [
-        unsigned(a[0]),
-        unsigned(a[1]),
-        unsigned(a[2]),
-        unsigned(a[3]),
-    ];
-    words(out, p, w)
-}
-
-// A memory, whole.
-pub(crate) fn memory(out: &mut Out, p: usize, mem: &[u8]) -> usize {
-    let mut end = p;
-    for i in 0..mem.len() {
-        end = byte(out, end, mem[i]);
+    pub(crate) fn text(&self) -> &[u8] {
+        &self.text[..self.len]
     }
-    end
+
+    fn push(&mut self, ch: u8) {
+        if self.len < LINE {
+            self.text[self.len] = ch;
+            self.len += 1;
+        }
+    }
 }
 
-fn bytes(out: &mut Out, p: usize, a: [u8; 4]) -> usize {
-    memory(out, p, &a)
+// What can stand in an answer.
+pub(crate) trait Put {
+    // Puts it behind what is there.
+    fn put(self, out: &mut Out);
 }
 
-pub(crate) fn fault(out: &mut Out, p: usize, f: Fault) -> usize {
-    let p1 = byte(out, p, f.status);
-    byte(out, p1, f.dim)
+impl Put for u8 {
+    fn put(self, out: &mut Out) {
+        out.push(DIGITS[(self >> 4) as usize]);
+        out.push(DIGITS[(self & 15) as usize]);
+    }
 }
 
-pub(crate) fn tensor(out: &mut Out, p: usize, t: Tensor) -> usize {
-    let p1 = byte(out, p, t.rank);
-    let p2 = byte(out, p1, t.element_size);
-    let p3 = words(out, p2, t.shape);
-    strides(out, p3, t.stride)
+impl Put for bool {
+    fn put(self, out: &mut Out) {
+        out.put(u8::from(self));
+    }
 }
 
-pub(crate) fn config(out: &mut Out, p: usize, c: Config) -> usize {
-    let p1 = words(out, p, c.offset);
-    let p2 = words(out, p1, c.size);
-    let p3 = words(out, p2, c.step);
-    let p4 = words(out, p3, c.dst_offset);
-    let p5 = words(out, p4, c.dst_stride);
-    let p6 = bytes(out, p5, c.perm);
-    let p7 = bytes(out, p6, c.pre);
-    let p8 = bytes(out, p7, c.post);
-    word(out, p8, c.fill)
+// Each number has an impl of its own, since the library has no trait of what is made to bytes.
+impl Put for u16 {
+    fn put(self, out: &mut Out) {
+        out.put(self.to_le_bytes());
+    }
 }
 
-pub(crate) fn answer(out: &mut Out, p: usize, a: Answer) -> usize {
-    let p1 = byte(out, p, a.status);
-    let p2 = byte(out, p1, a.dim);
-    let p3 = byte(out, p2, a.rank);
-    let p4 = byte(out, p3, a.element_size);
-    let p5 = words(out, p4, a.extent);
-    let p6 = words(out, p5, a.stride);
-    long(out, p6, a.need)
+impl Put for u32 {
+    fn put(self, out: &mut Out) {
+        out.put(self.to_le_bytes());
+    }
 }
 
-pub(crate) fn made(out: &mut Out, p: usize, m: Made) -> usize {
-    let p1 = byte(out, p, m.status);
-    config(out, p1, m.config)
+impl Put for i32 {
+    fn put(self, out: &mut Out) {
+        out.put(self.to_le_bytes());
+    }
 }
 
-pub(crate) fn reading(out: &mut Out, p: usize, r: Reading) -> usize {
-    let p1 = byte(out, p, r.status);
-    let p2 = byte(out, p1, r.dim);
-    let p3 = tensor(out, p2, r.tensor);
-    config(out, p3, r.config)
+impl Put for u64 {
+    fn put(self, out: &mut Out) {
+        out.put(self.to_le_bytes());
+    }
 }
 
-pub(crate) fn numbered(out: &mut Out, p: usize, n: Numbered) -> usize {
-    let p1 = long(out, p, n.number as u64);
-    reading(out, p1, n.reading)
+// A length, a count, or a place in a list: a u64.
+impl Put for usize {
+    fn put(self, out: &mut Out) {
+        out.put(self.to_le_bytes());
+    }
 }
 
-// A number of refusal with its dimension, and how many.
-pub(crate) fn counted(out: &mut Out, p: usize, status: u8, dim: u8, count: u64) -> usize {
-    let p1 = byte(out, p, status);
-    let p2 = byte(out, p1, dim);
-    long(out, p2, count)
+impl<T: Put + Copy, const N: usize> Put for [T; N] {
+    fn put(self, out: &mut Out) {
+        for x in &self {
+            out.put(*x);
+        }
+    }
 }
 
-pub(crate) fn pixel(out: &mut Out, p: usize, x: PixelAnswer) -> usize {
-    let p1 = byte(out, p, x.status);
-    let p2 = byte(out, p1, x.dim);
-    let p3 = bytes(out, p2, x.bytes);
-    byte(out, p3, x.padding as u8)
+// A memory, or a part of one.
+impl Put for &[u8] {
+    fn put(self, out: &mut Out) {
+        for x in self {
+            out.put(*x);
+        }
+    }
 }
 
-pub(crate) fn part(out: &mut Out, p: usize, x: Part) -> usize {
-    let p1 = long(out, p, x.start);
-    long(out, p1, x.length)
+impl Put for Fault {
+    fn put(self, out: &mut Out) {
+        out.put(self.status);
+        out.put(self.dim);
+    }
 }
 
-fn job(out: &mut Out, p: usize, j: Job) -> usize {
-    let p1 = part(out, p, j.source);
-    let p2 = part(out, p1, j.destination);
-    let p3 = tensor(out, p2, j.tensor);
-    config(out, p3, j.config)
+impl Put for Tensor {
+    fn put(self, out: &mut Out) {
+        out.put(self.rank);
+        out.put(self.element_size);
+        out.put(self.shape);
+        out.put(self.stride);
+    }
 }
 
-fn slot(out: &mut Out, p: usize, s: Slot) -> usize {
-    let p1 = byte(out, p, s.state);
-    let p2 = job(out, p1, s.job);
-    long(out, p2, s.moved)
+impl Put for Config {
+    fn put(self, out: &mut Out) {
+        out.put(self.offset);
+        out.put(self.size);
+        out.put(self.step);
+        out.put(self.dst_offset);
+        out.put(self.dst_stride);
+        out.put(self.perm);
+        out.put(self.pre);
+        out.put(self.post);
+        out.put(self.fill);
+    }
 }
 
-pub(crate) fn table(out: &mut Out, p: usize, t: Table) -> usize {
-    let p1 = long(out, p, t.length);
-    let p2 = slot(out, p1, t.slots[0]);
-    let p3 = slot(out, p2, t.slots[1]);
-    let p4 = slot(out, p3, t.slots[2]);
-    slot(out, p4, t.slots[3])
+impl Put for Source {
+    fn put(self, out: &mut Out) {
+        out.put(self.fault);
+        out.put(self.stride);
+        out.put(self.span);
+    }
+}
+
+impl Put for Answer {
+    fn put(self, out: &mut Out) {
+        out.put(self.status);
+        out.put(self.dim);
+        out.put(self.rank);
+        out.put(self.element_size);
+        out.put(self.extent);
+        out.put(self.stride);
+        out.put(self.need);
+    }
+}
+
+impl Put for RoomAnswer {
+    fn put(self, out: &mut Out) {
+        out.put(self.answer);
+        out.put(self.span);
+    }
+}
+
+impl Put for Count {
+    fn put(self, out: &mut Out) {
+        out.put(self.status);
+        out.put(self.dim);
+        out.put(self.count);
+    }
+}
+
+impl Put for SubTensor {
+    fn put(self, out: &mut Out) {
+        out.put(self.status);
+        out.put(self.dim);
+        out.put(self.tensor);
+        out.put(self.byte);
+    }
+}
+
+impl Put for Made {
+    fn put(self, out: &mut Out) {
+        out.put(self.status);
+        out.put(self.config);
+    }
+}
+
+impl Put for Verdict {
+    fn put(self, out: &mut Out) {
+        out.put(self.status);
+        out.put(self.dim);
+        out.put(self.total);
+    }
+}
+
+impl Put for Advanced {
+    fn put(self, out: &mut Out) {
+        out.put(self.status);
+        out.put(self.dim);
+        out.put(self.count);
+    }
+}
+
+impl Put for PixelAnswer {
+    fn put(self, out: &mut Out) {
+        out.put(self.status);
+        out.put(self.dim);
+        out.put(self.bytes);
+        out.put(self.padding);
+    }
+}
+
+impl Put for Reading {
+    fn put(self, out: &mut Out) {
+        out.put(self.status);
+        out.put(self.dim);
+        out.put(self.tensor);
+        out.put(self.config);
+    }
+}
+
+impl Put for Numbered {
+    fn put(self, out: &mut Out) {
+        out.put(self.number);
+        out.put(self.reading);
+    }
+}
+
+impl Put for FirstTwo {
+    fn put(self, out: &mut Out) {
+        out.put(self.status);
+        out.put(self.count);
+        out.put(self.first);
+        out.put(self.second);
+    }
+}
+
+impl Put for Appended {
+    fn put(self, out: &mut Out) {
+        out.put(self.status);
+        out.put(self.dim);
+        out.put(self.length);
+    }
+}
+
+impl Put for Part {
+    fn put(self, out: &mut Out) {
+        out.put(self.start);
+        out.put(self.length);
+    }
+}
+
+impl Put for Job {
+    fn put(self, out: &mut Out) {
+        out.put(self.source);
+        out.put(self.destination);
+        out.put(self.tensor);
+        out.put(self.config);
+    }
+}
+
+impl Put for Slot {
+    fn put(self, out: &mut Out) {
+        out.put(self.state);
+        out.put(self.job);
+        out.put(self.moved);
+    }
+}
+
+impl Put for Table {
+    fn put(self, out: &mut Out) {
+        out.put(self.length);
+        out.put(self.slots);
+    }
+}
+
+impl Put for FreshTable {
+    fn put(self, out: &mut Out) {
+        out.put(self.status);
+        out.put(self.table);
+    }
+}
+
+impl Put for Prepared {
+    fn put(self, out: &mut Out) {
+        out.put(self.status);
+        out.put(self.dim);
+        out.put(self.handle);
+        out.put(self.table);
+    }
+}
+
+impl Put for Changed {
+    fn put(self, out: &mut Out) {
+        out.put(self.status);
+        out.put(self.table);
+    }
+}
+
+impl Put for Stepped {
+    fn put(self, out: &mut Out) {
+        out.put(self.status);
+        out.put(self.count);
+        out.put(self.table);
+    }
+}
+
+// A poll in numbers: its status, its state, and what is left.
+impl Put for Poll {
+    fn put(self, out: &mut Out) {
+        let (status, state, left) = match self {
+            Poll::Free => (0, FREE, 0),
+            Poll::Prepared(left) => (0, PREPARED, left),
+            Poll::Running(left) => (0, RUNNING, left),
+            Poll::Done => (0, DONE, 0),
+            Poll::Refused(status) => (status, FREE, 0),
+        };
+        out.put(status);
+        out.put(state);
+        out.put(left);
+    }
+}
+
+impl Put for Granted {
+    fn put(self, out: &mut Out) {
+        out.put(self.status);
+        out.put(self.first);
+        out.put(self.word);
+    }
+}
+
+impl Put for GivenBack {
+    fn put(self, out: &mut Out) {
+        out.put(self.status);
+        out.put(self.word);
+    }
+}
+
+impl Put for Placed {
+    fn put(self, out: &mut Out) {
+        out.put(self.status);
+        out.put(self.part);
+    }
 }

@@ -1,178 +1,242 @@
-// What a call's bytes stand for, from byte p on; calls.rt looks at the length first. No call is so long that a place in it could
-// wrap.
-ghost use Rattle.std.specs.Prelude.{◌≤◌};
-
-use crate::layout;
-use crate::layout::BODY;
+// What a call's bytes stand for: its arguments, one after another, as docs/CALLS.md lists them. Numbers are little endian.
+use crate::no_call::NoCall;
+use mover::{Job, Part};
 use plane::{Config, Fault, SubConfig, Tensor};
-use transfers::{Job, Part, Slot, Table};
+use std::mem;
+use transfers::{Slot, Table};
 
-// Room for any call.
-pub(crate) type Body = [u8; BODY];
-
-pub(crate) fn byte(b: &Body, p: usize) -> u8 {
-    if p < BODY { b[p] } else { 0 }
+// The bytes that no argument has been taken of yet.
+#[derive(Clone, Copy)]
+pub(crate) struct Args<'a> {
+    left: &'a [u8],
 }
 
-// The bytes from byte p up to byte end, or none.
-pub(crate) fn rest(bytes: &[u8], p: usize, end: usize) -> &[u8] {
-    let n = bytes.len();
-    if n < end {
-        return &bytes[n..];
+// What can be an argument.
+pub(crate) trait Take<'a>: Sized {
+    // Takes it off the front of what is left.
+    fn take(args: &mut Args<'a>) -> Result<Self, NoCall>;
+}
+
+impl<'a> Args<'a> {
+    pub(crate) fn new(bytes: &'a [u8]) -> Args<'a> {
+        Args { left: bytes }
     }
-    if end < p {
-        return &bytes[n..];
+
+    pub(crate) fn take<T: Take<'a>>(&mut self) -> Result<T, NoCall> {
+        T::take(self)
     }
-    &bytes[p..end]
-}
 
-pub(crate) fn half(b: &Body, p: usize) -> u16
-    requires { p ≤ 5000 }
-{
-    (byte(b, p) as u16) | ((byte(b, p + 1) as u16) << 8)
-}
-
-pub(crate) fn word(b: &Body, p: usize) -> u32
-    requires { p ≤ 4000 }
-{
-    (half(b, p) as u32) | ((half(b, p + layout::HALF) as u32) << 16)
-}
-
-pub(crate) fn long(b: &Body, p: usize) -> u64
-    requires { p ≤ 3000 }
-{
-    (word(b, p) as u64) | ((word(b, p + layout::WORD) as u64) << 32)
-}
-
-const TWO_WORDS: usize = 2 * layout::WORD;
-
-const THREE_WORDS: usize = 3 * layout::WORD;
-
-pub(crate) fn words(b: &Body, p: usize) -> [u32; 4]
-    requires { p ≤ 3000 }
-{
-    [
-        word(b, p),
-        word(b, p + layout::WORD),
-        word(b, p + TWO_WORDS),
-        word(b, p + THREE_WORDS),
-    ]
-}
-
-// The signed number that a word is, in two's complement.
-fn signed(x: u32) -> i32 {
-    if x <= 0x7fffffff {
-        return x as i32;
+    fn array<const N: usize>(&mut self) -> Result<[u8; N], NoCall> {
+        let (front, left) = self.left.split_first_chunk().ok_or(NoCall::Length)?;
+        self.left = left;
+        Ok(*front)
     }
-    -1 - (0xffffffff - x) as i32
-}
 
-fn strides(b: &Body, p: usize) -> [i32; 4]
-    requires { p ≤ 3000 }
-{
-    let w = words(b, p);
-    [signed(w[0]), signed(w[1]), signed(w[2]), signed(w[3])]
-}
+    fn bytes(&mut self, n: usize) -> Result<&'a [u8], NoCall> {
+        self.left.split_off(..n).ok_or(NoCall::Length)
+    }
 
-pub(crate) fn bytes(b: &Body, p: usize) -> [u8; 4]
-    requires { p ≤ 3000 }
-{
-    [byte(b, p), byte(b, p + 1), byte(b, p + 2), byte(b, p + 3)]
-}
+    // All that is left of the line.
+    pub(crate) fn rest(&mut self) -> &'a [u8] {
+        mem::take(&mut self.left)
+    }
 
-pub(crate) fn fault(b: &Body, p: usize) -> Fault
-    requires { p ≤ 3000 }
-{
-    Fault {
-        status: byte(b, p),
-        dim: byte(b, p + 1),
+    // No call has anything behind its last argument.
+    pub(crate) fn end(self) -> Result<(), NoCall> {
+        if self.left.is_empty() {
+            return Ok(());
+        }
+        Err(NoCall::Length)
     }
 }
 
-pub(crate) fn tensor(b: &Body, p: usize) -> Tensor
-    requires { p ≤ 2000 }
-{
-    Tensor {
-        rank: byte(b, p),
-        element_size: byte(b, p + 1),
-        shape: words(b, p + layout::SHAPE),
-        stride: strides(b, p + layout::STRIDE),
+// Each number has an impl of its own, since the library has no trait of what is made from bytes.
+impl<'a> Take<'a> for u8 {
+    fn take(args: &mut Args<'a>) -> Result<u8, NoCall> {
+        Ok(u8::from_le_bytes(args.array()?))
     }
 }
 
-pub(crate) fn config(b: &Body, p: usize) -> Config
-    requires { p ≤ 2000 }
-{
-    Config {
-        offset: words(b, p),
-        size: words(b, p + layout::SIZE),
-        step: words(b, p + layout::STEP),
-        dst_offset: words(b, p + layout::DST_OFFSET),
-        dst_stride: words(b, p + layout::DST_STRIDE),
-        perm: bytes(b, p + layout::PERM),
-        pre: bytes(b, p + layout::PRE),
-        post: bytes(b, p + layout::POST),
-        fill: word(b, p + layout::FILL),
+impl<'a> Take<'a> for u16 {
+    fn take(args: &mut Args<'a>) -> Result<u16, NoCall> {
+        Ok(u16::from_le_bytes(args.array()?))
     }
 }
 
-pub(crate) fn sub_config(b: &Body, p: usize) -> SubConfig
-    requires { p ≤ 2000 }
-{
-    SubConfig {
-        offset: words(b, p),
-        size: words(b, p + layout::SIZE),
-        rank: word(b, p + layout::SUB_RANK),
+impl<'a> Take<'a> for u32 {
+    fn take(args: &mut Args<'a>) -> Result<u32, NoCall> {
+        Ok(u32::from_le_bytes(args.array()?))
     }
 }
 
-pub(crate) fn part(b: &Body, p: usize) -> Part
-    requires { p ≤ 2000 }
-{
-    Part {
-        start: long(b, p),
-        length: long(b, p + layout::LONG),
+impl<'a> Take<'a> for i32 {
+    fn take(args: &mut Args<'a>) -> Result<i32, NoCall> {
+        Ok(i32::from_le_bytes(args.array()?))
     }
 }
 
-pub(crate) fn job(b: &Body, p: usize) -> Job
-    requires { p ≤ 1000 }
-{
-    Job {
-        source: part(b, p),
-        destination: part(b, p + layout::PART),
-        tensor: tensor(b, p + layout::JOB_TENSOR),
-        config: config(b, p + layout::JOB_CONFIG),
+impl<'a> Take<'a> for u64 {
+    fn take(args: &mut Args<'a>) -> Result<u64, NoCall> {
+        Ok(u64::from_le_bytes(args.array()?))
     }
 }
 
-fn slot(b: &Body, p: usize) -> Slot
-    requires { p ≤ 600 }
-{
-    Slot {
-        state: byte(b, p),
-        job: job(b, p + layout::SLOT_JOB),
-        moved: long(b, p + layout::MOVED),
+// A length, or a place in a list: a u64.
+impl<'a> Take<'a> for usize {
+    fn take(args: &mut Args<'a>) -> Result<usize, NoCall> {
+        Ok(usize::from_le_bytes(args.array()?))
     }
 }
 
-// A table comes first in every call that has one.
-const SLOT_0: usize = layout::FIRST + layout::SLOTS;
+impl<'a, T: Take<'a> + Copy> Take<'a> for [T; 4] {
+    fn take(args: &mut Args<'a>) -> Result<[T; 4], NoCall> {
+        Ok([args.take()?, args.take()?, args.take()?, args.take()?])
+    }
+}
 
-const SLOT_1: usize = SLOT_0 + layout::SLOT;
+impl<'a> Take<'a> for Tensor {
+    fn take(args: &mut Args<'a>) -> Result<Tensor, NoCall> {
+        Ok(Tensor {
+            rank: args.take()?,
+            element_size: args.take()?,
+            shape: args.take()?,
+            stride: args.take()?,
+        })
+    }
+}
 
-const SLOT_2: usize = SLOT_1 + layout::SLOT;
+impl<'a> Take<'a> for Config {
+    fn take(args: &mut Args<'a>) -> Result<Config, NoCall> {
+        Ok(Config {
+            offset: args.take()?,
+            size: args.take()?,
+            step: args.take()?,
+            dst_offset: args.take()?,
+            dst_stride: args.take()?,
+            perm: args.take()?,
+            pre: args.take()?,
+            post: args.take()?,
+            fill: args.take()?,
+        })
+    }
+}
 
-const SLOT_3: usize = SLOT_2 + layout::SLOT;
+impl<'a> Take<'a> for SubConfig {
+    fn take(args: &mut Args<'a>) -> Result<SubConfig, NoCall> {
+        Ok(SubConfig {
+            offset: args.take()?,
+            size: args.take()?,
+            rank: args.take()?,
+        })
+    }
+}
 
-pub(crate) fn table(b: &Body) -> Table {
-    Table {
-        length: long(b, layout::FIRST),
-        slots: [
-            slot(b, SLOT_0),
-            slot(b, SLOT_1),
-            slot(b, SLOT_2),
-            slot(b, SLOT_3),
-        ],
+impl<'a> Take<'a> for Fault {
+    fn take(args: &mut Args<'a>) -> Result<Fault, NoCall> {
+        Ok(Fault {
+            status: args.take()?,
+            dim: args.take()?,
+        })
+    }
+}
+
+impl<'a> Take<'a> for Part {
+    fn take(args: &mut Args<'a>) -> Result<Part, NoCall> {
+        Ok(Part {
+            start: args.take()?,
+            length: args.take()?,
+        })
+    }
+}
+
+impl<'a> Take<'a> for Job {
+    fn take(args: &mut Args<'a>) -> Result<Job, NoCall> {
+        Ok(Job {
+            source: args.take()?,
+            destination: args.take()?,
+            tensor: args.take()?,
+            config: args.take()?,
+        })
+    }
+}
+
+impl<'a> Take<'a> for Slot {
+    fn take(args: &mut Args<'a>) -> Result<Slot, NoCall> {
+        Ok(Slot {
+            state: args.take()?,
+            job: args.take()?,
+            moved: args.take()?,
+        })
+    }
+}
+
+impl<'a> Take<'a> for Table {
+    fn take(args: &mut Args<'a>) -> Result<Table, NoCall> {
+        Ok(Table {
+            length: args.take()?,
+            slots: args.take()?,
+        })
+    }
+}
+
+// The rest of the line: a source, a list, or a memory.
+impl<'a> Take<'a> for &'a [u8] {
+    fn take(args: &mut Args<'a>) -> Result<&'a [u8], NoCall> {
+        Ok(args.rest())
+    }
+}
+
+// Bytes behind a word that says how many.
+#[derive(Drop)]
+pub(crate) struct Counted<'a>(pub(crate) &'a [u8]);
+
+impl<'a> Take<'a> for Counted<'a> {
+    fn take(args: &mut Args<'a>) -> Result<Counted<'a>, NoCall> {
+        let n: u32 = args.take()?;
+        Ok(Counted(args.bytes(n as usize)?))
+    }
+}
+
+impl<'a> Take<'a> for () {
+    fn take(_args: &mut Args<'a>) -> Result<(), NoCall> {
+        Ok(())
+    }
+}
+
+impl<'a, A: Take<'a> + Drop, B: Take<'a>> Take<'a> for (A, B) {
+    fn take(args: &mut Args<'a>) -> Result<(A, B), NoCall> {
+        Ok((args.take()?, args.take()?))
+    }
+}
+
+impl<'a, A: Take<'a> + Drop, B: Take<'a> + Drop, C: Take<'a>> Take<'a> for (A, B, C) {
+    fn take(args: &mut Args<'a>) -> Result<(A, B, C), NoCall> {
+        Ok((args.take()?, args.take()?, args.take()?))
+    }
+}
+
+impl<'a, A: Take<'a> + Drop, B: Take<'a> + Drop, C: Take<'a> + Drop, D: Take<'a>> Take<'a>
+    for (A, B, C, D) {
+    fn take(args: &mut Args<'a>) -> Result<(A, B, C, D), NoCall> {
+        Ok((args.take()?, args.take()?, args.take()?, args.take()?))
+    }
+}
+
+impl<
+    'a,
+    A: Take<'a> + Drop,
+    B: Take<'a> + Drop,
+    C: Take<'a> + Drop,
+    D: Take<'a> + Drop,
+    E: Take<'a>,
+> Take<'a> for (A, B, C, D, E) {
+    fn take(args: &mut Args<'a>) -> Result<(A, B, C, D, E), NoCall> {
+        Ok((
+            args.take()?,
+            args.take()?,
+            args.take()?,
+            args.take()?,
+            args.take()?,
+        ))
     }
 }

@@ -3,48 +3,71 @@
 #![tactic(auto)]
 
 use answers::Out;
-use args::Body;
-use layout::{BODY, OUT};
+use lines::Line;
+use no_call::NoCall;
 use std::io;
 use std::io::Read;
+use table::answer;
 
-mod lines; // calls and answers as lines of hexadecimal digits
-mod layout; // how many bytes each type has, and where its fields stand
-mod args; // what a call's bytes stand for
-mod answers; // what an answer's bytes are
-mod calls; // which call a number is
-mod plane_calls; // 01 to 0b
-mod config_calls; // 10 to 1f
-mod mover_calls; // 20 to 28
-mod record_calls; // 30, 31, and 39 to 3b
-mod list_calls; // 32 to 38
-mod table_calls; // 40 to 45
-mod keeper_calls; // 50 to 54
+mod no_call; // why a line is no call
+mod lines; // a line becomes a call's bytes
+mod args; // a call's bytes become arguments
+mod answers; // what a call answers becomes a line
+mod calls; // a call with its arguments is made
+mod table; // which call a number is
 
 const CHUNK: usize = 65536; // bytes read at once
 
+// Prints what the call of a line answers, or why it is no call.
+fn reply(rt: &impl Print, call: Result<&[u8], NoCall>, out: &mut Out) -> io::Result<()> {
+    out.clear();
+    answer(call, out);
+    out.end_line();
+    rt.write_all(out.text())
+}
+
+// Takes in one character.
+fn next(rt: &impl Print, line: &mut Line, out: &mut Out, ch: u8) -> io::Result<()> {
+    if ch != b'\n' {
+        line.push(ch);
+        return Ok(());
+    }
+    reply(rt, line.bytes(), out)?;
+    line.clear();
+    Ok(())
+}
+
+// Takes in what was read.
+fn feed(rt: &impl Print, line: &mut Line, out: &mut Out, chunk: &[u8]) -> io::Result<()> {
+    for ch in chunk {
+        next(rt, line, out, *ch)?;
+    }
+    Ok(())
+}
+
+// The input has ended: a line without its newline is no call.
+fn end(rt: &impl Print, line: &Line, out: &mut Out) -> io::Result<()> {
+    if line.is_empty() {
+        return Ok(());
+    }
+    reply(rt, Err(NoCall::Unended), out)
+}
+
 // Answers line after line until the input ends. A proved loop has to end, so it counts more reads than any input takes.
-fn run<R: Read>(
-    rt: &impl Print,
-    reader: &mut R,
-    chunk: &mut [u8],
-    body: &mut Body,
-    out: &mut Out,
-) -> io::Result<()> {
-    let mut line = lines::start();
+fn run<R: Read>(rt: &impl Print, reader: &mut R) -> io::Result<()> {
+    let mut chunk = [0u8; CHUNK];
+    let mut line = Line::new();
+    let mut out = Out::new();
     for _ in 0..u64::MAX {
-        let n = reader.read(chunk)?;
+        let n = reader.read(&mut chunk)?;
         if n == 0 {
-            return lines::end(rt, line);
+            return end(rt, &line, &mut out);
         }
-        line = lines::feed(rt, &chunk[..n], body, out, line)?;
+        feed(rt, &mut line, &mut out, &chunk[..n])?;
     }
     Ok(())
 }
 
 fn main(rt: HostRuntime) -> io::Result<()> {
-    let mut chunk = [0u8; CHUNK];
-    let mut body = [0u8; BODY];
-    let mut out = [0u8; OUT];
-    run(&rt, &mut rt.reader(), &mut chunk, &mut body, &mut out)
+    run(&rt, &mut rt.reader())
 }

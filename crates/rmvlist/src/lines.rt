@@ -1,73 +1,58 @@
-// What rmvlist prints.
+// What rmvlist prints. An answer's number is printed whether it is refused or not, so answers stay the records that they are.
 use list::Numbered;
+use output::Entries;
 use plane::{Config, Tensor};
-use std::io;
-
-// A number in decimal, after the text before it.
-fn told(rt: &impl Print, text: &str, x: u64) -> io::Result<()> {
-    print!(rt; "{text}{x}")
-}
-
-fn end_line(rt: &impl Print) -> io::Result<()> {
-    rt.println("")
-}
+use std::{fmt, io};
 
 // The one line of an input that is longer than the longest list.
 pub(crate) fn too_long(rt: &impl Print, bytes: usize, records: usize) -> io::Result<()> {
-    told(rt, "input longer than ", bytes as u64)?;
-    told(rt, " bytes, which are ", records as u64)?;
-    rt.println(" records")
+    println!(rt; "input longer than {bytes} bytes, which are {records} records")
 }
 
 // The status of a list, and how many records one that is not refused has.
 pub(crate) fn head(rt: &impl Print, status: u8, count: usize) -> io::Result<()> {
-    told(rt, "status ", status as u64)?;
-    if status == 0 {
-        told(rt, " records ", count as u64)?;
+    if status != 0 {
+        return println!(rt; "status {status}");
     }
-    end_line(rt)
-}
-
-// An entry, where its dimension is below the rank.
-fn entry(rt: &impl Print, rank: u8, d: u8, x: u32) -> io::Result<()> {
-    if d < rank {
-        told(rt, " ", x as u64)?;
-    }
-    Ok(())
+    println!(rt; "status 0 records {count}")
 }
 
 // Rank, element size and shape, as many entries as the rank.
-fn tensor(rt: &impl Print, t: Tensor) -> io::Result<()> {
-    told(rt, " rank ", t.rank as u64)?;
-    told(rt, " element ", t.element_size as u64)?;
-    rt.print(" shape")?;
-    entry(rt, t.rank, 0, t.shape[0])?;
-    entry(rt, t.rank, 1, t.shape[1])?;
-    entry(rt, t.rank, 2, t.shape[2])?;
-    entry(rt, t.rank, 3, t.shape[3])
+#[derive(Drop)]
+struct Plane(Tensor);
+
+impl fmt::Display for Plane {
+    fn fmt<W: fmt::Write>(&self, f: &mut fmt::Formatter<W>) -> fmt::Result {
+        let t = self.0;
+        let shape = Entries(&t.shape[..usize::from(t.rank).min(4)]);
+        write!(f, "rank {} element {} shape{shape}", t.rank, t.element_size)
+    }
 }
 
 // What the room question says: status and dimension, and the bytes of source and destination for a move that is not refused.
-fn room(rt: &impl Print, t: Tensor, c: Config) -> io::Result<()> {
-    let asked = plane::room(t, c);
-    told(rt, " room ", asked.answer.status as u64)?;
-    told(rt, " dim ", asked.answer.dim as u64)?;
-    if asked.answer.status == 0 {
-        told(rt, " span ", asked.span)?;
-        told(rt, " need ", asked.answer.need)?;
+#[derive(Drop)]
+struct Room(Tensor, Config);
+
+impl fmt::Display for Room {
+    fn fmt<W: fmt::Write>(&self, f: &mut fmt::Formatter<W>) -> fmt::Result {
+        let asked = plane::room(self.0, self.1);
+        let a = asked.answer;
+        write!(f, "room {} dim {}", a.status, a.dim)?;
+        if a.status != 0 {
+            return Ok(());
+        }
+        write!(f, " span {} need {}", asked.span, a.need)
     }
-    Ok(())
 }
 
 // A record's number, status and dimension, and what one that is not refused holds and asks for.
 pub(crate) fn record(rt: &impl Print, item: Numbered) -> io::Result<()> {
-    told(rt, "record ", item.number as u64)?;
-    told(rt, " status ", item.reading.status as u64)?;
-    told(rt, " dim ", item.reading.dim as u64)?;
-    if item.reading.status == 0 {
-        let t = item.reading.tensor;
-        tensor(rt, t)?;
-        room(rt, t, item.reading.config)?;
+    let n = item.number;
+    let r = item.reading;
+    if r.status != 0 {
+        return println!(rt; "record {n} status {} dim {}", r.status, r.dim);
     }
-    end_line(rt)
+    let plane = Plane(r.tensor);
+    let room = Room(r.tensor, r.config);
+    println!(rt; "record {n} status 0 dim {} {plane} {room}", r.dim)
 }

@@ -1,74 +1,48 @@
 // The coordinate that the program is given as its arguments.
+use std::array;
 use std::env::{Env, FillError};
 
 const DIGITS: usize = 10; // of the longest number
 
-// One to four numbers, with 0 behind them. Where the arguments are no such, the count is 0.
+// One to four numbers, with 0 behind them.
 #[derive(Clone, Copy)]
 pub(crate) struct Coordinate {
-    pub(crate) count: u8,
+    pub(crate) count: usize,
     pub(crate) at: [u32; 4],
 }
 
-fn none() -> Coordinate {
-    Coordinate {
-        count: 0,
-        at: [0; 4],
-    }
-}
-
-// What an argument is.
+// Arguments that are none: one is no number, or there are none or more than four.
 #[derive(Clone, Copy)]
-enum Word {
-    Missing,
-    Number(u32),
-    NoNumber,
-}
+pub(crate) struct NoCoordinate;
 
 // The number of 32 bits that these decimal digits are.
 fn number(text: &[u8]) -> Option<u32> {
-    let mut n: u32 = 0;
-    for &c in text {
-        let digit = match c {
-            b'0'..=b'9' => c - b'0',
-            _ => return None,
-        };
-        n = n.checked_mul(10)?.checked_add(u32::from(digit))?;
+    let text = str::from_utf8(text).ok()?;
+    if text.starts_with('+') {
+        return None;
     }
-    Some(n)
+    text.parse().ok()
 }
 
-// Argument i. One that is empty or longer than the longest number is no number.
-fn argument(env: &impl Env, i: usize) -> Word {
+// Argument i, if there is one. One that is longer than the longest number is no number.
+fn argument(env: &impl Env, i: usize) -> Result<Option<u32>, NoCoordinate> {
     let mut text = [0u8; DIGITS];
-    let n = match env.arg(i, &mut text) {
-        Ok(n) => n,
-        Err(FillError::NotPresent) => return Word::Missing,
-        Err(FillError::TooLong) => return Word::NoNumber,
-    };
-    if n == 0 {
-        return Word::NoNumber;
-    }
-    match number(&text[..n]) {
-        Some(x) => Word::Number(x),
-        None => Word::NoNumber,
+    match env.arg(i, &mut text) {
+        Ok(n) => number(&text[..n]).map(Some).ok_or(NoCoordinate),
+        Err(FillError::NotPresent) => Ok(None),
+        Err(FillError::TooLong) => Err(NoCoordinate),
     }
 }
 
 // The arguments after the program's own name.
-pub(crate) fn given(env: &impl Env) -> Coordinate {
-    let mut at = [0u32; 4];
-    for i in 0..4 {
-        match argument(env, i + 1) {
-            Word::Number(x) => at[i] = x,
-            Word::Missing => {
-                return Coordinate { count: i as u8, at };
-            }
-            Word::NoNumber => return none(),
-        }
+pub(crate) fn given(env: &impl Env) -> Result<Coordinate, NoCoordinate> {
+    let numbers: [Option<u32>; 4] = array::try_from_fn(|i| argument(env, i + 1))?;
+    let count = numbers.iter().flatten().count();
+    if count == 0 || argument(env, 5)?.is_some() {
+        return Err(NoCoordinate);
     }
-    match argument(env, 5) {
-        Word::Missing => Coordinate { count: 4, at },
-        _ => none(),
-    }
+    Ok(Coordinate {
+        count,
+        at: numbers.map(Option::unwrap_or_default),
+    })
 }

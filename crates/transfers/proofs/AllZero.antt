@@ -1,14 +1,15 @@
 -- What the test for all zero means: a job that passes it is the job of zeros, and a free slot of a sound table is the free slot.
 -- Assumes nothing.
-use Prim.Native.Nat.{ℕ, ◌<◌}
+use Prim.Native.Nat.{ℕ, zero, suc, ◌<◌}
 use native.Mathlib.Omega.{arith}
-use mathlib.Core.Path.{◌≡◌, sym, ap, ◌∙◌}
+use mathlib.Core.Path.{◌≡◌, refl, sym, ap, ◌∙◌}
 use mathlib.Core.Bool.{Bool, true, ◌&&◌}
 use mathlib.Core.List.{List, [], ◌∷◌}
 use borrow.Author.Tests.{eqb-true}
 use lib.Dec.{eqb}
 use lib.IntN.{ℤ, pos, negsuc}
 use lib.ListN.{length}
+use Rattle.std.specs.Bool.{Decides}
 use Rattle.plane.specs.Arrays.{at, zeros, every}
 use Rattle.plane.specs.Signs.{size_of, sizes, at_z, zeros_z}
 use Rattle.plane.proofs.Signed.{sizes_at}
@@ -92,7 +93,11 @@ module _ (j : Job) (f : FourEntries j) where
       let config = no_config (both_second (parts && is_zero_tensor j.tensor) (is_zero_config j.config) e) in
       λ i. record { source = source i; destination = destination i; tensor = tensor i; config = config i }
 
-no_slot : (n : ℕ) (s : Slot) → FourEntries s.job → slot_sound n s ≡ true → s.state ≡ 0 → s ≡ free_slot
+zero_is_sound : (n : ℕ) → slot_sound n free_slot ≡ true
+unfolding slot_sound is_zero_job is_zero_tensor is_zero_config sizes every
+zero_is_sound n = refl
+
+pub no_slot : (n : ℕ) (s : Slot) → FourEntries s.job → slot_sound n s ≡ true → s.state ≡ 0 → s ≡ free_slot
 no_slot n s f p z =
     let e = zero_sound n s z ∙ p in
     let job = no_job s.job f (both_first _ (eqb s.moved 0) e) in
@@ -101,3 +106,23 @@ no_slot n s f p z =
 
 pub free_is_zero : FreeIsZero
 free_is_zero t f p h l z = no_slot t.length (slot_at t h) (f h l) ((sound_tells t p).each h l) z
+
+pub four_entries : (j : Job) → length j.tensor.shape ≡ 4 → length j.tensor.stride ≡ 4
+    → length j.config.offset ≡ 4 → length j.config.size ≡ 4 → length j.config.step ≡ 4 → length j.config.dst_offset ≡ 4
+    → length j.config.dst_stride ≡ 4 → length j.config.perm ≡ 4 → length j.config.pre ≡ 4 → length j.config.post ≡ 4 → FourEntries j
+four_entries j s t a b c d e f g h = record { shape = s; stride = t; arrays = each }
+  where
+    each : (k : ℕ) → k < array_count → length (array_of j.config k) ≡ 4
+    each zero l = a
+    each (suc zero) l = b
+    each (suc (suc zero)) l = c
+    each (suc (suc (suc zero))) l = d
+    each (suc (suc (suc (suc zero)))) l = e
+    each (suc (suc (suc (suc (suc zero))))) l = f
+    each (suc (suc (suc (suc (suc (suc zero)))))) l = g
+    each (suc (suc (suc (suc (suc (suc (suc zero))))))) l = h
+    each (suc (suc (suc (suc (suc (suc (suc (suc k)))))))) l = absurd (omega arith)
+
+-- so the comparison with the free slot tells whether a slot that is in state 0 is sound
+pub free_sound : (n : ℕ) (s : Slot) → FourEntries s.job → s.state ≡ 0 → Decides (slot_sound n s) (s ≡ free_slot)
+free_sound n s f z = (λ e. no_slot n s f e z, λ q. ap (slot_sound n) q ∙ zero_is_sound n)

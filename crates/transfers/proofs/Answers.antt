@@ -2,23 +2,30 @@
 use Prim.Native.Nat.{ℕ, ◌≤◌, ◌<◌}
 use native.Mathlib.Omega.{arith}
 use mathlib.Core.Path.{◌≡◌, refl, sym, ap, ◌∙◌}
-use mathlib.Core.Bool.{true, false, not, ◌||◌}
+use mathlib.Core.Bool.{Bool, true, false, not, ◌||◌}
 use borrow.Author.Tests.{eq-eqb, ne_eqb, eqb-true, eqb-false, lt-ltb, le-ltb, ltb-false, not-false}
 use lib.Dec.{ltb, eqb}
 use Rattle.faults.specs.declared.Fault.{Fault}
-use Rattle.faults.specs.Faults.{fault, when, ◌or_else◌, if_fault}
+use Rattle.std.specs.Prelude.{Ok, Err}
+use Rattle.faults.specs.Faults.{fault, when, ◌or_else◌, if_fault, outcome}
 use Rattle.faults.proofs.Bools.{either_clear, either_first, either_second, neither}
-use Rattle.faults.proofs.Faults.{status, or_none, or_found, if_fault_lem, if_none, when_bad, when_zero, given, spared}
+use Rattle.faults.proofs.Faults.{status, or_none, if_none, when_bad, when_zero, given, spared}
 use Rattle.faults.specs.Exactness.{Unbroken}
-use Rattle.faults.proofs.Chains.{unbroken, unbroken_accepts, overall_dim}
+use Rattle.faults.proofs.Chains.{unbroken, unbroken_accepts}
+use Rattle.faults.proofs.Outcomes.{passes, refuses, halts, tells_ok, tells_err, answer_ok, answer_err}
 use Rattle.mover.specs.declared.Job.{Job}
-use Rattle.mover.specs.declared.Verdict.{Verdict}
-use Rattle.mover.specs.Within.{job_rules, job_fault, verdict_of}
+use Rattle.mover.specs.Within.{job_rules, job_fault}
 use Rattle.transfers.specs.declared.Slot.{Slot}
 use Rattle.transfers.specs.declared.Table.{Table}
 use Rattle.transfers.specs.declared.FreshTable.{FreshTable}
 use Rattle.transfers.specs.Slots.{fresh_table, slot_at, with_slot, is_free, lowest_free, clashes, table_sound, limit}
 use Rattle.transfers.specs.Calls.{fresh_fault, fresh_of, open_rules, open_fault, prepare_rules, prepare_fault, call_rules, call_fault, new_slot, prepare_of, changed}
+
+-- a condition of which a fault tells
+bad_of : (num d : ℕ) (b : Bool) → ((when num d b).status ≡ 0 → ⊥) → b ≡ true
+unfolding when
+bad_of num d true h = refl
+bad_of num d false h = absurd (h refl)
 
 -- ---- a fresh table: 17
 
@@ -36,25 +43,20 @@ module _ (n : ℕ) where
 -- ---- 17, 18
 
 module _ (t : Table) (n : ℕ) where
-  pub open-17 : (n ≡ t.length → ⊥) → 17 ≡ (open_fault t n).status
+  pub open-17 : (n ≡ t.length → ⊥) → Err (fault 17 0) ≡ outcome (open_fault t n) (tt {0})
   unfolding open_fault
-  open-17 h = sym (status (given 17 0 _ _ (omega arith) (ap not (ne_eqb n t.length h))))
+  open-17 h = refuses (tt {0}) (given 17 0 _ _ (omega arith) (ap not (ne_eqb n t.length h))) (λ z. omega arith)
 
   module _ (l : n ≡ t.length) where
     long : open_fault t n ≡ when 18 0 (not (table_sound t))
     unfolding open_fault
     long = spared 17 0 _ _ (ap not (eq-eqb n t.length l))
 
-    pub open-18 : table_sound t ≡ false → 18 ≡ (open_fault t n).status
-    open-18 e = sym (status (long ∙ when_bad 18 0 _ (ap not e)))
+    pub open-18 : table_sound t ≡ false → Err (fault 18 0) ≡ outcome (open_fault t n) (tt {0})
+    open-18 e = refuses (tt {0}) (long ∙ when_bad 18 0 _ (ap not e)) (λ z. omega arith)
 
     pub open-0 : table_sound t ≡ true → 0 ≡ (open_fault t n).status
     open-0 e = sym (status long ∙ when_zero 18 0 _ (ap not e))
-
-  -- neither names a dimension
-  pub open_is : open_fault t n ≡ fault (open_fault t n).status 0
-  unfolding open_fault
-  open_is = let d = overall_dim (open_rules t n) refl in λ i. record { status = (open_fault t n).status; dim = d i }
 
   pub record Open : Type 0 where
     pub long : n ≡ t.length
@@ -70,30 +72,36 @@ module _ (t : Table) (n : ℕ) where
 -- ---- 17, 18, 23, 24
 
 module _ (t : Table) (n h want : ℕ) where
-  pub call-closed : {r : ℕ} → r ≡ (open_fault t n).status → (r ≡ 0 → ⊥) → r ≡ (call_fault t n h want).status
+  pub call-closed : {e : Fault} → Err e ≡ outcome (open_fault t n) (tt {0}) → Err e ≡ outcome (call_fault t n h want) (slot_at t h)
   unfolding call_fault open_fault
-  call-closed e b = e ∙ sym (status (or_found (open_fault t n) _ (λ z. b (e ∙ z))))
+  call-closed q = sym (halts (open_fault t n) _ _ (slot_at t h) q refl)
 
   module _ (z : (open_fault t n).status ≡ 0) where
     call-open : call_fault t n h want ≡ (when 23 0 (ltb 3 h || is_free t h) or_else when 24 0 (not (eqb (slot_at t h).state want)))
     unfolding call_fault open_fault
     call-open = or_none _ _ z
 
-    pub call-high : 3 < h → 23 ≡ (call_fault t n h want).status
-    call-high b =
-        sym (status (call-open ∙ given 23 0 _ _ (omega arith) (either_first (ltb 3 h) (is_free t h) (lt-ltb 3 h b))))
+    pub call-high : {e : Fault} → Err e ≡ outcome (when 23 0 (ltb 3 h)) (slot_at t h) → Err e ≡ outcome (call_fault t n h want) (slot_at t h)
+    call-high q =
+        let w = tells_err _ _ q in
+        let b = bad_of 23 0 (ltb 3 h) w.1 in
+        ap Err (w.0 ∙ when_bad 23 0 _ b) ∙
+        refuses (slot_at t h) (call-open ∙ given 23 0 _ _ (omega arith) (either_first (ltb 3 h) (is_free t h) b)) (λ z. omega arith)
 
-    pub call-free : (slot_at t h).state ≡ 0 → 23 ≡ (call_fault t n h want).status
+    pub call-free : (slot_at t h).state ≡ 0 → Err (fault 23 0) ≡ outcome (call_fault t n h want) (slot_at t h)
     call-free b =
-        sym (status (call-open ∙ given 23 0 _ _ (omega arith) (either_second (ltb 3 h) (is_free t h) (eq-eqb (slot_at t h).state 0 b))))
+        refuses (slot_at t h)
+        (call-open ∙ given 23 0 _ _ (omega arith) (either_second (ltb 3 h) (is_free t h) (eq-eqb (slot_at t h).state 0 b)))
+        (λ z. omega arith)
 
     module _ (b : h ≤ 3) (d : (slot_at t h).state ≡ 0 → ⊥) where
       call-taken : call_fault t n h want ≡ when 24 0 (not (eqb (slot_at t h).state want))
       call-taken =
           call-open ∙ spared 23 0 _ _ (neither (ltb 3 h) (is_free t h) (le-ltb 3 h b) (ne_eqb (slot_at t h).state 0 d))
 
-      pub call-24 : ((slot_at t h).state ≡ want → ⊥) → 24 ≡ (call_fault t n h want).status
-      call-24 e = sym (status (call-taken ∙ when_bad 24 0 _ (ap not (ne_eqb (slot_at t h).state want e))))
+      pub call-24 : ((slot_at t h).state ≡ want → ⊥) → Err (fault 24 0) ≡ outcome (call_fault t n h want) (slot_at t h)
+      call-24 e =
+          refuses (slot_at t h) (call-taken ∙ when_bad 24 0 _ (ap not (ne_eqb (slot_at t h).state want e))) (λ z. omega arith)
 
       pub call-0 : (slot_at t h).state ≡ want → 0 ≡ (call_fault t n h want).status
       call-0 e = sym (status call-taken ∙ when_zero 24 0 _ (ap not (eq-eqb (slot_at t h).state want e)))
@@ -123,51 +131,36 @@ module _ (t : Table) (n h want : ℕ) where
 -- ---- prepare: 17 to 20, 1 to 13, 34, 21, 22
 
 module _ (t : Table) (n : ℕ) (j : Job) where
-  refuses : {r d : ℕ} → prepare_fault t n j ≡ fault r d → (r ≡ 0 → ⊥) → record { status = r; dim = d; handle = 0; table = t } ≡ prepare_of t n j
-  unfolding prepare_of
-  refuses e b =
-      ap (λ (f : Fault). record { status = f.status; dim = f.dim; handle = 0; table = t }) (sym e) ∙
-      sym (if_fault_lem (prepare_fault t n j) _ _ (λ z. b (sym (status e) ∙ z)))
-
-  pub prepare-closed : {r : ℕ} → r ≡ (open_fault t n).status → (r ≡ 0 → ⊥) → record { status = r; dim = 0; handle = 0; table = t } ≡ prepare_of t n j
+  pub prepare-closed : {e : Fault} → Err e ≡ outcome (open_fault t n) (tt {0}) → Err e ≡ outcome (prepare_fault t n j) (lowest_free t)
   unfolding prepare_fault open_fault job_fault
-  prepare-closed e b =
-      refuses (or_found (open_fault t n) _ (λ z. b (e ∙ z)) ∙ open_is t n ∙ ap (λ (k : ℕ). fault k 0) (sym e)) b
+  prepare-closed q = sym (halts (open_fault t n) _ _ (lowest_free t) q refl)
 
   module _ (z : (open_fault t n).status ≡ 0) where
     prepare-open : prepare_fault t n j ≡ (when 19 0 (eqb (lowest_free t) 4) or_else job_fault n j or_else when 22 0 (clashes t j 4))
     unfolding prepare_fault open_fault job_fault
     prepare-open = or_none _ _ z
 
-    pub prepare-19 : lowest_free t ≡ 4 → record { status = 19; dim = 0; handle = 0; table = t } ≡ prepare_of t n j
-    prepare-19 e = refuses (prepare-open ∙ given 19 0 _ _ (omega arith) (eq-eqb (lowest_free t) 4 e)) (λ y. omega arith)
+    pub prepare-19 : lowest_free t ≡ 4 → Err (fault 19 0) ≡ outcome (prepare_fault t n j) (lowest_free t)
+    prepare-19 e =
+        refuses (lowest_free t) (prepare-open ∙ given 19 0 _ _ (omega arith) (eq-eqb (lowest_free t) 4 e)) (λ z. omega arith)
 
     module _ (b : lowest_free t ≡ 4 → ⊥) where
       prepare-room : prepare_fault t n j ≡ (job_fault n j or_else when 22 0 (clashes t j 4))
       prepare-room = prepare-open ∙ spared 19 0 _ _ (ne_eqb (lowest_free t) 4 b)
 
-      module _ {v : Verdict} (e : v ≡ verdict_of n j) where
-        verdict-is : job_fault n j ≡ fault v.status v.dim
-        unfolding verdict_of
-        verdict-is = ap (λ (x : Verdict). fault x.status x.dim) (sym e)
+      pub prepare-job : (k : ℕ) {e : Fault} → Err e ≡ outcome (job_fault n j) k → Err e ≡ outcome (prepare_fault t n j) (lowest_free t)
+      prepare-job k q =
+          sym (ap (λ (f : Fault). outcome f (lowest_free t)) prepare-room ∙ halts (job_fault n j) k _ (lowest_free t) q refl)
 
-        pub prepare-job : (v.status ≡ 0 → ⊥) → record { status = v.status; dim = v.dim; handle = 0; table = t } ≡ prepare_of t n j
-        prepare-job h = refuses (prepare-room ∙ or_found _ _ (λ y. h (sym (status verdict-is) ∙ y)) ∙ verdict-is) h
+      module _ (y : (job_fault n j).status ≡ 0) where
+        prepare-clear : prepare_fault t n j ≡ when 22 0 (clashes t j 4)
+        prepare-clear = prepare-room ∙ or_none _ _ y
 
-        module _ (y : v.status ≡ 0) where
-          prepare-clear : prepare_fault t n j ≡ when 22 0 (clashes t j 4)
-          prepare-clear = prepare-room ∙ or_none _ _ (status verdict-is ∙ y)
+        pub prepare-22 : clashes t j 4 ≡ true → Err (fault 22 0) ≡ outcome (prepare_fault t n j) (lowest_free t)
+        prepare-22 p = refuses (lowest_free t) (prepare-clear ∙ when_bad 22 0 _ p) (λ z. omega arith)
 
-          pub prepare-22 : clashes t j 4 ≡ true → record { status = 22; dim = 0; handle = 0; table = t } ≡ prepare_of t n j
-          prepare-22 p = refuses (prepare-clear ∙ when_bad 22 0 _ p) (λ x. omega arith)
-
-          pub prepare-given : clashes t j 4 ≡ false → {h : ℕ} {u : Table} → h ≡ lowest_free t → u ≡ with_slot t h (new_slot j) →
-              record { status = 0; dim = 0; handle = h; table = u } ≡ prepare_of t n j
-          unfolding prepare_of
-          prepare-given p {h} eh eu =
-              let w = eu ∙ ap (λ (k : ℕ). with_slot t k (new_slot j)) eh in
-              (λ i. record { status = 0; dim = 0; handle = eh i; table = w i }) ∙
-              sym (if_none (prepare_fault t n j) _ _ (status prepare-clear ∙ when_zero 22 0 _ p))
+        pub prepare-given : clashes t j 4 ≡ false → {h : ℕ} → h ≡ lowest_free t → Ok h ≡ outcome (prepare_fault t n j) (lowest_free t)
+        prepare-given p e = ap Ok e ∙ passes _ (lowest_free t) (status prepare-clear ∙ when_zero 22 0 _ p)
 
   -- what a prepare that is not refused knows
   pub record Preparing : Type 0 where
@@ -190,14 +183,30 @@ module _ (t : Table) (n : ℕ) (j : Job) where
         apart = u.1.1.1;
       }
 
+module _ (t : Table) (n : ℕ) (j : Job) where
+  pub prepare_stopped : {e : Fault} → Err e ≡ outcome (prepare_fault t n j) (lowest_free t) →
+      record { status = e.status; dim = e.dim; handle = 0; table = t } ≡ prepare_of t n j
+  unfolding prepare_of
+  prepare_stopped q =
+      ap (λ (f : Fault). record { status = f.status; dim = f.dim; handle = 0; table = t }) (tells_err _ _ q).0 ∙
+      answer_err (prepare_fault t n j) (lowest_free t) _ _ q
+
+  pub prepare_went : {h : ℕ} {u : Table} → Ok h ≡ outcome (prepare_fault t n j) (lowest_free t) → u ≡ with_slot t h (new_slot j) →
+      record { status = 0; dim = 0; handle = h; table = u } ≡ prepare_of t n j
+  unfolding prepare_of
+  prepare_went {h} q e =
+      let is = (tells_ok _ _ q).0 in
+      let w = e ∙ ap (λ (k : ℕ). with_slot t k (new_slot j)) is in
+      (λ i. record { status = 0; dim = 0; handle = is i; table = w i }) ∙ answer_ok (prepare_fault t n j) (lowest_free t) _ _ q
+
 -- ---- start and release
 
-module _ (f : Fault) (t : Table) (h : ℕ) (s : Slot) where
-  pub change-refused : {r : ℕ} → r ≡ f.status → (r ≡ 0 → ⊥) → record { status = r; table = t } ≡ changed f t h s
+module _ (f : Fault) (x : Slot) (t : Table) (h : ℕ) (s : Slot) where
+  pub change_stopped : {e : Fault} → Err e ≡ outcome f x → record { status = e.status; table = t } ≡ changed f t h s
   unfolding changed
-  change-refused e b =
-      ap (λ (k : ℕ). record { status = k; table = t }) e ∙ sym (if_fault_lem f _ _ (λ z. b (e ∙ z)))
+  change_stopped q =
+      ap (λ (g : Fault). record { status = g.status; table = t }) (tells_err f x q).0 ∙ answer_err f x _ _ q
 
-  pub change-given : f.status ≡ 0 → {u : Table} → u ≡ with_slot t h s → record { status = 0; table = u } ≡ changed f t h s
+  pub change_went : {y : Slot} {u : Table} → Ok y ≡ outcome f x → u ≡ with_slot t h s → record { status = 0; table = u } ≡ changed f t h s
   unfolding changed
-  change-given z e = ap (λ (x : Table). record { status = 0; table = x }) e ∙ sym (if_none f _ _ z)
+  change_went q e = ap (λ (z : Table). record { status = 0; table = z }) e ∙ answer_ok f x _ _ q

@@ -1,16 +1,22 @@
 -- The four slots of a table: reading one, putting one in its place, and the lowest that is free. Assumes nothing.
-use Prim.Native.Nat.{ℕ, zero, suc, ◌+◌, ◌<◌}
+use Prim.Native.Nat.{ℕ, zero, suc, ◌+◌, ◌≤◌, ◌<◌}
 use native.Mathlib.Nat.{le_of_suc-le-suc}
 use native.Mathlib.Decide.{ℕ_discrete}
 use native.Mathlib.Omega.{arith}
 use mathlib.Core.Path.{◌≡◌, refl, sym, ap, subst, ◌∙◌}
-use mathlib.Core.Bool.{cond}
+use mathlib.Core.Bool.{Bool, true, false, cond, ◌&&◌, ◌||◌}
 use mathlib.Core.List.{List, [], ◌∷◌}
 use borrow.Author.Count.{below_more}
-use borrow.Author.Tests.{eq-eqb, ne_eqb}
+use borrow.Author.Tests.{eq-eqb, ne_eqb, eqb-true, eqb-false, lt-ltb}
 use lib.Dec.{eqb}
-use lib.ListN.{length, get_or, set}
-use Rattle.plane.specs.Arrays.{array}
+use lib.ListN.{length, get_or, set, take}
+use Rattle.std.specs.Prelude.{None, Some}
+use Rattle.std.specs.List.{list_any, position}
+use Rattle.std.proofs.lemmas.List.Quantifiers.{position-Some}
+use Rattle.std.proofs.lemmas.List.Sums.{position_or_len_is}
+use Rattle.std.proofs.lemmas.List.Folds.{list_any-append}
+use Rattle.std.proofs.Math.Seq.{take-suc}
+use Rattle.plane.specs.Arrays.{array, some, every}
 use Rattle.transfers.specs.declared.Slot.{Slot}
 use Rattle.transfers.specs.declared.Table.{Table}
 use Rattle.transfers.specs.Slots.{free_slot, slot_at, with_slot, lowest_free}
@@ -117,3 +123,65 @@ module _ (t : Table) where
 
   pub lowest_is : (lowest_free t ≡ 4 → ⊥) → Lowest (lowest_free t)
   lowest_is d = search_from 4 0 refl (λ k l. absurd (omega arith)) d
+
+-- ---- what the code's searches through the slots tell
+
+-- the search for a free slot
+module _ (t : Table) (e : length t.slots ≡ 4) where
+  pub found_free : {h : ℕ} → Some h ≡ position (λ s. eqb s.state 0) t.slots → (h < 4) × (h ≡ lowest_free t)
+  found_free {h} q =
+      let w = position-Some (λ (s : Slot). eqb s.state 0) t.slots h free_slot (sym q) in
+      let l : h < 4 = omega (arith, w.0) in
+      (l, lowest_found t h l (λ k b. eqb-false (slot_at t k).state 0 (w.2 k b)) (eqb-true (slot_at t h).state 0 w.1))
+
+  finds : (lowest_free t ≡ 4 → ⊥) → position (λ s. eqb s.state 0) t.slots ≡ Some (lowest_free t)
+  finds d =
+      let l = lowest_is t d in
+      let r = l.range in
+      let at = position_or_len_is (λ (s : Slot). eqb s.state 0) t.slots (lowest_free t) free_slot (omega arith)
+      (λ k b. ne_eqb (slot_at t k).state 0 (l.below k b)) (λ b. eq-eqb (slot_at t (lowest_free t)).state 0 l.free) in
+      rw at (simp (lt-ltb (lowest_free t) (length t.slots) (omega arith)))
+
+  pub found_none : None ≡ position (λ s. eqb s.state 0) t.slots → lowest_free t ≡ 4
+  found_none q = elim (ℕ_discrete (lowest_free t) 4) [
+    | yes e ↦ e
+    | no d ↦ let w = q ∙ finds d in absurd (cc)
+  ]
+
+-- a test of the first n slots
+one_any : (p : Slot → Bool) (x : Slot) → list_any p (x ∷ []) ≡ p x
+one_any p x = by_test (p x)
+  where
+    by_test : (b : Bool) → (b || false) ≡ b
+    by_test true = refl
+    by_test false = refl
+
+pub any_some : (p : Slot → Bool) (xs : List Slot) (n : ℕ) → n ≤ length xs → list_any p (take n xs) ≡ some n (λ k. p (get_or xs k free_slot))
+unfolding some
+any_some p xs zero h = refl
+any_some p xs (suc n) h =
+    ap (list_any p) (take-suc xs n free_slot (omega arith)) ∙ list_any-append p (take n xs) (get_or xs n free_slot ∷ []) ∙
+    (λ i. any_some p xs n (omega arith) i || one_any p (get_or xs n free_slot) i)
+
+-- a test of all four
+four_tests : (a b c d : Bool) → (a && (b && (c && (d && true)))) ≡ ((((true && a) && b) && c) && d)
+four_tests false false false false = refl
+four_tests false false false true = refl
+four_tests false false true false = refl
+four_tests false false true true = refl
+four_tests false true false false = refl
+four_tests false true false true = refl
+four_tests false true true false = refl
+four_tests false true true true = refl
+four_tests true false false false = refl
+four_tests true false false true = refl
+four_tests true false true false = refl
+four_tests true false true true = refl
+four_tests true true false false = refl
+four_tests true true false true = refl
+four_tests true true true false = refl
+four_tests true true true true = refl
+
+pub all_four : (p : ℕ → Bool) → (p 0 && (p 1 && (p 2 && (p 3 && true)))) ≡ every 4 p
+unfolding every
+all_four p = four_tests (p 0) (p 1) (p 2) (p 3)

@@ -14,6 +14,7 @@ pub mod Polls
 pub mod Boundaries
 pub mod Work
 -- Laws over plain values, which the functions' proofs cite.
+pub mod Equal
 pub mod Fours
 pub mod Meeting
 pub mod Sounds

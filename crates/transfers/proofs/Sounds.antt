@@ -1,14 +1,17 @@
 -- What a sound table tells: of its length, of each slot, and of any two slots. Assumes nothing.
-use Prim.Native.Nat.{ℕ, ◌+◌, ◌≤◌, ◌<◌}
+use Prim.Native.Nat.{ℕ, ◌≤◌, ◌<◌}
 use native.Mathlib.Decide.{dec_lt, ℕ_discrete}
 use native.Mathlib.Omega.{arith}
 use mathlib.Core.Path.{◌≡◌, sym, ap, ◌∙◌}
 use mathlib.Core.Bool.{Bool, true, false, not, ◌&&◌, true≢false}
 use borrow.Author.Tests.{eq-eqb, ne_eqb, eqb-true, ltb-true, leb-true, le-leb, lt-leb, not-true}
 use lib.Dec.{ltb, leb, eqb}
+use lib.ListN.{length, take}
+use Rattle.std.specs.List.{list_any}
+use Rattle.faults.specs.Faults.{fault}
 use Rattle.plane.specs.Arrays.{every}
-use Rattle.faults.proofs.Bools.{both_first, both_second, both, not_first, not_second}
-use Rattle.plane.proofs.Arrays.{some_clear, some_none, every_all, every_each, every_missed, every_more, every_end}
+use Rattle.faults.proofs.Bools.{both_first, both_second, both, not_first}
+use Rattle.plane.proofs.Arrays.{some_clear, some_none, every_all, every_each}
 use Rattle.mover.specs.declared.Job.{Job}
 use Rattle.mover.specs.declared.Verdict.{Verdict}
 use Rattle.mover.specs.Within.{job_fault, total_of, verdict_of}
@@ -16,6 +19,7 @@ use Rattle.transfers.specs.declared.Slot.{Slot}
 use Rattle.transfers.specs.declared.Table.{Table}
 use Rattle.transfers.specs.Sound.{SoundTable, SoundMeans}
 use Rattle.transfers.specs.Slots.{slot_at, breaks, clashes, is_zero_part, is_zero_tensor, is_zero_config, is_zero_job, moved_right, slot_sound, sound_at, table_sound, limit}
+use Rattle.transfers.proofs.Fours.{any_some}
 use Rattle.transfers.proofs.Meeting.{breaks_either, empty_breaks}
 
 -- ---- moved and the state
@@ -77,6 +81,14 @@ module _ (n : ℕ) (s : Slot) where
     pub busy_sound : Busy n s → slot_sound n s ≡ true
     busy_sound u = sym taken ∙ both _ _ (eq-eqb (job_fault n s.job).status 0 u.clear) u.right
 
+    pub fault_unsound : ((job_fault n s.job).status ≡ 0 → ⊥) → false ≡ slot_sound n s
+    fault_unsound h =
+        sym (not_first _ (moved_right s.state s.moved (total_of s.job)) (ne_eqb (job_fault n s.job).status 0 h)) ∙ taken
+
+    pub clear_sound : (job_fault n s.job).status ≡ 0 → {r : Bool} → r ≡ moved_right s.state s.moved (total_of s.job) → r ≡ slot_sound n s
+    clear_sound z p =
+        p ∙ sym (ap (λ (x : Bool). x && moved_right s.state s.moved (total_of s.job)) (eq-eqb (job_fault n s.job).status 0 z)) ∙ taken
+
     -- what the mover says of its job
     module _ {v : Verdict} (e : v ≡ verdict_of n s.job) where
       verdict_status : v.status ≡ (job_fault n s.job).status
@@ -92,6 +104,10 @@ module _ (n : ℕ) (s : Slot) where
 pub verdict_clear : (n : ℕ) (j : Job) {v : Verdict} → v ≡ verdict_of n j → v.status ≡ 0 → (job_fault n j).status ≡ 0
 unfolding verdict_of
 verdict_clear n j e z = ap (λ (x : Verdict). x.status) (sym e) ∙ z
+
+pub verdict_fault : (n : ℕ) (j : Job) {v : Verdict} → v ≡ verdict_of n j → record { status = v.status; dim = v.dim } ≡ job_fault n j
+unfolding verdict_of
+verdict_fault n j e = ap (λ (x : Verdict). fault x.status x.dim) e
 
 pub verdict_total : (n : ℕ) (j : Job) {v : Verdict} → v ≡ verdict_of n j → (job_fault n j).status ≡ 0 → v.total ≡ total_of j
 unfolding verdict_of
@@ -139,31 +155,33 @@ module _ (t : Table) where
       both _ _ (s.each i h)
       (ap not (some_none i (λ (k : ℕ). breaks (slot_at t i).job (slot_at t k).job) (λ k l. s.apart i k h (omega arith) (omega arith))))))
 
-  -- ---- a loop over the slots: those below i are sound and apart
+  -- ---- what the code's tests tell
 
   pub long_unsound : limit < t.length → false ≡ table_sound t
   unfolding table_sound
   long_unsound h = sym (not_first _ (every 4 (sound_at t)) (lt-leb t.length limit h))
 
-  missed : (i : ℕ) → i < 4 → sound_at t i ≡ false → false ≡ table_sound t
+  -- the slot at i, as the code reads it
+  module _ (i : ℕ) {s : Slot} (e : s ≡ slot_at t i) where
+    pub at_unsound : {a : Bool} → a ≡ slot_sound t.length s → a ≡ false → a ≡ sound_at t i
+    unfolding sound_at
+    at_unsound p f = f ∙ sym (not_first _ (not (clashes t (slot_at t i).job i)) (ap (slot_sound t.length) (sym e) ∙ sym p ∙ f))
+
+    pub at_clashes : {a b : Bool} → a ≡ slot_sound t.length s → a ≡ true → b ≡ clashes t s.job i → not b ≡ sound_at t i
+    unfolding sound_at
+    at_clashes p f q =
+        let w = ap (slot_sound t.length) (sym e) ∙ sym p ∙ f in
+        ap not (q ∙ ap (λ (x : Slot). clashes t x.job i) e) ∙
+        sym (ap (λ (x : Bool). x && not (clashes t (slot_at t i).job i)) w)
+
+  pub short_sound : t.length ≤ limit → {r : Bool} → r ≡ every 4 (sound_at t) → r ≡ table_sound t
   unfolding table_sound
-  missed i h e = sym (not_second (leb t.length limit) _ (every_missed (sound_at t) 4 i h e))
+  short_sound l e = e ∙ sym (ap (λ (x : Bool). x && every 4 (sound_at t)) (le-leb t.length limit l))
 
-  pub slot_unsound : (i : ℕ) → i < 4 → slot_sound t.length (slot_at t i) ≡ false → false ≡ table_sound t
-  unfolding sound_at
-  slot_unsound i h e = missed i h (not_first _ (not (clashes t (slot_at t i).job i)) e)
-
-  pub slot_clashes : (i : ℕ) → i < 4 → clashes t (slot_at t i).job i ≡ true → false ≡ table_sound t
-  unfolding sound_at
-  slot_clashes i h e = missed i h (not_second (slot_sound t.length (slot_at t i)) _ (ap not e))
-
-  pub slots_more : (i : ℕ) → every i (sound_at t) ≡ true → slot_sound t.length (slot_at t i) ≡ true → clashes t (slot_at t i).job i ≡ false → every (i + 1) (sound_at t) ≡ true
-  unfolding sound_at
-  slots_more i e p q = every_more (sound_at t) i e (both _ _ p (ap not q))
-
-  pub slots_end : (i : ℕ) → t.length ≤ limit → every i (sound_at t) ≡ true → i ≤ 4 → 4 ≤ i → true ≡ table_sound t
-  unfolding table_sound
-  slots_end i l e h k = sym (both _ _ (le-leb t.length limit l) (every_end (sound_at t) 4 i e h k))
+-- a test of the first n slots, as the code makes it
+pub clashes_told : (t : Table) (j : Job) (n : ℕ) → length t.slots ≡ 4 → n ≤ 4 → list_any (λ s. breaks j s.job) (take n t.slots) ≡ clashes t j n
+unfolding clashes
+clashes_told t j n e h = any_some (λ (s : Slot). breaks j s.job) t.slots n (omega arith)
 
 pub sound_means : SoundMeans
 sound_means t = (sound_tells t, tells_sound t)

@@ -4,19 +4,23 @@ use native.Mathlib.Omega.{arith}
 use mathlib.Core.Path.{◌≡◌, sym, ap, subst, ◌∙◌}
 use mathlib.Core.Bool.{true, false, not}
 use mathlib.Core.List.{List}
-use borrow.Author.Tests.{ne_eqb, ltb-true, lt-ltb, le-ltb}
+use borrow.Author.Tests.{eq-eqb, ne_eqb, ltb-true, ltb-false, lt-ltb, le-ltb, not-false}
+use lib.Dec.{ltb}
 use lib.ListN.{length}
-use Rattle.faults.specs.Faults.{fault}
+use Rattle.std.specs.Prelude.{Ok, Err}
+use Rattle.faults.specs.declared.Fault.{Fault}
+use Rattle.faults.specs.Faults.{fault, when, outcome}
 use Rattle.faults.proofs.Faults.{status, is_fault, given, spared, when_bad, when_zero, if_fault_lem, if_none}
 use Rattle.mover.specs.declared.Advanced.{Advanced}
 use Rattle.mover.specs.Within.{job_fault, total_of, advanced_by, advance_of, advance_memory}
 use Rattle.transfers.specs.declared.Slot.{Slot}
 use Rattle.transfers.specs.declared.Table.{Table}
-use Rattle.transfers.specs.declared.Poll.{Poll}
 use Rattle.transfers.specs.declared.Poll.TheVariants as poll
-use Rattle.transfers.specs.Slots.{slot_at, with_slot, table_sound}
-use Rattle.transfers.specs.Calls.{call_fault, step_count, later, step_of, step_memory, left, poll_slot, poll_fault, poll_of, poll_numbers}
+use Rattle.transfers.specs.Slots.{slot_at, with_slot, slot_sound, table_sound}
+use Rattle.transfers.specs.Calls.{call_fault, step_count, later, step_of, step_memory, left, poll_slot, poll_rules, poll_fault, poll_of}
 use Rattle.transfers.proofs.Sounds.{Busy, busy, right_2, right_most, sound_tells}
+use Rattle.faults.proofs.Chains.{unbroken}
+use Rattle.faults.proofs.Outcomes.{refuses, tells_ok, tells_err, answer_ok, answer_err}
 use Rattle.transfers.proofs.Answers.{called}
 
 -- ---- step
@@ -28,6 +32,16 @@ running_left n s u e =
 
 pub count_within : (s : Slot) (budget : ℕ) → s.moved ≤ total_of s.job → s.moved + step_count s budget ≤ total_of s.job
 count_within s budget h = omega arith
+
+-- a slot after a step, by what the code finds it to be
+module _ (s : Slot) (k : ℕ) {r : ℕ} where
+  pub later_done : s.moved + k ≡ total_of s.job → r ≡ 3 → record { state = r; job = s.job; moved = s.moved + k } ≡ later s k
+  unfolding later
+  later_done e p = rw (p, eq-eqb (s.moved + k) (total_of s.job) e)
+
+  pub later_going : (s.moved + k ≡ total_of s.job → ⊥) → r ≡ 2 → record { state = r; job = s.job; moved = s.moved + k } ≡ later s k
+  unfolding later
+  later_going h p = rw (p, ne_eqb (s.moved + k) (total_of s.job) h)
 
 module _ (t : Table) (h budget : ℕ) (m : List ℕ) where
   pub step_refused : {r : ℕ} → r ≡ (call_fault t (length m) h 2).status → (r ≡ 0 → ⊥) →
@@ -85,27 +99,23 @@ module _ (t : Table) (h budget : ℕ) (m : List ℕ) where
 -- ---- poll
 
 module _ (s : Slot) where
-  slot_free : s.state ≡ 0 → poll.Free ≡ poll_slot s
+  pub slot_free : s.state ≡ 0 → poll.Free ≡ poll_slot s
   unfolding poll_slot
   slot_free e = simp e
 
-  slot_prepared : s.state ≡ 1 → poll.Prepared (left s) ≡ poll_slot s
+  pub slot_prepared : s.state ≡ 1 → poll.Prepared (left s) ≡ poll_slot s
   unfolding poll_slot
   slot_prepared e = simp e
 
-  slot_running : s.state ≡ 2 → poll.Running (left s) ≡ poll_slot s
+  pub slot_running : s.state ≡ 2 → poll.Running (left s) ≡ poll_slot s
   unfolding poll_slot
   slot_running e = simp e
 
-  slot_done : (s.state ≡ 0 → ⊥) → (s.state ≡ 1 → ⊥) → (s.state ≡ 2 → ⊥) → poll.Done ≡ poll_slot s
+  pub slot_done : (s.state ≡ 0 → ⊥) → (s.state ≡ 1 → ⊥) → (s.state ≡ 2 → ⊥) → poll.Done ≡ poll_slot s
   unfolding poll_slot
   slot_done a b d = simp (ne_eqb s.state 0 a, ne_eqb s.state 1 b, ne_eqb s.state 2 d)
 
 module _ (t : Table) (h : ℕ) where
-  -- both clauses of a poll's contract, from the first
-  pub numbered : {r : Poll} → r ≡ poll_of t h → (r ≡ poll_of t h) × (poll_numbers r ≡ poll_numbers (poll_of t h))
-  numbered e = (e, ap poll_numbers e)
-
   refused_by : {num : ℕ} → 0 < num → poll_fault t h ≡ fault num 0 → poll.Refused num ≡ poll_of t h
   unfolding poll_of
   refused_by {num} p e = ap poll.Refused (sym (status e)) ∙ sym (if_fault_lem (poll_fault t h) _ _ (is_fault num 0 p e))
@@ -128,12 +138,6 @@ module _ (t : Table) (h : ℕ) where
       pub poll_free : s.state ≡ 0 → poll.Free ≡ poll_of t h
       poll_free z = slot_free s z ∙ its_poll
 
-      -- what `left_of` asks
-      pub poll_fits : (s.state ≡ 0 → ⊥) → ((job_fault t.length s.job).status ≡ 0) × (s.moved ≤ total_of s.job)
-      poll_fits z =
-          let u = busy t.length s z (rw es ((sound_tells t e).each h (omega arith))) in
-          (u.clear, right_most s.state s.moved (total_of s.job) u.right)
-
       pub poll_prepared : {k : ℕ} → k ≡ left s → s.state ≡ 1 → poll.Prepared k ≡ poll_of t h
       poll_prepared p z = ap poll.Prepared p ∙ slot_prepared s z ∙ its_poll
 
@@ -142,3 +146,31 @@ module _ (t : Table) (h : ℕ) where
 
       pub poll_done : (s.state ≡ 0 → ⊥) → (s.state ≡ 1 → ⊥) → (s.state ≡ 2 → ⊥) → poll.Done ≡ poll_of t h
       poll_done x y z = slot_done s x y z ∙ its_poll
+
+  -- the check before it
+  pub polled_18 : table_sound t ≡ false → Err (fault 18 0) ≡ outcome (poll_fault t h) (slot_at t h)
+  unfolding poll_fault
+  polled_18 e = refuses (slot_at t h) (given 18 0 _ _ (omega arith) (ap not e)) (λ z. omega arith)
+
+  pub polled_slot : table_sound t ≡ true → outcome (when 23 0 (ltb 3 h)) (slot_at t h) ≡ outcome (poll_fault t h) (slot_at t h)
+  unfolding poll_fault
+  polled_slot e = ap (λ (f : Fault). outcome f (slot_at t h)) (sym (spared 18 0 _ _ (ap not e)))
+
+  -- what it tells of the slot
+  module _ {x : Slot} (q : Ok x ≡ outcome (poll_fault t h) (slot_at t h)) where
+    pub polled_sound : slot_sound t.length x ≡ true
+    unfolding poll_fault
+    polled_sound =
+        let w = tells_ok _ _ q in
+        let u = unbroken (poll_rules t h) (omega arith) w.1 in
+        let b = ltb-false 3 h u.1 in
+        rw w.0 ((sound_tells t (not-false (table_sound t) u.0)).each h (omega arith))
+
+    pub polled_answer : poll_slot x ≡ poll_of t h
+    unfolding poll_of
+    polled_answer = ap poll_slot (tells_ok _ _ q).0 ∙ answer_ok (poll_fault t h) (slot_at t h) _ _ q
+
+  pub polled_refused : {f : Fault} → Err f ≡ outcome (poll_fault t h) (slot_at t h) → poll.Refused f.status ≡ poll_of t h
+  unfolding poll_of
+  polled_refused q =
+      ap (λ (f : Fault). poll.Refused f.status) (tells_err _ _ q).0 ∙ answer_err (poll_fault t h) (slot_at t h) _ _ q

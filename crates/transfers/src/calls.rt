@@ -1,85 +1,118 @@
 // The calls on a table: each but fresh and poll looks at the memory's length first, and then whether the table is sound.
-ghost use Rattle.std.specs.Prelude.{◌≡◌, ◌+◌, ◌≤◌, length};
-ghost use Rattle.transfers.specs.Calls.{fresh_of, open_fault, call_fault, prepare_of, start_of, release_of};
-ghost use Rattle.transfers.specs.Calls.{later, left, step_of, step_memory, poll_of, poll_numbers};
+ghost use Rattle.std.specs.Prelude.{◌≡◌, ◌+◌, ◌≤◌, true, length};
+ghost use Rattle.faults.specs.Faults.{outcome};
+ghost use Rattle.transfers.specs.Slots.{slot_at, slot_sound, lowest_free};
+ghost use Rattle.transfers.specs.Calls.{fresh_of, open_fault, call_fault, prepare_fault, prepare_of, start_of, release_of};
+ghost use Rattle.transfers.specs.Calls.{later, left, step_of, step_memory, poll_fault, poll_of, poll_slot, poll_numbers};
 ghost use Rattle.mover.specs.Within.{job_fault, total_of};
 
-use crate::slots::{free_slot, fresh_table, lowest_free, slot_at, with_slot};
-use crate::sound::{clashes, is_sound};
+use crate::refusals::{CLASH, FULL, NO_TRANSFER, OTHER_LENGTH, OTHER_STATE, UNSOUND, judged};
 use crate::{
     Changed, DONE, FREE, FreshTable, LIMIT, PREPARED, Poll, Prepared, RUNNING, Slot, Stepped, Table,
 };
+use faults::Fault;
 use mover::Job;
 
-// 17, 18: the number of refusal of a table over a memory of n bytes.
-fn open_status(t: Table, n: usize) -> u8
-    ensures { result ≡ (open_fault t n).status }
-{
-    if n as u64 != t.length {
-        return 17;
+impl Slot {
+    // A running slot after count further elements, over a memory of n bytes: done where none is left.
+    fn later(self, n: usize, count: u64) -> Slot
+        requires { ((job_fault n self.job).status ≡ 0) × (self.moved + count ≤ total_of self.job) }
+        ensures { result ≡ later self count }
+    {
+        let verdict = mover::judge_job(n, self.job);
+        let moved = self.moved + count;
+        Slot {
+            state: if moved == verdict.total {
+                DONE
+            } else {
+                RUNNING
+            },
+            moved,
+            ..self
+        }
     }
-    if !is_sound(t) {
-        return 18;
+
+    // How many elements a slot that is not free has left, over a memory of n bytes.
+    fn left(self, n: usize) -> u64
+        requires { ((job_fault n self.job).status ≡ 0) × (self.moved ≤ total_of self.job) }
+        ensures { result ≡ left self }
+    {
+        let verdict = mover::judge_job(n, self.job);
+        verdict.total - self.moved
     }
-    0
+
+    // What a poll of a sound slot tells, over a memory of n bytes.
+    fn told(self, n: usize) -> Poll
+        requires { slot_sound n self ≡ true }
+        ensures { result ≡ poll_slot self }
+    {
+        if self.state == FREE {
+            return Poll::Free;
+        }
+        let left = self.left(n);
+        match self.state {
+            PREPARED => Poll::Prepared(left),
+            RUNNING => Poll::Running(left),
+            _ => Poll::Done,
+        }
+    }
 }
 
-// 17, 18, 23, 24: the same for a call on a slot that is to be in the state want.
-fn call_status(t: Table, n: usize, handle: u32, want: u8) -> u8
-    ensures { result ≡ (call_fault t n handle want).status }
-{
-    let status = open_status(t, n);
-    if status != 0 {
-        return status;
+// The checks of the calls, in the paper's order.
+impl Table {
+    // 17, 18: whether the table may be called on over a memory of n bytes.
+    fn opened(self, n: usize) -> Result<(), Fault>
+        ensures { result ≡ outcome (open_fault self n) tt }
+    {
+        if n as u64 != self.length {
+            return Err(OTHER_LENGTH);
+        }
+        if !self.is_sound() {
+            return Err(UNSOUND);
+        }
+        Ok(())
     }
-    if 3 < handle {
-        return 23;
-    }
-    let slot = slot_at(t, handle);
-    let state = slot.state;
-    if state == FREE {
-        return 23;
-    }
-    if state != want {
-        return 24;
-    }
-    0
-}
 
-// A refusal to prepare.
-fn unprepared(t: Table, status: u8, dim: u8) -> Prepared
-    ensures { result ≡ record { status = status; dim = dim; handle = 0; table = t } }
-{
-    Prepared {
-        status,
-        dim,
-        handle: 0,
-        table: t,
+    // 17, 18, 19, 20, 1 to 13, 34, 21, 22: the slot that a job may take.
+    fn room_for(self, n: usize, job: Job) -> Result<u32, Fault>
+        ensures { result ≡ outcome (prepare_fault self n job) (lowest_free self) }
+    {
+        self.opened(n)?;
+        let Some(handle) = self.lowest_free() else {
+            return Err(FULL);
+        };
+        judged(n, job)?;
+        if self.clashes(job, 4) {
+            return Err(CLASH);
+        }
+        Ok(handle as u32)
     }
-}
 
-// A running slot after count further elements, over a memory of n bytes: done where none is left.
-fn later(n: usize, slot: Slot, count: u64) -> Slot
-    requires { ((job_fault n slot.job).status ≡ 0) × (slot.moved + count ≤ total_of slot.job) }
-    ensures { result ≡ later slot count }
-{
-    let verdict = mover::judge_job(n, slot.job);
-    let mut after = slot;
-    after.moved = slot.moved + count;
-    after.state = RUNNING;
-    if after.moved == verdict.total {
-        after.state = DONE;
+    // 17, 18, 23, 24: the slot of a transfer that is in the state want.
+    fn called(self, n: usize, handle: u32, want: u8) -> Result<Slot, Fault>
+        ensures { result ≡ outcome (call_fault self n handle want) (slot_at self handle) }
+    {
+        self.opened(n)?;
+        let slot = self.slot(handle)?;
+        let state = slot.state;
+        if state == FREE {
+            return Err(NO_TRANSFER);
+        }
+        if state != want {
+            return Err(OTHER_STATE);
+        }
+        Ok(slot)
     }
-    after
-}
 
-// How many elements a slot that is not free has left, over a memory of n bytes.
-fn left_of(n: usize, slot: Slot) -> u64
-    requires { ((job_fault n slot.job).status ≡ 0) × (slot.moved ≤ total_of slot.job) }
-    ensures { result ≡ left slot }
-{
-    let verdict = mover::judge_job(n, slot.job);
-    verdict.total - slot.moved
+    // 18, 23: the slot that a poll tells of.
+    fn polled(self, handle: u32) -> Result<Slot, Fault>
+        ensures { result ≡ outcome (poll_fault self handle) (slot_at self handle) }
+    {
+        if !self.is_sound() {
+            return Err(UNSOUND);
+        }
+        self.slot(handle)
+    }
 }
 
 impl Table {
@@ -90,12 +123,12 @@ impl Table {
         if LIMIT < length {
             return FreshTable {
                 status: 17,
-                table: fresh_table(0),
+                table: Table::empty(0),
             };
         }
         FreshTable {
             status: 0,
-            table: fresh_table(length),
+            table: Table::empty(length),
         }
     }
 
@@ -103,31 +136,26 @@ impl Table {
     pub fn prepare(self, mem: &[u8], job: Job) -> Prepared
         ensures { result ≡ prepare_of self (length mem.now) job }
     {
-        let status = open_status(self, mem.len());
-        if status != 0 {
-            return unprepared(self, status, 0);
-        }
-        let handle = lowest_free(self);
-        if handle == 4 {
-            return unprepared(self, 19, 0);
-        }
-        let verdict = mover::judge_job(mem.len(), job);
-        if verdict.status != 0 {
-            return unprepared(self, verdict.status, verdict.dim);
-        }
-        if clashes(self, job, 4) {
-            return unprepared(self, 22, 0);
-        }
-        let slot = Slot {
-            state: PREPARED,
-            job,
-            moved: 0,
-        };
-        Prepared {
-            status: 0,
-            dim: 0,
-            handle,
-            table: with_slot(self, handle, slot),
+        match self.room_for(mem.len(), job) {
+            Ok(handle) => {
+                let slot = Slot {
+                    state: PREPARED,
+                    job,
+                    moved: 0,
+                };
+                Prepared {
+                    status: 0,
+                    dim: 0,
+                    handle,
+                    table: self.with_slot(handle, slot),
+                }
+            }
+            Err(fault) => Prepared {
+                status: fault.status,
+                dim: fault.dim,
+                handle: 0,
+                table: self,
+            },
         }
     }
 
@@ -135,18 +163,18 @@ impl Table {
     pub fn start(self, mem: &[u8], handle: u32) -> Changed
         ensures { result ≡ start_of self (length mem.now) handle }
     {
-        let status = call_status(self, mem.len(), handle, PREPARED);
-        if status != 0 {
-            return Changed {
-                status,
+        match self.called(mem.len(), handle, PREPARED) {
+            Ok(mut slot) => {
+                slot.state = RUNNING;
+                Changed {
+                    status: 0,
+                    table: self.with_slot(handle, slot),
+                }
+            }
+            Err(fault) => Changed {
+                status: fault.status,
                 table: self,
-            };
-        }
-        let mut slot = slot_at(self, handle);
-        slot.state = RUNNING;
-        Changed {
-            status: 0,
-            table: with_slot(self, handle, slot),
+            },
         }
     }
 
@@ -156,21 +184,21 @@ impl Table {
         ensures written { mem.new ≡ step_memory self handle budget mem.old }
     {
         let n = mem.len();
-        let status = call_status(self, n, handle, RUNNING);
-        if status != 0 {
-            return Stepped {
-                status,
+        match self.called(n, handle, RUNNING) {
+            Ok(slot) => {
+                let advanced = mover::advance(mem, slot.job, slot.moved, budget);
+                let count = advanced.count;
+                Stepped {
+                    status: 0,
+                    count,
+                    table: self.with_slot(handle, slot.later(n, count)),
+                }
+            }
+            Err(fault) => Stepped {
+                status: fault.status,
                 count: 0,
                 table: self,
-            };
-        }
-        let slot = slot_at(self, handle);
-        let advanced = mover::advance(mem, slot.job, slot.moved, budget);
-        let count = advanced.count;
-        Stepped {
-            status: 0,
-            count,
-            table: with_slot(self, handle, later(n, slot, count)),
+            },
         }
     }
 
@@ -178,16 +206,15 @@ impl Table {
     pub fn release(self, mem: &[u8], handle: u32) -> Changed
         ensures { result ≡ release_of self (length mem.now) handle }
     {
-        let status = call_status(self, mem.len(), handle, DONE);
-        if status != 0 {
-            return Changed {
-                status,
+        match self.called(mem.len(), handle, DONE) {
+            Ok(_) => Changed {
+                status: 0,
+                table: self.with_slot(handle, Slot::free()),
+            },
+            Err(fault) => Changed {
+                status: fault.status,
                 table: self,
-            };
-        }
-        Changed {
-            status: 0,
-            table: with_slot(self, handle, free_slot()),
+            },
         }
     }
 
@@ -196,23 +223,9 @@ impl Table {
         ensures answered { result ≡ poll_of self handle }
         ensures numbered { poll_numbers result ≡ poll_numbers (poll_of self handle) }
     {
-        if !is_sound(self) {
-            return Poll::Refused(18);
+        match self.polled(handle) {
+            Ok(slot) => slot.told(self.length as usize),
+            Err(fault) => Poll::Refused(fault.status),
         }
-        if 3 < handle {
-            return Poll::Refused(23);
-        }
-        let slot = slot_at(self, handle);
-        if slot.state == FREE {
-            return Poll::Free;
-        }
-        let left = left_of(self.length as usize, slot);
-        if slot.state == PREPARED {
-            return Poll::Prepared(left);
-        }
-        if slot.state == RUNNING {
-            return Poll::Running(left);
-        }
-        Poll::Done
     }
 }

@@ -2,14 +2,15 @@
 // of its caller; a table that is handed in is looked at first, and refused where it is not sound.
 #![tactic(auto)]
 
+mod refusals; // why a call is refused
 mod slots; // slots, and a table with one of them changed
-mod zeros; // whether a job is all zero
 mod sound; // whether a table is sound
 mod calls; // fresh, prepare, start, step, release, poll
 
 pub use mover::{Config, Job, Part, Tensor};
 
-// The states of a slot.
+// The states of a slot. A table may be handed in with any number there; an enum would be tried from it in is_sound, and again in each
+// call, with one case more that no sound table has.
 pub const FREE: u8 = 0;
 
 pub const PREPARED: u8 = 1;
@@ -22,7 +23,7 @@ pub const DONE: u8 = 3;
 pub const LIMIT: u64 = 2147483647;
 
 // A transfer, or a place for one.
-#[derive(Clone, Copy)]
+#[derive(Clone, Copy, PartialEq, Eq)]
 pub struct Slot {
     pub state: u8,
     pub job: Job,
@@ -35,6 +36,8 @@ pub struct Table {
     pub length: u64,
     pub slots: [Slot; 4],
 }
+
+// The answers from here on are the paper's records, and no Results: a refusal hands back the table too (DECISIONS 31, 105).
 
 // What fresh answers.
 #[derive(Clone, Copy)]

@@ -1,9 +1,9 @@
 // Whether a table is sound.
-ghost use Rattle.std.specs.Prelude.{◌≡◌, ◌≤◌};
-ghost use Rattle.transfers.specs.Slots.{breaks, clashes, moved_right, slot_sound, table_sound};
+ghost use Rattle.std.specs.Prelude.{◌≡◌, ◌≤◌, ◌<◌, take};
+ghost use Rattle.std.specs.List.{list_any};
+ghost use Rattle.transfers.specs.Slots.{breaks, moved_right, slot_sound, sound_at, table_sound};
 
-use crate::slots::slot_at;
-use crate::zeros::is_zero_job;
+use crate::refusals::judged;
 use crate::{DONE, FREE, LIMIT, PREPARED, RUNNING, Slot, Table};
 use mover::{Job, meets};
 
@@ -14,20 +14,6 @@ fn breaks(j: Job, k: Job) -> bool
     meets(j.destination, k.destination)
         | meets(j.destination, k.source)
         | meets(j.source, k.destination)
-}
-
-// Whether a job breaks the rule with one of the first n slots.
-pub(crate) fn clashes(t: Table, job: Job, n: u32) -> bool
-    requires { n ≤ 4 }
-    ensures { result ≡ clashes t job n }
-{
-    for handle in 0..n {
-        let slot = slot_at(t, handle);
-        if breaks(job, slot.job) {
-            return true;
-        }
-    }
-    false
 }
 
 // Whether the count of elements moved is right for the state.
@@ -42,35 +28,42 @@ fn moved_is_right(state: u8, moved: u64, total: u64) -> bool
     }
 }
 
-// Whether a slot by itself is sound, for a memory of length bytes.
-fn slot_is_sound(length: u64, slot: Slot) -> bool
-    ensures { result ≡ slot_sound length slot }
-{
-    let job = slot.job;
-    if slot.state == FREE {
-        return is_zero_job(job) & (slot.moved == 0);
+impl Slot {
+    // Whether a slot by itself is sound, for a memory of length bytes.
+    fn is_sound(self, length: u64) -> bool
+        ensures { result ≡ slot_sound length self }
+    {
+        if self.state == FREE {
+            return self == Slot::free();
+        }
+        match judged(length as usize, self.job) {
+            Ok(total) => moved_is_right(self.state, self.moved, total),
+            Err(_) => false,
+        }
     }
-    let verdict = mover::judge_job(length as usize, job);
-    if verdict.status != 0 {
-        return false;
-    }
-    moved_is_right(slot.state, slot.moved, verdict.total)
 }
 
-pub(crate) fn is_sound(t: Table) -> bool
-    ensures { result ≡ table_sound t }
-{
-    if LIMIT < t.length {
-        return false;
+impl Table {
+    // Whether a job breaks the rule with one of the first n slots.
+    pub(crate) fn clashes(self, job: Job, n: usize) -> bool
+        requires { n ≤ 4 }
+        ensures { result ≡ list_any (λ s. breaks job s.job) (take n self.slots) }
+    {
+        self.slots[..n].iter().any(|slot| breaks(job, slot.job))
     }
-    for handle in 0..4 {
-        let slot = slot_at(t, handle);
-        if !slot_is_sound(t.length, slot) {
-            return false;
-        }
-        if clashes(t, slot.job, handle) {
-            return false;
-        }
+
+    // Whether the slot at i is sound, and breaks the rule with none before it.
+    fn is_sound_at(self, i: usize) -> bool
+        requires { i < 4 }
+        ensures { result ≡ sound_at self i }
+    {
+        let slot = self.slots[i];
+        slot.is_sound(self.length) && !self.clashes(slot.job, i)
     }
-    true
+
+    pub(crate) fn is_sound(self) -> bool
+        ensures { result ≡ table_sound self }
+    {
+        self.length <= LIMIT && (0..4).all(|i| self.is_sound_at(i))
+    }
 }

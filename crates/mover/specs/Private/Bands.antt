@@ -1,5 +1,5 @@
 -- Bands: whole rows that are all kept or all padding, moved together.
-use Rattle.std.specs.Prelude.{◌≡◌, ℕ, ◌+◌, ◌*◌, ◌<◌, ◌≤◌, Bool, true, cond, ◌&&◌, ◌⊎◌, List, length, take, drop}
+use Rattle.std.specs.Prelude.{◌≡◌, ℕ, MatchOption, ◌+◌, ◌*◌, ◌<◌, ◌≤◌, Bool, true, cond, ◌&&◌, ◌⊎◌, List, length, take, drop}
 use Rattle.plane.specs.Planes.{Sized}
 use Rattle.mover.specs.declared.plan.Axis.{Axis}
 use Rattle.mover.specs.declared.plan.Plan.{Plan}
@@ -29,10 +29,10 @@ abbrev pub band_moved : Origin → Plan → List ℕ → List ℕ → Spot → B
 band_moved o p s d u b =
     rows_stored (band_bytes p (source_bytes o s d) u b.kept) u.to p.d2.stride p.d3.stride p.d3.extent b.rows d
 
--- what is kept of a row, and what is padded behind it, in bytes from its start
+-- where what is kept of a row begins, and where padding goes on behind it, if there is any, in bytes from the row's start
 pub record Framed (x : Axis) (f : Frame) : Type 0 where
   pub front : f.front ≡ x.pre * x.stride
-  pub rear : x.pre + x.count < x.extent → f.rear ≡ (x.pre + x.count) * x.stride
+  pub rear : MatchOption f.rear (x.extent ≤ x.pre + x.count) (λ r. r ≡ (x.pre + x.count) * x.stride)
 
 -- b is a band from coordinate c on, each row of e elements, or has no rows; `outer` tells whether the coordinates outside of it are kept
 pub record BandAt (x : Axis) (e : ℕ) (outer : Bool) (c left : ℕ) (b : Band) : Type 0 where

@@ -1,12 +1,11 @@
-use mathlib.Core.Path.{refl}
-use Rattle.plane.proofs.Arrays.{filled_start, filled_more, filled_end}
+-- `ready_made::cut` keeps the entries below the rank. Assumes nothing.
+use native.Mathlib.Omega.{arith}
+use mathlib.Core.Path.{◌≡◌}
+use lib.ListN.{length}
+use Rattle.ready_made.proofs.Cutting.{cut_over}
 use Rattle.ready_made.proofs.cut.Goals as goal
 
-pub loop-d-preserved : goal.loop-d-preserved
-loop-d-preserved c = filled_more c.requires c.loop-d.invariant c.loop-d-test.true refl
-
 pub returns : goal.returns
-returns c = filled_end c.loop-d.invariant c.loop-d-test.false
-
-pub loop-d-init : goal.loop-d-init
-loop-d-init c = filled_start
+returns g c =
+    let n : length c.args.a ≡ 4 = omega arith in
+    rw c.copy_from_slice.ensures.after (cut_over c.args.zero c.args.n c.args.a c.requires n)

@@ -6,9 +6,9 @@ pub returns : goal.returns
 unfolding cut_to
 returns c =
     rw (
-      c.cut_bytes-3.ensures,
-      c.cut_bytes-2.ensures,
-      c.cut_bytes.ensures,
+      c.cut-8.ensures,
+      c.cut-7.ensures,
+      c.cut-6.ensures,
       c.cut-5.ensures,
       c.cut-4.ensures,
       c.cut-3.ensures,

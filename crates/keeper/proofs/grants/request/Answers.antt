@@ -1,49 +1,13 @@
-use Prim.Native.Nat.{ℕ, ◌≤◌}
-use native.Mathlib.Omega.{arith}
-use mathlib.Core.Path.{◌≡◌, sym, ◌∙◌}
-use mathlib.Core.Bool.{false}
-use Rattle.faults.proofs.Bools.{in_range}
-use Rattle.plane.proofs.Arrays.{some_start, some_more, some_end}
-use Rattle.keeper.specs.Blocks.{bad_block_count, all_free, starts}
-use Rattle.keeper.proofs.Answers.{request-31, request-32, request-0}
+-- `keeper::grants::request` grants the lowest run, or hands the word back. Assumes nothing.
+use mathlib.Core.Path.{ap, ◌∙◌}
+use Rattle.keeper.specs.Blocks.{with_run}
+use Rattle.keeper.proofs.Answers.{request_stopped, request_went}
 use Rattle.keeper.proofs.grants.request.Goals as goal
-use Rattle.keeper.proofs.grants.request.Goals.{Else-count_is_bad}
 
-pub returns-then-count_is_bad : goal.returns-then-count_is_bad
-returns-then-count_is_bad c =
-    c.ungranted.ensures ∙ request-31 c.args.word c.args.n (sym c.count_is_bad.ensures ∙ c.if-count_is_bad.true)
+pub returns-in-Ok : goal.returns-in-Ok
+returns-in-Ok c =
+    let g = c.in-Ok.ensures.granted in
+    request_went c.args.word c.args.n g.0 (c.taken_in.ensures ∙ ap (with_run c.args.word c.in-Ok.run'.first) g.1)
 
--- past the first test: n is 1 to 64
-fair : (c : Else-count_is_bad) → bad_block_count c.args.n ≡ false
-fair c = sym c.count_is_bad.ensures ∙ c.if-count_is_bad.false
-
-range : (c : Else-count_is_bad) → let n = c.args.n in (1 ≤ n) × (n ≤ 64)
-range c = in_range c.args.n 1 64 (fair c)
-
-pub overflow_sub-first-end : goal.overflow_sub-first-end
-overflow_sub-first-end c = omega (arith, (range c).1)
-
-pub loop-first-init : goal.loop-first-init
-loop-first-init c = (omega (arith, (range c).1), some_start _)
-
-pub is_free-requires : goal.is_free-requires
-is_free-requires c = let r = range (goal.at-is_free-requires c).Else-count_is_bad in (r.0, omega (arith, r.1))
-
-pub with_run-requires : goal.with_run-requires
-with_run-requires c = let r = range (goal.at-with_run-requires c).Else-count_is_bad in (r.0, omega (arith, r.1))
-
-pub returns-then-is_free : goal.returns-then-is_free
-returns-then-is_free c =
-    let r = range (goal.at-returns-then-is_free c).Else-count_is_bad in
-    rw c.with_run.ensures
-    (request-0 c.args.word c.args.n (fair (goal.at-returns-then-is_free c).Else-count_is_bad) c.loop-first.first (omega (arith, r.1, c.loop-first-test.true))
-    (sym c.is_free.ensures ∙ c.if-is_free.true) c.loop-first.invariant.1)
-
-pub loop-first-preserved : goal.loop-first-preserved
-loop-first-preserved c =
-    (omega (arith, c.loop-first-test.true), some_more _ _ c.loop-first.invariant.1 (sym c.is_free.ensures ∙ c.if-is_free.false))
-
-pub returns : goal.returns
-returns c =
-    c.ungranted-2.ensures ∙ request-32 c.args.word c.args.n (fair (goal.at-returns c).Else-count_is_bad)
-    (sym (some_end (starts c.args.n) c.loop-first.first (λ (b : ℕ). all_free c.args.word b c.args.n) c.loop-first.invariant.1 c.loop-first.invariant.0 (omega (arith, c.loop-first-test.false))))
+pub returns-in-Err : goal.returns-in-Err
+returns-in-Err c = request_stopped c.args.word c.args.n c.in-Err.ensures.refused

@@ -1,91 +1,44 @@
 -- `list::writer::append` meets its contract. Assumes nothing.
-use Prim.Native.Nat.{◌-◌}
-use mathlib.Core.Path.{◌≡◌, sym, ◌∙◌}
+use mathlib.Core.Logic.{◌≢◌}
+use mathlib.Core.Path.{sym, ap, ◌∙◌}
 use native.Mathlib.Omega.{arith}
-use lib.ListN.{take}
-use Rattle.list.specs.Lists.{list_fault}
-use Rattle.list.proofs.Writing.{stopped_at, append_25, append_list, head_within, append_37, append_38, append_fields, append_0}
-use Rattle.list.proofs.Members.{member_fields, member_27, member_good}
+use borrow.Author.Rules.{rules}
+use Rattle.faults.proofs.Outcomes.{clear, passed_value, found, fault_is}
+use Rattle.list.specs.Writers.{no_append}
+use Rattle.list.proofs.Writing.{append_same, append_refused, append_told, append_room, append_more, append_0}
 use Rattle.list.proofs.writer.append.Goals as goal
-use Rattle.list.proofs.writer.append.Goals.{After-list_fault-status}
 
-pub returns-then-buffer-length : goal.returns-then-buffer-length
-returns-then-buffer-length c =
-    let b = c.args.buffer.now in let told = stopped_at b c.args.length c.args.tensor c.args.config (append_25 b c.args.length c.args.tensor c.args.config c.if-buffer-length.true) (λ z. omega arith) c.refused.ensures in record {
-      answered = told.0;
-      written = told.1;
-    }
+pub overflow_add-end : goal.overflow_add-end
+overflow_add-end c =
+    let h = append_room c.args.buffer.now c.args.length c.args.tensor c.args.config (clear _ _ c.check_append.ensures c.in-Ok.is) in
+    search rules
 
--- the list's own number, of the first bytes
-told : (f : After-list_fault-status) → f.list_fault-status.result ≡ (list_fault (take f.args.length f.args.buffer.now)).status
-told f =
-    let z : f.args.length - 0 ≡ f.args.length = omega arith in
-    rw z at f.list_fault-status.ensures
+pub slice_bounds-write-end : goal.slice_bounds-write-end
+slice_bounds-write-end c =
+    omega (arith, append_room c.args.buffer.now c.args.length c.args.tensor c.args.config (clear _ _ c.check_append.ensures c.in-Ok.is))
 
-pub returns-then-status-ne0 : goal.returns-then-status-ne0
-returns-then-status-ne0 c =
-    let b = c.args.buffer.now in
-    let n = c.args.length in let told = stopped_at b n c.args.tensor c.args.config (append_list b n c.args.tensor c.args.config c.if-buffer-length.false (told (goal.at-returns-then-status-ne0 c).After-list_fault-status) c.if-status-ne0.true) c.if-status-ne0.true c.refused-then-status-ne0.ensures in record {
-      answered = told.0;
-      written = told.1;
-    }
+pub overflow_add-count : goal.overflow_add-count
+overflow_add-count c =
+    let w = c.check_append.ensures in
+    let d : c.in-Ok.count ≢ 65535 = λ e. append_more c.args.buffer.now c.args.length c.args.tensor c.args.config (clear _ _ w c.in-Ok.is) (sym (passed_value _ _ w c.in-Ok.is) ∙ e) in
+    search rules
 
-pub count_in-count-requires : goal.count_in-count-requires
-count_in-count-requires c =
-    omega (arith, head_within c.args.buffer.now c.args.length c.args.tensor c.args.config c.if-buffer-length.false (sym (told (goal.at-count_in-count-requires c).After-list_fault-status) ∙ c.if-status-ne0.false), c.if-buffer-length.false)
+pub returns-in-Ok-clause-answered : goal.returns-in-Ok-clause-answered
+returns-in-Ok-clause-answered c =
+    sym (append_told c.args.buffer.now c.args.length c.args.tensor c.args.config (clear _ _ c.check_append.ensures c.in-Ok.is))
 
-pub returns-then-count-eq-MOST : goal.returns-then-count-eq-MOST
-returns-then-count-eq-MOST c =
-    let b = c.args.buffer.now in
-    let n = c.args.length in let told = stopped_at b n c.args.tensor c.args.config
-    (append_37 b n c.args.tensor c.args.config c.if-buffer-length.false (sym (told (goal.at-returns-then-count-eq-MOST c).After-list_fault-status) ∙ c.if-status-ne0.false) (sym c.count_in-count.ensures.0 ∙ c.if-count-eq-MOST.true))
-    (λ z. omega arith) c.refused-then-count-eq-MOST.ensures in record {
-      answered = told.0;
-      written = told.1;
-    }
+pub returns-in-Ok-clause-written : goal.returns-in-Ok-clause-written
+returns-in-Ok-clause-written c =
+    let w = c.check_append.ensures in
+    append_0 c.args.buffer.now c.args.length c.args.tensor c.args.config (clear _ _ w c.in-Ok.is) c.write.ensures.written
+    (passed_value _ _ w c.in-Ok.is) c.put_count.ensures
 
-pub returns-then-buffer-length-lt-LENGTH : goal.returns-then-buffer-length-lt-LENGTH
-returns-then-buffer-length-lt-LENGTH c =
-    let b = c.args.buffer.now in
-    let n = c.args.length in let told = stopped_at b n c.args.tensor c.args.config
-    (append_38 b n c.args.tensor c.args.config c.if-buffer-length.false (sym (told (goal.at-returns-then-buffer-length-lt-LENGTH c).After-list_fault-status) ∙ c.if-status-ne0.false)
-    (λ e. c.if-count-eq-MOST.false (c.count_in-count.ensures.0 ∙ e)) c.if-buffer-length-lt-LENGTH.true)
-    (λ z. omega arith) c.refused-then-buffer-length-lt-LENGTH.ensures in record {
-      answered = told.0;
-      written = told.1;
-    }
+pub returns-in-Err-clause-answered : goal.returns-in-Err-clause-answered
+returns-in-Err-clause-answered c =
+    let w = c.check_append.ensures in
+    ap no_append (sym (fault_is _ _ w c.in-Err.is)) ∙
+    sym (append_refused c.args.buffer.now c.args.length c.args.tensor c.args.config (found _ _ w c.in-Err.is))
 
-pub returns-then-f-ne0 : goal.returns-then-f-ne0
-returns-then-f-ne0 c =
-    let b = c.args.buffer.now in
-    let n = c.args.length in
-    let h = c.if-f-ne0.true in let told = stopped_at b n c.args.tensor c.args.config
-    (append_fields b n c.args.tensor c.args.config c.if-buffer-length.false (sym (told (goal.at-returns-then-f-ne0 c).After-list_fault-status) ∙ c.if-status-ne0.false)
-    (λ e. c.if-count-eq-MOST.false (c.count_in-count.ensures.0 ∙ e)) c.if-buffer-length-lt-LENGTH.false ∙
-    member_fields c.args.tensor c.args.config c.fields_fault-f.ensures h)
-    h c.refused-then-f-ne0.ensures in record {
-      answered = told.0;
-      written = told.1;
-    }
-
-pub returns-then-has_fill : goal.returns-then-has_fill
-returns-then-has_fill c =
-    let b = c.args.buffer.now in
-    let n = c.args.length in let told = stopped_at b n c.args.tensor c.args.config
-    (append_fields b n c.args.tensor c.args.config c.if-buffer-length.false (sym (told (goal.at-returns-then-has_fill c).After-list_fault-status) ∙ c.if-status-ne0.false)
-    (λ e. c.if-count-eq-MOST.false (c.count_in-count.ensures.0 ∙ e)) c.if-buffer-length-lt-LENGTH.false ∙
-    member_27 c.args.tensor c.args.config c.fields_fault-f.ensures c.if-f-ne0.false c.if-has_fill.true)
-    (λ z. omega arith) c.refused-then-has_fill.ensures in record {
-      answered = told.0;
-      written = told.1;
-    }
-
-pub returns : goal.returns
-returns c =
-    let told = append_0 c.args.buffer.now c.args.length c.args.tensor c.args.config c.if-buffer-length.false (sym (told (goal.at-returns c).After-list_fault-status) ∙ c.if-status-ne0.false)
-    (λ e. c.if-count-eq-MOST.false (c.count_in-count.ensures.0 ∙ e)) c.if-buffer-length-lt-LENGTH.false
-    (member_good c.args.tensor c.args.config c.fields_fault-f.ensures c.if-f-ne0.false c.if-has_fill.false)
-    c.write.ensures.written c.count_in-count.ensures.0 c.put_count.ensures in record {
-      answered = told.0;
-      written = told.1;
-    }
+pub returns-in-Err-clause-written : goal.returns-in-Err-clause-written
+returns-in-Err-clause-written c =
+    sym (append_same c.args.buffer.now c.args.length c.args.tensor c.args.config (found _ _ c.check_append.ensures c.in-Err.is))

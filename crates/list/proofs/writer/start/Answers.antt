@@ -1,38 +1,22 @@
 -- `list::writer::start` meets its contract. Assumes nothing.
 use mathlib.Core.Path.{sym, ◌∙◌}
-use native.Mathlib.Omega.{arith}
-use lib.ListN.{length-set}
-use Rattle.plane.specs.Numbers.{little}
-use Rattle.list.proofs.Writing.{start_38, start_0, start_given}
+use Rattle.record.proofs.Digits.{half_bytes}
+use Rattle.list.specs.Layout.{list_version}
+use Rattle.list.proofs.Writing.{start_38, start_0, start_given, start_laid}
 use Rattle.list.proofs.writer.start.Goals as goal
 
-pub returns-then-buffer-lt-HEAD : goal.returns-then-buffer-lt-HEAD
-returns-then-buffer-lt-HEAD c =
-    let told = start_38 c.args.buffer.now c.if-buffer-lt-HEAD.true in record {
-      answered = told.0;
-      written = told.1;
-    }
+pub returns-then-buffer-lt-HEAD-clause-answered : goal.returns-then-buffer-lt-HEAD-clause-answered
+returns-then-buffer-lt-HEAD-clause-answered c = (start_38 c.args.buffer.now c.if-buffer-lt-HEAD.true).0
 
-pub shape_of-buffer : goal.shape_of-buffer
-shape_of-buffer c = c.put_count.auto.buffer ∙ simp length-set
+pub returns-then-buffer-lt-HEAD-clause-written : goal.returns-then-buffer-lt-HEAD-clause-written
+returns-then-buffer-lt-HEAD-clause-written c = (start_38 c.args.buffer.now c.if-buffer-lt-HEAD.true).1
 
-pub returns : goal.returns
-unfolding little
-returns c =
+pub returns-clause-answered : goal.returns-clause-answered
+returns-clause-answered c = sym (start_0 c.args.buffer.now c.if-buffer-lt-HEAD.false)
+
+pub returns-clause-written : goal.returns-clause-written
+returns-clause-written c =
     let buffer = c.args.buffer.now in
-    let z = start_0 buffer c.if-buffer-lt-HEAD.false in record {
-      answered = sym z;
-      written = c.put_count.ensures ∙ sym (start_given buffer z);
-    }
-
-pub bounds-buffer-1 : goal.bounds-buffer-1
-bounds-buffer-1 c = simp length-set (omega arith)
-
-pub bounds-buffer-2 : goal.bounds-buffer-2
-bounds-buffer-2 c = simp length-set (omega arith)
-
-pub bounds-buffer-3 : goal.bounds-buffer-3
-bounds-buffer-3 c = simp length-set (omega arith)
-
-pub bounds-buffer : goal.bounds-buffer
-bounds-buffer c = simp length-set (omega arith)
+    start_laid buffer c.if-buffer-lt-HEAD.false c.copy_from_slice.ensures.after
+    (c.copy_from_slice-2.ensures.after ∙ c.to_le_bytes.ensures ∙ half_bytes list_version) c.put_count.ensures ∙
+    sym (start_given buffer (start_0 buffer c.if-buffer-lt-HEAD.false))

@@ -7,12 +7,12 @@ use Rattle.mover.proofs.alike.run_at.Goals.{else-outer, then-outer+else-c-x+else
 pub returns-then-c-x : goal.returns-then-c-x
 returns-then-c-x c =
     rw c.if-outer.true
-    (run_before c.args.x c.args.c c.args.most c.requires.count_bound c.requires.c_lt_extent c.requires.most_nonzero c.if-c-x.true c.least.ensures)
+    (run_before c.args.x c.args.c c.args.most c.requires.count_bound c.requires.c_lt_extent c.requires.most_nonzero c.if-c-x.true c.min.ensures)
 
 pub returns-then-c-x-2 : goal.returns-then-c-x-2
 returns-then-c-x-2 c =
     rw c.if-outer.true
-    (run_kept c.args.x c.args.c c.args.most c.requires.count_bound c.requires.c_lt_extent c.requires.most_nonzero c.if-c-x.false c.if-c-x-2.true c.least-then-c-x-2.ensures)
+    (run_kept c.args.x c.args.c c.args.most c.requires.count_bound c.requires.c_lt_extent c.requires.most_nonzero c.if-c-x.false c.if-c-x-2.true c.min-then-c-x-2.ensures)
 
 pub returns : goal.returns
 returns c =
@@ -20,4 +20,4 @@ returns c =
     (elim c.if-outer.branch [
       | then-outer+else-c-x+else-c-x-2 w ↦ inr (w.if-c-x.false, w.if-c-x-2.false)
       | else-outer w ↦ inl w.if-outer.false
-    ]) c.least-2.ensures
+    ]) c.min-2.ensures

@@ -1,10 +1,6 @@
--- `mover::leaves::pairs` makes one number a turn. Assumes nothing.
-use Rattle.std.proofs.Common.{◌≡◌, ◌+◌, ◌-◌, ◌*◌}
+-- `mover::arrays::pairs` makes one number a turn. Assumes nothing.
 use Rattle.mover.proofs.Filling.{Filled, pair_at}
 use Rattle.mover.proofs.arrays.pairs.Given as goal
 
 abbrev pub invariant-loop-k : goal.invariant-loop-k
-invariant-loop-k l = Filled 16 (pair_at l.src l.from) l.a l.k × (l.at ≡ l.from + 2 * l.k)
-
-abbrev pub decreases-loop-k : goal.decreases-loop-k
-decreases-loop-k l = 16 - l.k
+invariant-loop-k l = Filled 16 (pair_at l.src l.from) l.a l.k

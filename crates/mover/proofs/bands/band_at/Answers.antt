@@ -2,11 +2,11 @@
 use Rattle.std.proofs.Common.{◌≡◌, ℕ, ◌/◌, min, ap, ◌∙◌, arith}
 use Rattle.mover.proofs.Banding.{band_some, rows_fit}
 use Rattle.mover.proofs.bands.band_at.Goals as goal
-use Rattle.mover.proofs.bands.band_at.Goals.{After-least-rows}
+use Rattle.mover.proofs.bands.band_at.Goals.{After-min-rows}
 
 -- the rows taken
-some : (c : After-least-rows) → let r = c.run_at-run.result in c.least-rows.result ≡ min (min r.n c.args.most) (c.args.left / c.args.e)
-some c = c.least-rows.ensures ∙ ap (λ (n : ℕ). min n (c.args.left / c.args.e)) c.least.ensures
+some : (c : After-min-rows) → let r = c.run_at-run.result in c.min-rows.result ≡ min (min r.n c.args.most) (c.args.left / c.args.e)
+some c = c.min-rows.ensures ∙ ap (λ (n : ℕ). min n (c.args.left / c.args.e)) c.min.ensures
 
 pub overflow_mul-elements : goal.overflow_mul-elements
 overflow_mul-elements c =

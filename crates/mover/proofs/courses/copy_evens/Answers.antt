@@ -1,9 +1,12 @@
-use Rattle.std.proofs.Common.{◌+◌, ◌^◌, ◌<◌, ◌≤◌, length, ap, ◌∙◌, arith}
+use Rattle.std.proofs.Common.{◌≡◌, ◌+◌, ◌-◌, ◌*◌, ◌^◌, ◌<◌, ◌≤◌, length, slice_index, ap, ◌∙◌, arith}
 use lib.Seq.{sets}
 use Rattle.mover.specs.Private.Elements.{source_bytes}
 use Rattle.mover.specs.Private.Runs.{kept_bytes}
+use Rattle.mover.specs.Private.Shuffles.{made}
+use Rattle.mover.proofs.Blocking.{part_put}
 use Rattle.mover.proofs.Bytes.{source_long}
 use Rattle.mover.proofs.Runs.{length_run}
+use Rattle.mover.proofs.Shuffled.{length_made}
 use Rattle.mover.proofs.Evening.{evened_start, evened_asks, evened_end, evened_reads, evened_writes, evened_more}
 use Rattle.mover.proofs.courses.copy_evens.Goals as goal
 use Rattle.mover.proofs.courses.copy_evens.Goals.{At-loop-k, In-loop-k}
@@ -11,7 +14,7 @@ use Rattle.mover.proofs.courses.copy_evens.Goals.{At-loop-k, In-loop-k}
 -- the pairs lie in the source, and both memories are short enough
 lies : (l : At-loop-k) → let n = l.pairs_in-n.result in
     0 < n → l.args.c.at + n + n ≤ length (source_bytes l.args.origin l.args.src.now l.args.dst.now)
-lies l p = omega (arith, l.pairs_in-n.ensures.1 p, l.source_length.ensures)
+lies l p = omega (arith, l.pairs_in-n.ensures.1 p, ap length l.source.ensures)
 
 short-source : (l : At-loop-k) → length (source_bytes l.args.origin l.args.src.now l.args.dst.now) < 2 ^ 64
 short-source l = omega (arith, source_long l.args.origin l.args.src.now l.args.dst.now, l.well_formed)
@@ -22,13 +25,14 @@ short l = omega (arith, l.well_formed)
 sixteen : (c : In-loop-k) → c.loop-k.k + 16 ≤ c.pairs_in-n.result
 sixteen c = omega (arith, c.loop-k-test, c.loop-k.invariant.stored.within)
 
-pub evens-a-requires : goal.evens-a-requires
-evens-a-requires c =
-    evened_reads c.loop-k.invariant c.requires.writable c.requires.readable c.pairs_in-n.ensures.0 c.requires.evens (lies (goal.at-evens-a-requires c).At-loop-k) (short-source (goal.at-evens-a-requires c).At-loop-k) (short (goal.at-evens-a-requires c).At-loop-k) (sixteen c)
+pub read_evens-a-requires : goal.read_evens-a-requires
+read_evens-a-requires c =
+    rw c.source-in-loop-k.ensures
+    (evened_reads c.loop-k.invariant c.requires.writable c.requires.readable c.pairs_in-n.ensures.0 c.requires.evens (lies (goal.at.read_evens-a-requires c).At-loop-k) (short-source (goal.at.read_evens-a-requires c).At-loop-k) (short (goal.at.read_evens-a-requires c).At-loop-k) (sixteen (goal.at.read_evens-a-requires c).In-loop-k))
 
-pub write_sixteen-requires : goal.write_sixteen-requires
-write_sixteen-requires c =
-    evened_writes c.loop-k.invariant c.requires.writable c.requires.readable c.pairs_in-n.ensures.0 c.requires.evens (lies (goal.at-write_sixteen-requires c).At-loop-k) (short-source (goal.at-write_sixteen-requires c).At-loop-k) (short (goal.at-write_sixteen-requires c).At-loop-k) (sixteen (goal.at-write_sixteen-requires c).In-loop-k)
+pub slice_bounds-copy_from_slice-end : goal.slice_bounds-copy_from_slice-end
+slice_bounds-copy_from_slice-end c =
+    evened_writes c.loop-k.invariant c.requires.writable c.requires.readable c.pairs_in-n.ensures.0 c.requires.evens (lies (goal.at.slice_bounds-copy_from_slice-end c).At-loop-k) (short-source (goal.at.slice_bounds-copy_from_slice-end c).At-loop-k) (short (goal.at.slice_bounds-copy_from_slice-end c).At-loop-k) (sixteen (goal.at.slice_bounds-copy_from_slice-end c).In-loop-k)
 
 pub overflow_add-k : goal.overflow_add-k
 overflow_add-k c =
@@ -36,8 +40,15 @@ overflow_add-k c =
 
 pub loop-k-preserved : goal.loop-k-preserved
 loop-k-preserved c =
+    let l = c.loop-k in
+    let picked : c.copy_from_slice.new.self ≡ made 16 (λ k. slice_index (source_bytes c.args.origin c.args.src.now l.dst) (l.at + 2 * k)) =
+    c.copy_from_slice.ensures.after ∙ c.read_evens-a.ensures ∙ rw c.source-in-loop-k.ensures in
+    let w : l.to + 16 - l.to ≡ 16 = omega arith in
+    let stored = part_put l.dst c.copy_from_slice.new.self l.to (l.to + 16 - l.to) (ap length picked ∙ rw (w, length_made))
+    (rw w (evened_writes c.loop-k.invariant c.requires.writable c.requires.readable c.pairs_in-n.ensures.0 c.requires.evens (lies (goal.at-loop-k-preserved c).At-loop-k) (short-source (goal.at-loop-k-preserved c).At-loop-k) (short (goal.at-loop-k-preserved c).At-loop-k) (sixteen (goal.at-loop-k-preserved c).In-loop-k)))
+    ∙ ap (sets l.dst l.to) picked in
     evened_more c.loop-k.invariant c.requires.writable c.requires.readable c.pairs_in-n.ensures.0 c.requires.evens (lies (goal.at-loop-k-preserved c).At-loop-k) (short-source (goal.at-loop-k-preserved c).At-loop-k) (short (goal.at-loop-k-preserved c).At-loop-k) (sixteen (goal.at-loop-k-preserved c).In-loop-k)
-    (c.write_sixteen.ensures ∙ ap (sets c.loop-k.dst c.loop-k.to) c.evens-a.ensures) c.wrapping_add_usize-at.ensures.value c.wrapping_add_usize-to.ensures.value
+    stored c.wrapping_add_usize-at.ensures.value c.wrapping_add_usize-to.ensures.value
 
 pub copy_each-requires : goal.copy_each-requires
 copy_each-requires c =

@@ -2,7 +2,6 @@
 -- plan with the axes so far is the plan of the same move. Assumes nothing.
 use Rattle.std.proofs.Common.{refl, ◌∙◌}
 use Rattle.mover.specs.Private.Folding.{Folds}
-use Rattle.mover.proofs.Places.{axis_some}
 use Rattle.mover.proofs.Folds.{with_axes, folds_same, fold_first, fold_middle, fold_last, fold_not, fits_first, fits_middle, fits_last}
 use Rattle.mover.proofs.folded.folded.Goals as goal
 use Rattle.mover.proofs.folded.folded.Goals.{Joined-joins, Joined-joins-2, Joined-joins-3, else-joins, else-joins-2, else-joins-3, then-joins, then-joins-2, then-joins-3}
@@ -18,7 +17,7 @@ at1 c =
 
 at2 : (c : Joined-joins-2) → let p = c.args.p in Folds p (with_axes p c.if-joins-2.d0 c.if-joins-2.d1 c.if-joins-2.d2 p.d3)
 at2 c =
-    let f = at1 (goal.at-joins-requires-3 c).Joined-joins in
+    let f = at1 c.before.before in
     elim c.if-joins-2.branch [
       | then-joins-2 w ↦ fold_middle f (c.joins-2.ensures w.if-joins-2.true) (w.d0-is ∙ w.lone-d0-then-joins-2.ensures) w.d1-is (w.d2-is ∙ w.as_one-d2.ensures)
       | else-joins-2 w ↦ fold_not f w.d0-is w.d1-is w.d2-is refl
@@ -52,15 +51,6 @@ as_one-d3-requires c =
       extent_bound = w.extent;
       extent_bound_2 = w.rest;
     }
-
-pub joins-requires : goal.joins-requires
-joins-requires c = axis_some c.requires.axes.in1
-
-pub joins-requires-2 : goal.joins-requires-2
-joins-requires-2 c = axis_some (at1 c).axes.in2
-
-pub joins-requires-3 : goal.joins-requires-3
-joins-requires-3 c = axis_some (at2 c).axes.in3
 
 pub returns : goal.returns
 returns c = at3 (goal.at-returns c).Joined-joins-3

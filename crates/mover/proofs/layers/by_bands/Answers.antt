@@ -6,7 +6,7 @@ use Rattle.mover.proofs.Places.{axis_some}
 use Rattle.mover.proofs.Turns.{At, Over, Cut, cut_row, start, start_row, row_turn, next_row_lem, next_layer_lem, next_slab_lem, at_below, at_spent, at_end, at_length, at_ready}
 use Rattle.mover.proofs.Banded.{row_end, band_asks, band_behind, band_turn}
 use Rattle.mover.proofs.layers.by_bands.Goals as goal
-use Rattle.mover.proofs.layers.by_bands.Goals.{After-least-n, After-slice_known-in-loop-c2-1, At-all, At-loop-c1, At-loop-c2, Else-left-eq0, Left-all, Start, else-all-test, then-all-test+then-loop-c1-test+then-loop-c2-test+else-left-eq0+then-left-eq0-2, then-all-test+then-loop-c1-test+then-loop-c2-test+then-left-eq0}
+use Rattle.mover.proofs.layers.by_bands.Goals.{After-min-n, After-slice_known-in-loop-c2-1, At-all, At-loop-c1, At-loop-c2, Else-left-eq0, Left-all, Start, else-all-test, then-all-test+then-loop-c1-test+then-loop-c2-test+else-left-eq0+then-left-eq0-2, then-all-test+then-loop-c1-test+then-loop-c2-test+then-left-eq0}
 
 -- where the innermost loop stands, from the destination that the function began with
 at-loop2 : (c : At-loop-c2) → let a = c.loop-c2 in
@@ -100,9 +100,9 @@ within c = record {
   in3 = c.loop-c2.invariant.1 (c.loop-c1.invariant.1 (c.all.invariant.1 (start_row c.args.plan c.args.from c.requires.ready.axes c.begin-start.ensures)));
 }
 
-cut : (c : After-least-n) → Cut c.args.plan.d3.extent c.loop-c2.c3 c.loop-c2.left c.least-n.result
+cut : (c : After-min-n) → Cut c.args.plan.d3.extent c.loop-c2.c3 c.loop-c2.left c.min-n.result
 cut c =
-    cut_row c.args.plan.d3.extent c.loop-c2.c3 c.loop-c2.left (c.loop-c2.invariant.1 (c.loop-c1.invariant.1 (c.all.invariant.1 (start_row c.args.plan c.args.from c.requires.ready.axes c.begin-start.ensures)))) (pos_of_ne-zero c.if-left-eq0.false) c.least-n.ensures
+    cut_row c.args.plan.d3.extent c.loop-c2.c3 c.loop-c2.left (c.loop-c2.invariant.1 (c.loop-c1.invariant.1 (c.all.invariant.1 (start_row c.args.plan c.args.from c.requires.ready.axes c.begin-start.ensures)))) (pos_of_ne-zero c.if-left-eq0.false) c.min-n.ensures
 
 pub overflow_sub-plan : goal.overflow_sub-plan
 overflow_sub-plan c =
@@ -123,13 +123,13 @@ by_runs-requires c =
 -- where it was, the loops stand behind it
 turned : (c : After-slice_known-in-loop-c2-1) (d₀ : List ℕ) → let a = c.loop-c2 in
     At c.args.origin c.args.plan c.args.src.now d₀ c.args.from c.args.budget a.dst c.all.c0 c.loop-c1.c1 a.c2 a.c3 a.left a.spots
-    → At c.args.origin c.args.plan c.args.src.now d₀ c.args.from c.args.budget c.by_runs.new.dst c.all.c0 c.loop-c1.c1 a.c2 (a.c3 + c.least-n.result) (a.left - c.least-n.result) (after_run a.spots c.args.plan.d3 c.least-n.result)
+    → At c.args.origin c.args.plan c.args.src.now d₀ c.args.from c.args.budget c.by_runs.new.dst c.all.c0 c.loop-c1.c1 a.c2 (a.c3 + c.min-n.result) (a.left - c.min-n.result) (after_run a.spots c.args.plan.d3 c.min-n.result)
 turned c d₀ a =
-    row_turn a (within (goal.at-overflow_sub-left-in-loop-c2 c).Else-left-eq0) (cut (goal.at-overflow_sub-left-in-loop-c2 c).After-least-n) (ready (goal.at-overflow_sub-left-in-loop-c2 c).At-loop-c2) c.by_runs.ensures.counted c.by_runs.ensures.written
+    row_turn a (within (goal.at-overflow_sub-left-in-loop-c2 c).Else-left-eq0) (cut (goal.at-overflow_sub-left-in-loop-c2 c).After-min-n) (ready (goal.at-overflow_sub-left-in-loop-c2 c).At-loop-c2) c.by_runs.ensures.counted c.by_runs.ensures.written
 
 pub loop-c2-preserved : goal.loop-c2-preserved
 loop-c2-preserved c =
-    let w : c.args.plan.d3.extent ≤ c.loop-c2.c3 + c.least-n.result = omega (arith, (cut (goal.at-loop-c2-preserved c).After-least-n).full (pos_of_ne-zero c.if-left-eq0-2.false)) in (
+    let w : c.args.plan.d3.extent ≤ c.loop-c2.c3 + c.min-n.result = omega (arith, (cut (goal.at-loop-c2-preserved c).After-min-n).full (pos_of_ne-zero c.if-left-eq0-2.false)) in (
       λ d₀ a. next_row_lem (turned (goal.at-loop-c2-preserved c).After-slice_known-in-loop-c2-1 d₀ (c.loop-c2.invariant.0 d₀ a)) (within (goal.at-loop-c2-preserved c).Else-left-eq0).in1 (within (goal.at-loop-c2-preserved c).Else-left-eq0).in2 w c.next_row-spots.ensures,
       λ _. axis_some (ready (goal.at-loop-c2-preserved c).At-loop-c2).axes.in3,
     )
@@ -160,7 +160,7 @@ over c =
           let row : w.loop-c2.c3 < c.args.plan.d3.extent = w.loop-c2.invariant.1 (w.loop-c1.invariant.1 (c.all.invariant.1 (start_row c.args.plan c.args.from c.requires.ready.axes c.begin-start.ensures))) in
           let inside : InExtents c.args.plan c.all.c0 w.loop-c1.c1 w.loop-c2.c2 w.loop-c2.c3 =
           record { in0 = w.all-test.true; in1 = w.loop-c1-test.true; in2 = w.loop-c2-test.true; in3 = row } in
-          let cut_there = cut_row c.args.plan.d3.extent w.loop-c2.c3 w.loop-c2.left row (pos_of_ne-zero w.if-left-eq0.false) w.least-n.ensures in
+          let cut_there = cut_row c.args.plan.d3.extent w.loop-c2.c3 w.loop-c2.left row (pos_of_ne-zero w.if-left-eq0.false) w.min-n.ensures in
           rw (w.dst-is, w.left-is)
           (at_spent (row_turn here inside cut_there (at_ready here c.requires.ready) w.by_runs.ensures.counted w.by_runs.ensures.written) w.if-left-eq0-2.true)
     ]
@@ -181,7 +181,7 @@ pub overflow_sub-budget : goal.overflow_sub-budget
 overflow_sub-budget c = (at-loop2 (goal.at-overflow_sub-budget c).At-loop-c2).fund
 
 pub overflow_sub-left-in-loop-c2 : goal.overflow_sub-left-in-loop-c2
-overflow_sub-left-in-loop-c2 c = (cut (goal.at-overflow_sub-left-in-loop-c2 c).After-least-n).paid
+overflow_sub-left-in-loop-c2 c = (cut (goal.at-overflow_sub-left-in-loop-c2 c).After-min-n).paid
 
 pub overflow_add-c2-in-loop-c2 : goal.overflow_add-c2-in-loop-c2
 overflow_add-c2-in-loop-c2 c = omega (arith, c.loop-c2-test.true, c.well_formed)

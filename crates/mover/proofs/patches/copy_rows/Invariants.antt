@@ -3,8 +3,8 @@ use Rattle.std.proofs.Common.{◌-◌}
 use Rattle.mover.proofs.Patched.{Rowed}
 use Rattle.mover.proofs.patches.copy_rows.Given as goal
 
-abbrev pub invariant-loop-i : goal.invariant-loop-i
-invariant-loop-i l = Rowed l.origin l.src l.initial.dst l.p l.dst l.at l.to l.i
+abbrev pub invariant-loop : goal.invariant-loop
+invariant-loop l = Rowed l.origin l.src l.initial.dst l.p l.dst l.at l.to l.counter
 
-abbrev pub decreases-loop-i : goal.decreases-loop-i
-decreases-loop-i l = l.p.rows - l.i
+abbrev pub decreases-loop : goal.decreases-loop
+decreases-loop l = l.end - l.counter

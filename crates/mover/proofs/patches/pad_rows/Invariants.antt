@@ -3,8 +3,8 @@ use Rattle.std.proofs.Common.{◌-◌}
 use Rattle.mover.proofs.Patched.{Padded}
 use Rattle.mover.proofs.patches.pad_rows.Given as goal
 
-abbrev pub invariant-loop-i : goal.invariant-loop-i
-invariant-loop-i l = Padded l.initial.dst l.p l.dst l.to l.i
+abbrev pub invariant-loop : goal.invariant-loop
+invariant-loop l = Padded l.initial.dst l.p l.dst l.to l.counter
 
-abbrev pub decreases-loop-i : goal.decreases-loop-i
-decreases-loop-i l = l.p.rows - l.i
+abbrev pub decreases-loop : goal.decreases-loop
+decreases-loop l = l.end - l.counter

@@ -1,16 +1,20 @@
-use Rattle.std.proofs.Common.{refl, arith, le-leb}
-use borrow.Author.Tests.{lt-leb}
-use Rattle.faults.proofs.Faults.{searched_start, searched_more, searched_found, searched_end}
+-- `mover::pixels::coordinate_fault` refuses the lowest dimension whose coordinate is not below its extent. Assumes nothing.
+use Rattle.std.proofs.Common.{◌<◌, ◌≤◌, ℕ, rules, arith, le-leb}
+use borrow.Author.Tests.{tests, lt-leb}
+use Rattle.std.proofs.lemmas.Iterator.{first_from_Range}
+use Rattle.faults.proofs.Outcomes.{lowest_found, lowest_none}
+use Rattle.plane.specs.Arrays.{at}
+use Rattle.mover.specs.Pixel.{bad_coordinate}
 use Rattle.mover.proofs.pixels.coordinate_fault.Goals as goal
 
-pub returns-then-extent-k : goal.returns-then-extent-k
-returns-then-extent-k c = searched_found c.loop-i.invariant (omega arith) c.loop-i-test.true (le-leb _ _ c.if-extent-k.true)
+pub returns-in-Some : goal.returns-in-Some
+returns-in-Some c =
+    let first = first_from_Range _ _ _ c.find.result (λ i. at c.args.extent i ≤ at c.args.x i) (λ i. at c.args.x i < at c.args.extent i) c.find.ensures.ran (λ x q k. search (rules, tests)) (λ x q k. search (rules, tests)) in
+    let w = rw c.in-Some.is at first in
+    lowest_found tt 35 c.args.n (λ (i : ℕ). bad_coordinate (at c.args.extent i) (at c.args.x i)) (omega arith) w.1 (le-leb _ _ w.2) (λ k l. lt-leb _ _ (w.3 k (omega arith) l))
 
-pub loop-i-preserved : goal.loop-i-preserved
-loop-i-preserved c = searched_more c.loop-i.invariant c.loop-i-test.true (lt-leb _ _ c.if-extent-k.false)
-
-pub returns : goal.returns
-returns c = searched_end c.loop-i.invariant c.loop-i-test.false refl
-
-pub loop-i-init : goal.loop-i-init
-loop-i-init c = searched_start
+pub returns-in-None : goal.returns-in-None
+returns-in-None c =
+    let first = first_from_Range _ _ _ c.find.result (λ i. at c.args.extent i ≤ at c.args.x i) (λ i. at c.args.x i < at c.args.extent i) c.find.ensures.ran (λ x q k. search (rules, tests)) (λ x q k. search (rules, tests)) in
+    let w = rw c.in-None.is at first in
+    lowest_none tt 35 c.args.n (λ (i : ℕ). bad_coordinate (at c.args.extent i) (at c.args.x i)) (λ k l. lt-leb _ _ (w k (omega arith) l))

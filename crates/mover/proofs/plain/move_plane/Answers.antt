@@ -3,7 +3,7 @@ use Rattle.std.proofs.Common.{length, sym, arith}
 use Rattle.plane.specs.Good.{GoodMove}
 use Rattle.mover.specs.declared.elements.Origin.TheVariants.{Lent}
 use Rattle.mover.proofs.Laws.{moved_refused}
-use Rattle.mover.proofs.Judged.{judged_stopped, judged_move}
+use Rattle.mover.proofs.Judged.{outcome_err, outcome_ok, judged_stopped, judged_move}
 use Rattle.mover.proofs.WholeRows.{starts_before, move_stands, move_stored, total_most}
 use Rattle.mover.proofs.plain.move_plane.Goals as goal
 use Rattle.mover.proofs.plain.move_plane.Goals.{Then-a-eq0}
@@ -11,7 +11,7 @@ use Rattle.mover.proofs.plain.move_plane.Goals.{Then-a-eq0}
 -- past the check, the move is accepted
 good : (c : Then-a-eq0) → GoodMove c.args.t c.args.config (length c.args.src.now) (length c.args.dst.now)
 good c =
-    judged_move c.args.t c.args.config _ _ c.judge-a.ensures c.if-a-eq0.true
+    judged_move c.args.t c.args.config _ _ (outcome_ok c.args.t c.args.config _ _ c.judge-a.ensures c.if-a-eq0.true)
 
 pub store_row-requires : goal.store_row-requires
 store_row-requires c =
@@ -31,5 +31,5 @@ pub returns-else-a-eq0 : goal.returns-else-a-eq0
 returns-else-a-eq0 c =
     record {
       answered = c.judge-a.ensures;
-      written = sym (moved_refused c.args.t c.args.config c.args.src.now c.args.dst.now (judged_stopped c.args.t c.args.config _ _ c.judge-a.ensures c.if-a-eq0.false));
+      written = sym (moved_refused c.args.t c.args.config c.args.src.now c.args.dst.now (judged_stopped c.args.t c.args.config _ _ (outcome_err c.args.t c.args.config _ _ c.judge-a.ensures c.if-a-eq0.false)));
     }

@@ -3,15 +3,11 @@ use Rattle.std.proofs.Common.{sym, ◌∙◌, arith}
 use Rattle.mover.proofs.Adding.{after_up, after_down}
 use Rattle.mover.proofs.start.after.Goals as goal
 
-pub overflow_mul-far : goal.overflow_mul-far
-overflow_mul-far c = rw c.length_of.ensures (omega (arith, c.requires))
-
 pub returns-then-goes_down : goal.returns-then-goes_down
 returns-then-goes_down c =
-    after_down c.args.at c.args.jump c.args.n (omega arith) (sym c.goes_down.ensures ∙ c.if-goes_down.true) (omega arith)
-    (rw c.length_of.ensures at c.wrapping_sub_usize.ensures.value)
+    rw c.length_of.ensures
+    (after_down c.args.at c.args.jump c.args.n (omega arith) (sym c.goes_down.ensures ∙ c.if-goes_down.true) c.requires)
 
-pub returns : goal.returns
-returns c =
-    rw c.length_of.ensures at c.wrapping_add_usize.ensures.value
-    ∙ after_up c.args.at c.args.jump c.args.n (omega arith) (sym c.goes_down.ensures ∙ c.if-goes_down.false)
+pub returns-else-goes_down : goal.returns-else-goes_down
+returns-else-goes_down c =
+    rw c.length_of.ensures (after_up c.args.at c.args.jump c.args.n (omega arith) (sym c.goes_down.ensures ∙ c.if-goes_down.false))

@@ -1,10 +1,9 @@
-use Rattle.std.proofs.Common.{◌≡◌, ℕ, ◌+◌, ◌-◌, ◌<◌, ◌≤◌, List, length, sym, refl, ap, ◌∙◌, arith}
+use Rattle.std.proofs.Common.{◌≡◌, ℕ, ◌+◌, ◌-◌, ◌<◌, ◌≤◌, List, sym, refl, ap, ◌∙◌, arith}
 use Rattle.mover.specs.declared.strips.Step.{Step}
 use Rattle.mover.specs.Private.Adding.{along}
 use Rattle.mover.specs.Private.Patches.{patch_copied, swapped_of, tile_step, tile_columns, PatchFits, PatchReads}
-use Rattle.mover.proofs.Crossing.{length_rows}
-use Rattle.mover.proofs.Patched.{Rowed, some_rows, rows_start, rows_length, rows_more, rows_end, some_fit, some_read, swap_fits, swap_reads, swap_copied}
-use Rattle.mover.proofs.Stepping.{some_columns, tile_some, tiled_part, tile_part, tile_home, tile_place}
+use Rattle.mover.proofs.Patched.{Rowed, some_rows, rows_start, rows_more, rows_end, some_fit, some_read, swap_fits, swap_reads, swap_copied}
+use Rattle.mover.proofs.Stepping.{some_columns, tiled_part, tile_part, tile_home, tile_place}
 use Rattle.mover.proofs.strips.copy_strip.Goals as goal
 use Rattle.mover.proofs.strips.copy_strip.Goals.{At-loop-k}
 
@@ -73,25 +72,6 @@ pub returns-then-k-p : goal.returns-then-k-p
 returns-then-k-p c =
     let n = c.args.p.columns - c.loop-k.k in
     whole (goal.at-returns-then-k-p c).At-loop-k (its-next (goal.at-returns-then-k-p c).At-loop-k n (rest (goal.at-returns-then-k-p c).At-loop-k c.if-k-p.true) c.copy_rows.ensures refl refl) (omega arith)
-
-pub overflow_sub-p : goal.overflow_sub-p
-overflow_sub-p c = c.loop-k.invariant.within
-
-pub overflow_add-k : goal.overflow_add-k
-overflow_add-k c = omega (arith, within (goal.at-overflow_add-k c).At-loop-k c.loop-k-test.true, c.well_formed)
-
-pub loop-k-smaller : goal.loop-k-smaller
-loop-k-smaller c =
-    omega (arith, within (goal.at-loop-k-smaller c).At-loop-k c.loop-k-test.true, columns-is (goal.at-loop-k-smaller c).At-loop-k, tile_some c.args.tile c.args.p)
-
-pub overflow_sub-p-then-k-p : goal.overflow_sub-p-then-k-p
-overflow_sub-p-then-k-p c = c.loop-k.invariant.within
-
-pub shape_of-dst-then-k-p : goal.shape_of-dst-then-k-p
-shape_of-dst-then-k-p c = ap length (returns-then-k-p c) ∙ length_rows _ _ _ _ _ _ _
-
-pub shape_of-dst-else-k-p : goal.shape_of-dst-else-k-p
-shape_of-dst-else-k-p c = rows_length c.loop-k.invariant (swap_fits c.requires.patch_fits) (swap_reads c.requires.patch_reads)
 
 pub returns-else-k-p : goal.returns-else-k-p
 returns-else-k-p c = whole (goal.at-returns-else-k-p c).At-loop-k c.loop-k.invariant c.if-k-p.false

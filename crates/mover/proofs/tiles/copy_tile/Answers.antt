@@ -14,37 +14,29 @@ long s = omega (arith, s.well_formed)
 told : (s : Start) {t : Tile} → s.args.tile ≡ t → Tiled t s.args.p × (s.args.p.columns ≡ tile_columns t s.args.p)
 told s e = subst (λ (t : Tile). Tiled t s.args.p × (s.args.p.columns ≡ tile_columns t s.args.p)) e s.requires.tiled
 
-pub copy_turned-requires : goal.copy_turned-requires
-copy_turned-requires c =
-    record {
-      tiled = told (goal.at-copy_turned-requires c).Start c.in-Turned.is;
-      patch_fits = c.requires.patch_fits;
-      patch_reads = c.requires.patch_reads;
-    }
-
-pub channels-t-requires : goal.channels-t-requires
-channels-t-requires c =
-    let k = told (goal.at-channels-t-requires c).Start c.in-Split.is in
-    split_reads c.requires.patch_fits c.requires.patch_reads (long (goal.at-channels-t-requires c).Start) (omega (arith, c.well_formed)) k.0 k.1
+pub split-t-requires : goal.split-t-requires
+split-t-requires c =
+    let k = told (goal.at-split-t-requires c).Start c.in-Split.is in
+    rw c.source.ensures (split_reads c.requires.patch_fits c.requires.patch_reads (long (goal.at-split-t-requires c).Start) (omega (arith, c.well_formed)) k.0 k.1)
 
 pub copy_blocks-requires : goal.copy_blocks-requires
 copy_blocks-requires c =
     let k = told (goal.at-copy_blocks-requires c).Start c.in-Split.is in
-    let l = ap length c.channels-t.ensures ∙ length_split _ _ in
+    let l = ap length c.split-t.ensures ∙ length_split _ _ in
     rw c.rows_of.ensures (record {
-      held = rows_held (length c.channels-t.result) 32 3 (omega arith) (omega arith);
+      held = rows_held (length c.split-t.result) 32 3 (omega arith) (omega arith);
       held_2 = split_writes c.requires.patch_fits c.requires.patch_reads (long (goal.at-copy_blocks-requires c).Start) (omega (arith, c.well_formed)) k.0 k.1;
     })
 
-pub pixels-t-requires : goal.pixels-t-requires
-pixels-t-requires c =
-    let k = told (goal.at-pixels-t-requires c).Start c.in-Merged.is in
-    merged_reads c.requires.patch_fits c.requires.patch_reads (long (goal.at-pixels-t-requires c).Start) (omega (arith, c.well_formed)) k.0 k.1
+pub merge-t-requires : goal.merge-t-requires
+merge-t-requires c =
+    let k = told (goal.at-merge-t-requires c).Start c.in-Merged.is in
+    rw c.source-in-Merged.ensures (merged_reads c.requires.patch_fits c.requires.patch_reads (long (goal.at-merge-t-requires c).Start) (omega (arith, c.well_formed)) k.0 k.1)
 
 pub copy_block-requires : goal.copy_block-requires
 copy_block-requires c =
     let k = told (goal.at-copy_block-requires c).Start c.in-Merged.is in
-    let l = ap length c.pixels-t.ensures ∙ length_merged _ _ _ in record {
+    let l = ap length c.merge-t.ensures ∙ length_merged _ _ _ in record {
       n_in_bounds = omega arith;
       n_in_bounds_2 = merged_writes c.requires.patch_fits c.requires.patch_reads (long (goal.at-copy_block-requires c).Start) (omega (arith, c.well_formed)) k.0 k.1;
     }
@@ -52,9 +44,9 @@ copy_block-requires c =
 pub returns-in-Split : goal.returns-in-Split
 returns-in-Split c =
     let k = told (goal.at-returns-in-Split c).Start c.in-Split.is in
-    split_is c.requires.patch_fits c.requires.patch_reads (long (goal.at-returns-in-Split c).Start) (omega (arith, c.well_formed)) k.0 k.1 c.channels-t.ensures (rw c.rows_of.ensures at c.copy_blocks.ensures)
+    split_is c.requires.patch_fits c.requires.patch_reads (long (goal.at-returns-in-Split c).Start) (omega (arith, c.well_formed)) k.0 k.1 (rw c.source.ensures at c.split-t.ensures) (rw c.rows_of.ensures at c.copy_blocks.ensures)
 
 pub returns-in-Merged : goal.returns-in-Merged
 returns-in-Merged c =
     let k = told (goal.at-returns-in-Merged c).Start c.in-Merged.is in
-    merged_is c.requires.patch_fits c.requires.patch_reads (long (goal.at-returns-in-Merged c).Start) (omega (arith, c.well_formed)) k.0 k.1 c.pixels-t.ensures c.copy_block.ensures
+    merged_is c.requires.patch_fits c.requires.patch_reads (long (goal.at-returns-in-Merged c).Start) (omega (arith, c.well_formed)) k.0 k.1 (rw c.source-in-Merged.ensures at c.merge-t.ensures) c.copy_block.ensures

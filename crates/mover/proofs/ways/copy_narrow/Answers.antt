@@ -15,13 +15,13 @@ pub returns-then-is_merged : goal.returns-then-is_merged
 returns-then-is_merged c =
     (rw c.swapped-columns.ensures at c.copy_strip.ensures) ∙ swap_copied c.args.origin c.args.src.now c.requires.patch_fits
 
-pub copy_rows-requires : goal.copy_rows-requires
-copy_rows-requires c =
+pub copy_rows-requires-else-is_merged : goal.copy_rows-requires-else-is_merged
+copy_rows-requires-else-is_merged c =
     rw c.swapped-columns.ensures (record {
       patch_fits = swap_fits c.requires.patch_fits;
       patch_reads = swap_reads c.requires.patch_reads;
     })
 
-pub returns : goal.returns
-returns c =
-    (rw c.swapped-columns.ensures at c.copy_rows.ensures) ∙ swap_copied c.args.origin c.args.src.now c.requires.patch_fits
+pub returns-else-is_merged : goal.returns-else-is_merged
+returns-else-is_merged c =
+    (rw c.swapped-columns.ensures at c.copy_rows-else-is_merged.ensures) ∙ swap_copied c.args.origin c.args.src.now c.requires.patch_fits

@@ -4,16 +4,11 @@ use Rattle.plane.specs.Moves.{room_fault, accepted}
 use Rattle.mover.proofs.Making.{answer_fit}
 use Rattle.mover.proofs.Judged.{total_is, job_accepted, verdict_refused, verdict_given}
 use Rattle.mover.proofs.within.judge_job.Goals as goal
-use Rattle.mover.proofs.within.judge_job.Goals.{Else-a-ne0}
+use Rattle.mover.proofs.within.judge_job.Goals.{In-Ok}
 
-pub returns-then-a-ne0 : goal.returns-then-a-ne0
-returns-then-a-ne0 c =
-    verdict_refused c.args.len c.args.job c.answer-a.ensures c.if-a-ne0.true
-
--- past the check, the job's move is accepted
-taken : (c : Else-a-ne0) → let j = c.args.job in ((room_fault j.tensor j.config).status ≡ 0) × (c.answer-a.result ≡ accepted j.tensor j.config)
-taken c =
-    job_accepted c.args.len c.args.job c.answer-a.ensures c.if-a-ne0.false
+-- the job's move is accepted
+taken : (c : In-Ok) → let j = c.args.job in ((room_fault j.tensor j.config).status ≡ 0) × (c.in-Ok.a ≡ accepted j.tensor j.config)
+taken c = job_accepted c.args.len c.args.job c.in-Ok.ensures
 
 pub total-requires : goal.total-requires
 total-requires c =
@@ -21,7 +16,10 @@ total-requires c =
     let f = answer_fit j.tensor j.config (taken c).0 (taken c).1 in
     (f.rank, f.extent)
 
-pub returns : goal.returns
-returns c =
-    verdict_given c.args.len c.args.job c.answer-a.ensures c.if-a-ne0.false
-    (total_is c.args.job.tensor c.args.job.config (taken (goal.at-returns c).Else-a-ne0).1 c.total.ensures)
+pub returns-in-Ok : goal.returns-in-Ok
+returns-in-Ok c =
+    verdict_given c.args.len c.args.job c.in-Ok.ensures
+    (total_is c.args.job.tensor c.args.job.config (taken (goal.at-returns-in-Ok c).In-Ok).1 c.total.ensures)
+
+pub returns-in-Err : goal.returns-in-Err
+returns-in-Err c = verdict_refused c.args.len c.args.job c.in-Err.ensures

@@ -1,33 +1,44 @@
 -- `plane::destination::placement` meets its contract. Assumes nothing.
-use mathlib.Core.Path.{◌∙◌}
+use mathlib.Core.Path.{sym, ap, ◌∙◌}
 use native.Mathlib.Omega.{arith}
+use Rattle.std.proofs.Common.{rules}
+use Rattle.std.specs.Prelude.{Ok}
 use Rattle.plane.specs.Moves.{dst_fault}
-use Rattle.faults.proofs.Faults.{status}
-use Rattle.plane.proofs.Rules.{refuses, accepts, place_stopped, place_strides, place_offsets, place_offset_small}
+use Rattle.faults.proofs.Outcomes.{outcome_ok, clear, passed_value, goes, halts, ends, stops}
+use Rattle.plane.proofs.Rules.{accepts, place_strides, place_offsets, place_offset_small}
 use Rattle.plane.proofs.destination.placement.Goals as goal
 
-pub returns-then-f-ne0 : goal.returns-then-f-ne0
-returns-then-f-ne0 c =
-    refuses c.args.t c.args.c c.refused.ensures c.if-f-ne0.true
-    (place_stopped c.args.t c.args.c c.requires.1 c.resolve-s.ensures c.if-f-ne0.true)
+pub returns-in_err-stride : goal.returns-in_err-stride
+unfolding dst_fault
+returns-in_err-stride c =
+    stops (halts _ _ _ _ (place_strides c.args.t c.args.c c.requires.1 c.resolve.ensures) c.in_err-stride.was) (search rules)
 
-pub returns-then-g-ne0 : goal.returns-then-g-ne0
-returns-then-g-ne0 c =
-    refuses c.args.t c.args.c c.refused-then-g-ne0.ensures c.if-g-ne0.true
-    (place_offsets c.args.t c.args.c c.requires.1 c.resolve-s.ensures c.if-f-ne0.false c.dst_offset_fault-g.ensures)
+pub returns-in_err-check_dst_offset : goal.returns-in_err-check_dst_offset
+unfolding dst_fault
+returns-in_err-check_dst_offset c =
+    let a = c.args in
+    let w = place_strides a.t a.c c.requires.1 c.resolve.ensures in
+    let l = passed_value _ _ w c.in_ok-stride.was in
+    stops
+    (goes _ _ _ _ w c.in_ok-stride.was ∙
+    ends _ _ _ (place_offsets a.t a.c c.requires.1 l c.check_dst_offset.ensures) c.in_err-check_dst_offset.was)
+    (search rules)
 
 pub bytes-requires : goal.bytes-requires
 bytes-requires c = (
   c.requires.0,
   λ d h.
       let p = c.requires.2 d h in
-      let q = place_offset_small c.args.t c.args.c c.args.extent c.resolve-s.result.stride c.dst_offset_fault-g.ensures c.if-g-ne0.false d h in
+      let q = place_offset_small c.args.t c.args.c _ _ (clear _ _ c.check_dst_offset.ensures c.in_ok-check_dst_offset.was) d h in
       (p.0, omega arith),
 )
 
 pub returns : goal.returns
+unfolding dst_fault
 returns c =
-    let t = c.args.t in
-    let k = c.args.c in
-    accepts t k (dst_fault t k) c.requires.1 (place_strides t k c.requires.1 c.resolve-s.ensures c.if-f-ne0.false) c.bytes.ensures
-    (status (place_offsets t k c.requires.1 c.resolve-s.ensures c.if-f-ne0.false c.dst_offset_fault-g.ensures) ∙ c.if-g-ne0.false)
+    let a = c.args in
+    let w = place_strides a.t a.c c.requires.1 c.resolve.ensures in
+    let l = passed_value _ _ w c.in_ok-stride.was in
+    let o = place_offsets a.t a.c c.requires.1 l c.check_dst_offset.ensures in
+    ap Ok (accepts a.t a.c c.requires.1 l c.bytes.ensures) ∙
+    sym (goes _ _ _ _ w c.in_ok-stride.was ∙ outcome_ok _ _ (clear _ _ o c.in_ok-check_dst_offset.was))

@@ -3,8 +3,5 @@ use Rattle.plane.specs.Arrays.{at}
 use Rattle.plane.proofs.Resolving.{Walked}
 use Rattle.plane.proofs.strides.resolve.Given as goal
 
-abbrev pub invariant-loop-d : goal.invariant-loop-d
-invariant-loop-d l = Walked l.n (at l.shape) (at l.stride) l.num l.out l.inner l.d
-
-abbrev pub decreases-loop-d : goal.decreases-loop-d
-decreases-loop-d l = l.d
+abbrev pub invariant-loop-dim : goal.invariant-loop-dim
+invariant-loop-dim l = Walked l.n (at l.shape) (at l.stride) l.status l.out l.inner l.dim

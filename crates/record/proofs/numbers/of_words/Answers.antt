@@ -1,23 +1,18 @@
 -- `record::numbers::of_words` meets its contract. Assumes nothing.
-use mathlib.Core.Path.{◌≡◌}
+use mathlib.Core.Path.{◌≡◌, ◌∙◌}
 use borrow.Author.Rules.{rules}
 use lib.ListN.{length}
-use Rattle.plane.proofs.Signed.{read_back}
-use Rattle.record.proofs.TwosComplement.{numbers_array}
+use mir.Syntax.{w32}
+use mir.Val.{to_z}
+use lib.IntN.{pos}
+use Rattle.plane.proofs.Arrays.{is_array}
+use Rattle.plane.specs.Arrays.{at, array}
+use Rattle.record.proofs.TwosComplement.{machine_numbers}
 use Rattle.record.proofs.numbers.of_words.Goals as goal
 
 pub returns : goal.returns
 returns c =
-    let x = c.args.xs in
-    let l : length x ≡ 4 = search rules in
-    rw (
-      read_back c.of_word-4.result c.of_word-4.type_inv,
-      c.of_word-4.ensures,
-      read_back c.of_word-3.result c.of_word-3.type_inv,
-      c.of_word-3.ensures,
-      read_back c.of_word-2.result c.of_word-2.type_inv,
-      c.of_word-2.ensures,
-      read_back c.of_word.result c.of_word.type_inv,
-      c.of_word.ensures,
-    )
-    (numbers_array x l)
+    let l : length c.args.xs ≡ 4 = search rules in
+    let items = c.map.ensures.items in
+    let e : c.map.result ≡ array (λ d. to_z w32 (at c.args.xs d)) = is_array (pos 0) c.map.result (λ d. to_z w32 (at c.args.xs d)) items.long (λ d h. let m = items.at d 0 (pos 0) h in search rules) in
+    e ∙ machine_numbers c.args.xs l (search rules)

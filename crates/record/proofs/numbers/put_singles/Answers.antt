@@ -1,7 +1,12 @@
 -- `record::numbers::put_singles` meets its contract. Assumes nothing.
-use Rattle.record.proofs.Digits.{four_stored}
+use mathlib.Core.Path.{◌≡◌, ap, ◌∙◌}
+use borrow.Author.Rules.{rules}
+use Rattle.std.proofs.lemmas.List.Edits.{sets}
+use lib.ListN.{length}
+use Rattle.record.proofs.Digits.{singles_bytes}
 use Rattle.record.proofs.numbers.put_singles.Goals as goal
 
 pub returns : goal.returns
 returns c =
-    four_stored c.args.room.now c.args.p 1 c.args.xs c.put_byte.ensures c.put_byte-2.ensures c.put_byte-3.ensures c.put_byte-4.ensures
+    let l : length c.args.xs ≡ 4 = search rules in
+    c.put.ensures ∙ ap (sets c.args.room.now c.args.p) (singles_bytes c.args.xs l (search rules))

@@ -1,7 +1,8 @@
 -- `record::numbers::put_word` meets its contract. Assumes nothing.
-use Rattle.record.proofs.Digits.{two_halves}
+use mathlib.Core.Path.{ap, ◌∙◌}
+use Rattle.std.proofs.lemmas.List.Edits.{sets}
+use Rattle.record.proofs.Digits.{word_bytes}
 use Rattle.record.proofs.numbers.put_word.Goals as goal
 
 pub returns : goal.returns
-returns c =
-    two_halves c.args.room.now c.args.p c.args.x c.put_half.ensures c.put_half-2.ensures
+returns c = c.put.ensures ∙ ap (sets c.args.room.now c.args.p) (c.to_le_bytes.ensures ∙ word_bytes c.args.x)

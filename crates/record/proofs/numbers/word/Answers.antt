@@ -1,9 +1,10 @@
 -- `record::numbers::word` meets its contract. Assumes nothing.
-use native.Mathlib.Omega.{arith}
-use Rattle.record.proofs.Digits.{number_four}
+use mathlib.Core.Path.{ap, ◌∙◌}
+use lib.ListN.{length}
+use Rattle.plane.specs.Numbers.{number}
+use Rattle.record.proofs.Parts.{length_part}
+use Rattle.record.proofs.Digits.{four_bytes_are}
 use Rattle.record.proofs.numbers.word.Goals as goal
 
 pub returns : goal.returns
-returns c =
-    let e = number_four c.args.p c.args.bytes.now c.requires in
-    omega arith
+returns c = c.from_le_bytes.ensures ∙ four_bytes_are c.part.result (ap length c.part.ensures ∙ length_part c.args.p 4 c.args.bytes.now c.requires) ∙ ap number c.part.ensures

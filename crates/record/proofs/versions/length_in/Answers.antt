@@ -9,4 +9,4 @@ returns-then-bytes-lt-VERSION_END c = simp (lt-ltb _ _ c.if-bytes-lt-VERSION_END
 
 pub returns : goal.returns
 unfolding length_in
-returns c = rw (c.length_of.ensures, c.half-version.ensures.0, le-ltb _ _ c.if-bytes-lt-VERSION_END.false)
+returns c = rw (c.length_of.ensures, c.half.ensures, le-ltb _ _ c.if-bytes-lt-VERSION_END.false)

@@ -1,0 +1,10 @@
+-- `keeper::runs::Run::taken_in` takes a run. Assumes nothing.
+use mathlib.Core.Path.{◌≡◌}
+use Prim.Native.Nat.{◌-◌, ◌^◌}
+use Rattle.keeper.proofs.Answers.{run-taken-too}
+use Rattle.keeper.proofs.runs.Run.taken_in.Goals as goal
+
+pub returns : goal.returns
+returns c =
+    let e : c.ones.result ≡ 2 ^ c.args.self.n - 1 = c.ones.ensures in
+    rw e (run-taken-too c.args.word c.args.self.first c.args.self.n c.ranges.word.fits c.args.self.inside)

@@ -1,5 +1,0 @@
--- `ready_made::concatenate` meets its contract. Assumes nothing.
-use Rattle.ready_made.proofs.concatenate.Goals as goal
-
-pub returns : goal.returns
-returns c = rw (c.made_for.ensures, c.with_dst_stride.ensures, c.with_dst_offset-c.ensures, c.defaults.ensures)

@@ -1,8 +1,0 @@
--- `transfers::zeros::is_zero_bytes` tells whether four bytes are zero. Assumes nothing.
-use mathlib.Core.Path.{refl}
-use Rattle.plane.specs.Arrays.{every}
-use Rattle.transfers.proofs.zeros.is_zero_bytes.Goals as goal
-
-pub returns : goal.returns
-unfolding every
-returns c = refl
