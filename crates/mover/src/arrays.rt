@@ -6,7 +6,6 @@ ghost use Rattle.mover.specs.Private.Runs.{Held, kept_bytes, run_stored};
 ghost use Rattle.mover.specs.Private.Shuffles.{made};
 
 use crate::elements::Course;
-use std::num::wrapping_add_usize;
 
 // n bytes from `at` of src to `to` of dst.
 pub(crate) fn copy_block(src: &[u8], at: usize, dst: &mut [u8], to: usize, n: usize)
@@ -27,8 +26,8 @@ pub(crate) fn copy_blocks(src: &[u8], dst: &mut [u8], c: Course)
     let mut to = c.to;
     for _ in 0..c.n {
         copy_block(src, at, dst, to, c.size);
-        at = wrapping_add_usize(at, c.jump);
-        to = wrapping_add_usize(to, c.stride);
+        at = at.wrapping_add(c.jump);
+        to = to.wrapping_add(c.stride);
     }
 }
 

@@ -9,7 +9,6 @@ ghost use Rattle.mover.specs.Private.Shuffles.{made};
 use crate::arrays::read_evens;
 use crate::copies::{bytes, copy_bytes};
 use crate::elements::{Course, Origin, copy_each, pad_run, source};
-use std::num::wrapping_add_usize;
 
 // Whether n pairs of bytes from `at` on lie in `len` bytes.
 fn are_pairs(len: usize, at: usize, n: usize) -> bool
@@ -49,8 +48,8 @@ fn copy_evens(src: &[u8], dst: &mut [u8], origin: Origin, c: Course) -> usize
     while 16 <= n - k {
         let a = read_evens(source(src, dst, origin), at);
         dst[to..to + 16].copy_from_slice(&a);
-        at = wrapping_add_usize(at, 32);
-        to = wrapping_add_usize(to, 16);
+        at = at.wrapping_add(32);
+        to = to.wrapping_add(16);
         k += 16;
     }
     let rest = Course {
@@ -116,7 +115,7 @@ pub(crate) fn copy_run(src: &[u8], dst: &mut [u8], origin: Origin, c: Course) ->
     if c.stride == c.size && c.jump == c.size {
         let n = bytes(c.size, c.n);
         copy_bytes(src, dst, origin, c.at, c.to, n);
-        return wrapping_add_usize(c.to, n);
+        return c.to.wrapping_add(n);
     }
     copy_apart(src, dst, origin, c)
 }

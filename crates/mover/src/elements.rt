@@ -6,8 +6,6 @@ ghost use Rattle.mover.specs.Private.Adding.{along};
 ghost use Rattle.plane.specs.Planes.{Sized};
 ghost use Rattle.mover.specs.Private.Runs.{element_copied, run_copied, run_padded, Readable, Writable};
 
-use std::num::wrapping_add_usize;
-
 // Where the source's bytes stand: in the slice lent for reading, or in the destination's own.
 #[derive(Clone, Copy)]
 pub(crate) enum Origin {
@@ -82,8 +80,8 @@ pub(crate) fn copy_each(src: &[u8], dst: &mut [u8], origin: Origin, c: Course) -
     let mut to = c.to;
     for _ in 0..c.n {
         copy(src, dst, origin, at, to, c.size);
-        at = wrapping_add_usize(at, c.jump);
-        to = wrapping_add_usize(to, c.stride);
+        at = at.wrapping_add(c.jump);
+        to = to.wrapping_add(c.stride);
     }
     to
 }
@@ -119,7 +117,7 @@ pub(crate) fn pad_run(dst: &mut [u8], c: Course) -> usize
     let mut to = c.to;
     for _ in 0..c.n {
         pad(dst, to, c.size, four);
-        to = wrapping_add_usize(to, c.stride);
+        to = to.wrapping_add(c.stride);
     }
     to
 }

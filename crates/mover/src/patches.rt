@@ -7,7 +7,6 @@ ghost use Rattle.mover.specs.Private.Patches.{Lines, swapped_of, patch_row, patc
 use crate::copies::{bytes, copy_bytes};
 use crate::courses::copy_run;
 use crate::elements::{Course, Origin, copy_each, pad_run};
-use std::num::wrapping_add_usize;
 
 // Element (i, j) stands i rows and j columns on from the first, in source and destination, in bytes.
 #[derive(Clone, Copy)]
@@ -63,7 +62,7 @@ pub(crate) fn pad_rows(dst: &mut [u8], p: Patch)
     let mut to = p.to;
     for _ in 0..p.rows {
         pad_run(dst, row(p, p.at, to));
-        to = wrapping_add_usize(to, p.row_stride);
+        to = to.wrapping_add(p.row_stride);
     }
 }
 
@@ -82,8 +81,8 @@ pub(crate) fn copy_rows(src: &[u8], dst: &mut [u8], origin: Origin, p: Patch)
         } else {
             copy_run(src, dst, origin, c);
         }
-        at = wrapping_add_usize(at, p.row_jump);
-        to = wrapping_add_usize(to, p.row_stride);
+        at = at.wrapping_add(p.row_jump);
+        to = to.wrapping_add(p.row_stride);
     }
 }
 
@@ -99,7 +98,7 @@ pub(crate) fn copy_lines(src: &[u8], dst: &mut [u8], origin: Origin, p: Patch)
     let mut to = p.to;
     for _ in 0..p.rows {
         copy_bytes(src, dst, origin, at, to, n);
-        at = wrapping_add_usize(at, p.row_jump);
-        to = wrapping_add_usize(to, p.row_stride);
+        at = at.wrapping_add(p.row_jump);
+        to = to.wrapping_add(p.row_stride);
     }
 }

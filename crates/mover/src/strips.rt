@@ -6,7 +6,6 @@ ghost use Rattle.mover.specs.Private.Patches.{Tiled, Turns, across_of, sixteenth
 use crate::elements::Origin;
 use crate::patches::{Patch, copy_rows};
 use crate::tiles::{Tile, copy_tile};
-use std::num::wrapping_add_usize;
 
 // From a tile to the next: how many columns, and how far in source and destination.
 #[derive(Clone, Copy)]
@@ -20,13 +19,13 @@ pub(crate) struct Step {
 fn across(size: usize, j: usize) -> usize
     ensures { result ≡ across_of size j }
 {
-    let two = wrapping_add_usize(j, j);
-    let four = wrapping_add_usize(two, two);
-    let eight = wrapping_add_usize(four, four);
+    let two = j.wrapping_add(j);
+    let four = two.wrapping_add(two);
+    let eight = four.wrapping_add(four);
     match size {
         4 => four,
         2 => eight,
-        _ => wrapping_add_usize(eight, eight),
+        _ => eight.wrapping_add(eight),
     }
 }
 
@@ -88,8 +87,8 @@ pub(crate) fn copy_strip(src: &[u8], dst: &mut [u8], origin: Origin, tile: Tile,
                 ..p
             },
         );
-        at = wrapping_add_usize(at, s.jump);
-        to = wrapping_add_usize(to, s.stride);
+        at = at.wrapping_add(s.jump);
+        to = to.wrapping_add(s.stride);
         k += s.columns;
     }
     if k < p.columns {
@@ -132,8 +131,8 @@ pub(crate) fn copy_strips(src: &[u8], dst: &mut [u8], origin: Origin, p: Patch)
                 ..p
             },
         );
-        at = wrapping_add_usize(at, 16);
-        to = wrapping_add_usize(to, further);
+        at = at.wrapping_add(16);
+        to = to.wrapping_add(further);
         k += n;
     }
     if k < p.rows {

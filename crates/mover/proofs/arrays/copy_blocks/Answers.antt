@@ -1,4 +1,4 @@
-use Rattle.std.proofs.Common.{◌≡◌, sym, ◌∙◌, arith}
+use Rattle.std.proofs.Common.{◌≡◌, sym, ◌∙◌, refl, arith}
 use lib.Seq.{sets}
 use Rattle.mover.specs.Private.Runs.{kept_bytes}
 use Rattle.mover.proofs.Adding.{along_none, along_next}
@@ -25,8 +25,8 @@ loop-preserved c =
     let l = c.loop in
     let a = c.args.c in
     let e : c.copy_block.new.dst ≡ sets l.dst l.to (kept_bytes c.args.src.now a l.counter) = c.copy_block.ensures ∙ rw l.invariant.1 in (
-      done_next l.invariant.0 c.loop-test.true c.wrapping_add_usize-to.ensures.value e,
-      c.wrapping_add_usize-at.ensures.value ∙ rw l.invariant.1 (along_next a.at a.jump l.counter),
+      done_next l.invariant.0 c.loop-test.true refl e,
+      rw l.invariant.1 (along_next a.at a.jump l.counter),
     )
 
 pub returns : goal.returns

@@ -1,4 +1,4 @@
-use Rattle.std.proofs.Common.{◌≡◌, ◌+◌, ◌-◌, ◌*◌, ◌^◌, ◌<◌, ◌≤◌, length, slice_index, ap, ◌∙◌, arith}
+use Rattle.std.proofs.Common.{◌≡◌, ◌+◌, ◌-◌, ◌*◌, ◌^◌, ◌<◌, ◌≤◌, length, slice_index, ap, ◌∙◌, refl, arith}
 use lib.Seq.{sets}
 use Rattle.mover.specs.Private.Elements.{source_bytes}
 use Rattle.mover.specs.Private.Runs.{kept_bytes}
@@ -48,7 +48,7 @@ loop-k-preserved c =
     (rw w (evened_writes c.loop-k.invariant c.requires.writable c.requires.readable c.pairs_in-n.ensures.0 c.requires.evens (lies (goal.at-loop-k-preserved c).At-loop-k) (short-source (goal.at-loop-k-preserved c).At-loop-k) (short (goal.at-loop-k-preserved c).At-loop-k) (sixteen (goal.at-loop-k-preserved c).In-loop-k)))
     ∙ ap (sets l.dst l.to) picked in
     evened_more c.loop-k.invariant c.requires.writable c.requires.readable c.pairs_in-n.ensures.0 c.requires.evens (lies (goal.at-loop-k-preserved c).At-loop-k) (short-source (goal.at-loop-k-preserved c).At-loop-k) (short (goal.at-loop-k-preserved c).At-loop-k) (sixteen (goal.at-loop-k-preserved c).In-loop-k)
-    stored c.wrapping_add_usize-at.ensures.value c.wrapping_add_usize-to.ensures.value
+    stored refl refl
 
 pub copy_each-requires : goal.copy_each-requires
 copy_each-requires c =

@@ -24,6 +24,6 @@ pub returns-then-c-2 : goal.returns-then-c-2
 returns-then-c-2 c =
     let b = side_by_side (goal.at-returns-then-c-2 c).Then-c-2 in
     let e = c.bytes-n.ensures in record {
-      next = c.wrapping_add_usize.ensures.value ∙ ap (λ (y : ℕ). (c.args.c.to + y) % 2 ^ 64) e ∙ b.next;
+      next = ap (λ (y : ℕ). (c.args.c.to + y) % 2 ^ 64) e ∙ b.next;
       written = c.copy_bytes.ensures ∙ rw e b.copied;
     }

@@ -1,4 +1,4 @@
-use Rattle.std.proofs.Common.{◌≡◌, sym, ap, ◌∙◌, arith}
+use Rattle.std.proofs.Common.{◌≡◌, sym, ap, ◌∙◌, refl, arith}
 use lib.Seq.{sets}
 use Rattle.mover.specs.Private.Elements.{source_bytes}
 use Rattle.mover.specs.Private.Runs.{run_stored, kept_bytes}
@@ -34,8 +34,8 @@ loop-preserved c =
     c.copy.ensures ∙
     rw (l.invariant.1, l.invariant.0.bytes) (ap (sets (run_stored (kept_bytes v a) a.to a.stride l.counter d) l.to)
     (run_keeps c.args.origin c.args.src.now d v a l.counter c.requires.readable.parted c.loop-test.true)) in (
-      done_next l.invariant.0 c.loop-test.true c.wrapping_add_usize-to.ensures.value e,
-      c.wrapping_add_usize-at.ensures.value ∙ rw l.invariant.1 (along_next a.at a.jump l.counter),
+      done_next l.invariant.0 c.loop-test.true refl e,
+      rw l.invariant.1 (along_next a.at a.jump l.counter),
     )
 
 pub returns : goal.returns

@@ -1,4 +1,4 @@
-use Rattle.std.proofs.Common.{arith}
+use Rattle.std.proofs.Common.{refl, arith}
 use Rattle.mover.specs.Private.Runs.{pad_bytes}
 use Rattle.mover.proofs.Runs.{done_start, done_length, done_next, done_end}
 use Rattle.mover.proofs.elements.pad_run.Goals as goal
@@ -17,7 +17,7 @@ pad-requires c =
 
 pub loop-preserved : goal.loop-preserved
 loop-preserved c =
-    done_next c.loop.invariant c.loop-test.true c.wrapping_add_usize-to.ensures.value c.pad.ensures
+    done_next c.loop.invariant c.loop-test.true refl c.pad.ensures
 
 pub returns : goal.returns
 returns c =

@@ -1,4 +1,4 @@
-use Rattle.std.proofs.Common.{◌∙◌, arith}
+use Rattle.std.proofs.Common.{◌∙◌, refl, arith}
 use Rattle.mover.proofs.Patched.{rows_start, rows_next, rows_end}
 use Rattle.mover.proofs.patches.copy_rows.Goals as goal
 use Rattle.mover.proofs.patches.copy_rows.Goals.{then-c-lt16, else-c-lt16}
@@ -14,7 +14,7 @@ loop-preserved c =
       | then-c-lt16 w ↦ w.dst-is ∙ (rw c.row-c.ensures at w.copy_each.ensures.written)
       | else-c-lt16 w ↦ w.dst-is ∙ (rw c.row-c.ensures at w.copy_run.ensures.written)
     ])
-    c.wrapping_add_usize-at.ensures.value c.wrapping_add_usize-to.ensures.value
+    refl refl
 
 pub returns : goal.returns
 returns c = rows_end c.loop.invariant c.requires.patch_fits c.requires.patch_reads c.loop-test.false

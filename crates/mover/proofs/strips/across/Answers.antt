@@ -1,5 +1,5 @@
 -- `mover::strips::across` doubles. Assumes nothing.
-use Rattle.std.proofs.Common.{◌≡◌, ℕ, ◌+◌, ◌*◌, ◌%◌, ◌^◌, ap, ◌∙◌, add_comm, arith, ne_eqb}
+use Rattle.std.proofs.Common.{◌≡◌, ℕ, ◌+◌, ◌*◌, ◌%◌, ◌^◌, ap, ◌∙◌, add_comm, refl, arith, ne_eqb}
 use native.Mathlib.Nat.{mod-add-mod}
 use Rattle.mover.proofs.strips.across.Goals as goal
 
@@ -18,14 +18,14 @@ once j g = g ∙ ap (λ (y : ℕ). y % 2 ^ 64) (omega arith)
 
 pub returns-in-4 : goal.returns-in-4
 returns-in-4 c =
-    rw c.in-4.is (twice 2 c.args.j (once c.args.j c.wrapping_add_usize-two.ensures.value) c.wrapping_add_usize-four.ensures.value)
+    rw c.in-4.is (twice 2 c.args.j (once c.args.j refl) refl)
 
 pub returns-in-2 : goal.returns-in-2
 returns-in-2 c =
     rw c.in-2.is
-    (twice 4 c.args.j (twice 2 c.args.j (once c.args.j c.wrapping_add_usize-two.ensures.value) c.wrapping_add_usize-four.ensures.value) c.wrapping_add_usize-eight.ensures.value)
+    (twice 4 c.args.j (twice 2 c.args.j (once c.args.j refl) refl) refl)
 
 pub returns-in_default : goal.returns-in_default
 returns-in_default c =
     rw (ne_eqb c.args.size 4 (λ e. omega (arith, c.in_default)), ne_eqb c.args.size 2 (λ e. omega (arith, c.in_default)))
-    (twice 8 c.args.j (twice 4 c.args.j (twice 2 c.args.j (once c.args.j c.wrapping_add_usize-two.ensures.value) c.wrapping_add_usize-four.ensures.value) c.wrapping_add_usize-eight.ensures.value) c.wrapping_add_usize.ensures.value)
+    (twice 8 c.args.j (twice 4 c.args.j (twice 2 c.args.j (once c.args.j refl) refl) refl) refl)

@@ -1,4 +1,4 @@
-use Rattle.std.proofs.Common.{◌≡◌, ℕ, ◌+◌, ◌-◌, ◌<◌, ◌≤◌, List, sym, refl, ap, ◌∙◌, arith}
+use Rattle.std.proofs.Common.{◌≡◌, ℕ, ◌+◌, ◌%◌, ◌^◌, ◌-◌, ◌<◌, ◌≤◌, List, sym, refl, ap, ◌∙◌, arith}
 use Rattle.mover.specs.declared.strips.Step.{Step}
 use Rattle.mover.specs.Private.Adding.{along}
 use Rattle.mover.specs.Private.Patches.{patch_copied, swapped_of, tile_step, tile_columns, PatchFits, PatchReads}
@@ -48,8 +48,8 @@ loop-k-preserved c =
     let n = c.step_of-s.result.columns in
     let z = c.requires.patch_fits.sized in
     its-next (goal.at-loop-k-preserved c).At-loop-k n (within (goal.at-loop-k-preserved c).At-loop-k c.loop-k-test.true) c.copy_tile.ensures
-    (tile_home c.args.tile c.args.p z c.requires.tiled c.loop-k.at (rw (step_is (goal.at-loop-k-preserved c).At-loop-k) at c.wrapping_add_usize-at.ensures.value) ∙ ap (along c.loop-k.at c.args.p.jump) (sym (columns-is (goal.at-loop-k-preserved c).At-loop-k)))
-    (tile_place c.args.tile c.args.p z c.requires.tiled c.loop-k.to (rw (step_is (goal.at-loop-k-preserved c).At-loop-k) at c.wrapping_add_usize-to.ensures.value) ∙ ap (along c.loop-k.to c.args.p.stride) (sym (columns-is (goal.at-loop-k-preserved c).At-loop-k)))
+    (tile_home c.args.tile c.args.p z c.requires.tiled c.loop-k.at (ap (λ (x : Step). (c.loop-k.at + x.jump) % 2 ^ 64) (step_is (goal.at-loop-k-preserved c).At-loop-k)) ∙ ap (along c.loop-k.at c.args.p.jump) (sym (columns-is (goal.at-loop-k-preserved c).At-loop-k)))
+    (tile_place c.args.tile c.args.p z c.requires.tiled c.loop-k.to (ap (λ (x : Step). (c.loop-k.to + x.stride) % 2 ^ 64) (step_is (goal.at-loop-k-preserved c).At-loop-k)) ∙ ap (along c.loop-k.to c.args.p.stride) (sym (columns-is (goal.at-loop-k-preserved c).At-loop-k)))
 
 rest : (l : At-loop-k) → l.loop-k.k < l.args.p.columns → l.loop-k.k + (l.args.p.columns - l.loop-k.k) ≤ l.args.p.columns
 rest l h = omega arith

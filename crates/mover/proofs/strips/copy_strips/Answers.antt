@@ -45,8 +45,8 @@ pub loop-k-preserved : goal.loop-k-preserved
 loop-k-preserved c =
     let p = c.args.p in
     its-next (goal.at-loop-k-preserved c).At-loop-k (rows (goal.at-loop-k-preserved c).At-loop-k) (within (goal.at-loop-k-preserved c).At-loop-k c.loop-k-test.true) c.copy_strip.ensures
-    (sixteen_on c.loop-k.at p.size p.row_jump c.requires.patch_fits.sized c.requires.turns.size c.requires.turns.jump c.wrapping_add_usize-at.ensures.value ∙ ap (along c.loop-k.at p.row_jump) (sym (rows_are (goal.at-loop-k-preserved c).At-loop-k)))
-    (far c.loop-k.to (sixteenth_of p.size) p.row_stride c.across-further.ensures c.wrapping_add_usize-to.ensures.value ∙ ap (along c.loop-k.to p.row_stride) (sym (rows_are (goal.at-loop-k-preserved c).At-loop-k)))
+    (sixteen_on c.loop-k.at p.size p.row_jump c.requires.patch_fits.sized c.requires.turns.size c.requires.turns.jump refl ∙ ap (along c.loop-k.at p.row_jump) (sym (rows_are (goal.at-loop-k-preserved c).At-loop-k)))
+    (far c.loop-k.to (sixteenth_of p.size) p.row_stride c.across-further.ensures refl ∙ ap (along c.loop-k.to p.row_stride) (sym (rows_are (goal.at-loop-k-preserved c).At-loop-k)))
 
 rest : (l : At-loop-k) → l.loop-k.k < l.args.p.rows → l.loop-k.k + (l.args.p.rows - l.loop-k.k) ≤ l.args.p.rows
 rest l h = omega arith
