@@ -119,8 +119,8 @@ row_end p h = omega arith
 
 -- ---- a band, from where the loops stand
 
-module _ {o : Origin} {p : Plan} {s d₀ : List ℕ} {from budget : ℕ} {d : List ℕ} {c0 c1 c2 c3 left : ℕ} {u : Spots} (a : At o p s d₀ from budget d c0 c1 c2 c3 left u)
-    (r : Ready o p s d) (f : length s + length d < 2 ^ 64) (h0 : c0 < p.d0.extent) (h1 : c1 < p.d1.extent)
+module _ {o : Origin} {p : Plan} {d₀ : List ℕ} {from budget : ℕ} {d : List ℕ} {c0 c1 c2 c3 left : ℕ} {u : Spots} (a : At o p d₀ from budget d c0 c1 c2 c3 left u)
+    (r : Ready o p d) (f : length d < 2 ^ 63) (h0 : c0 < p.d0.extent) (h1 : c1 < p.d1.extent)
     {outer : Bool} (q : outer ≡ (axis_kept p.d0 c0 && axis_kept p.d1 c1)) (z : c3 ≡ 0) {b : Band} (l : BandAt p.d2 p.d3.extent outer c2 left b) (some : 0 < b.rows) where
   its_within : (i j : ℕ) → i < b.rows → j < p.d3.extent → InExtents p c0 c1 (c2 + i) j
   its_within i j hi hj = record { in0 = h0; in1 = h1; in2 = omega (arith, l.within); in3 = hj }
@@ -141,8 +141,9 @@ module _ {o : Origin} {p : Plan} {s d₀ : List ℕ} {from budget : ℕ} {d : Li
       band_home_lem p c0 c1 c2 a.slab a.layer a.row i j (its_kept 0 j some ∙ k) (its_kept i j hi ∙ k)
 
   -- what it asks
-  pub band_asks : Banded o p s d u.row b
+  pub band_asks : Banded o p d u.row b
   band_asks = record {
+    short = r.short;
     sized = r.sized;
     axis = r.axes.in3;
     places = λ i j hi hj. rw (its_place i j hi hj) (omega (arith, place_most p c0 c1 (c2 + i) j (its_within i j hi hj), r.need));
@@ -157,11 +158,11 @@ module _ {o : Origin} {p : Plan} {s d₀ : List ℕ} {from budget : ℕ} {d : Li
   }
 
   -- and what it leaves
-  its_bytes : (i j : ℕ) → i < b.rows → j < p.d3.extent → plan_bytes p (source_bytes o s d₀) c0 c1 (c2 + i) j ≡ band_bytes p (source_bytes o s d) u.row b.kept i j
+  its_bytes : (i j : ℕ) → i < b.rows → j < p.d3.extent → plan_bytes p (source_bytes o d₀) c0 c1 (c2 + i) j ≡ band_bytes p (source_bytes o d) u.row b.kept i j
   unfolding plan_bytes
   its_bytes i j hi hj =
-      sym (source_same o p s d₀ from (budget - left) c0 c1 (c2 + i) j (at_was_ready a r) a.most)
-      ∙ ap (λ (y : List ℕ). plan_bytes p (source_bytes o s y) c0 c1 (c2 + i) j) (sym a.bytes)
+      sym (source_same o p d₀ from (budget - left) c0 c1 (c2 + i) j (at_was_ready a r) a.most)
+      ∙ ap (λ (y : List ℕ). plan_bytes p (source_bytes o y) c0 c1 (c2 + i) j) (sym a.bytes)
       ∙ rw (its_kept i j hi) (pick_same (b.kept && axis_kept p.d3 j) (padding p.size p.pad) (λ t. rw (its_home i j hi t)))
 
   -- the spots behind it
@@ -173,8 +174,8 @@ module _ {o : Origin} {p : Plan} {s d₀ : List ℕ} {from budget : ℕ} {d : Li
     (reaches p r.reach).far2,
   )
 
-  pub band_turn : {d' : List ℕ} {v : Spots} → d' ≡ band_moved o p s d u.row b → v ≡ behind_rows u p.d2 (c2 + b.rows)
-      → At o p s d₀ from budget d' c0 c1 (c2 + b.rows) c3 (left - b.elements) v
+  pub band_turn : {d' : List ℕ} {v : Spots} → d' ≡ band_moved o p d u.row b → v ≡ behind_rows u p.d2 (c2 + b.rows)
+      → At o p d₀ from budget d' c0 c1 (c2 + b.rows) c3 (left - b.elements) v
   band_turn {d'} t g =
       let x = (c0 * p.d1.extent + c1) * p.d2.extent in
       let e = l.elements in
@@ -203,11 +204,11 @@ module _ {o : Origin} {p : Plan} {s d₀ : List ℕ} {from budget : ℕ} {d : Li
         most = omega (arith, r.axes.in3.some, r.axes.in3.within);
         bytes =
             t
-            ∙ sym (rows_moved p (source_bytes o s d₀) d (band_bytes p (source_bytes o s d) u.row b.kept) u.row.to c0 c1 c2 b.rows here its_within its_place its_bytes)
-            ∙ ap (λ (k : ℕ). moved_by p (source_bytes o s d₀) (from + (budget - left)) k d) (sym e)
-            ∙ ap (moved_by p (source_bytes o s d₀) (from + (budget - left)) b.elements) a.bytes
-            ∙ sym (moved_add p (source_bytes o s d₀) from (budget - left) b.elements d₀)
-            ∙ ap (λ (j : ℕ). moved_by p (source_bytes o s d₀) from j d₀) (sym m);
+            ∙ sym (rows_moved p (source_bytes o d₀) d (band_bytes p (source_bytes o d) u.row b.kept) u.row.to c0 c1 c2 b.rows here its_within its_place its_bytes)
+            ∙ ap (λ (k : ℕ). moved_by p (source_bytes o d₀) (from + (budget - left)) k d) (sym e)
+            ∙ ap (moved_by p (source_bytes o d₀) (from + (budget - left)) b.elements) a.bytes
+            ∙ sym (moved_add p (source_bytes o d₀) from (budget - left) b.elements d₀)
+            ∙ ap (λ (j : ℕ). moved_by p (source_bytes o d₀) from j d₀) (sym m);
         slab = a.slab;
         layer = a.layer;
         row = refl;

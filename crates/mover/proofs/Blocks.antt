@@ -10,7 +10,7 @@ use Rattle.mover.specs.Private.Adding.{along}
 use Rattle.mover.specs.Private.Runs.{element_copied, run_stored, kept_bytes, run_copied, Held, BytesApart, Blocked, Readable, Writable}
 use Rattle.mover.proofs.Places.{apart_part}
 use Rattle.plane.proofs.Bounds.{element_small}
-use Rattle.mover.proofs.Bytes.{copied_one, source_long, copy_more}
+use Rattle.mover.proofs.Bytes.{copied_one, short_source, copy_more}
 use Rattle.mover.proofs.Adding.{along_none, along_next, along_on, along_is}
 
 -- ---- places
@@ -131,26 +131,26 @@ pub jump_told : (c : Course) → c.jump ≡ c.size
     → c ≡ record { at = c.at; jump = c.size; to = c.to; stride = c.stride; size = c.size; pad = c.pad; n = c.n }
 jump_told c e = λ i. record { at = c.at; jump = e i; to = c.to; stride = c.stride; size = c.size; pad = c.pad; n = c.n }
 
-module _ (o : Origin) (s d : List ℕ) {c c' : Course} (e : c ≡ c') where
-  pub told_asks : Writable d c → Readable o s d c → Writable d c' × Readable o s d c'
-  told_asks w r = (subst (λ (y : Course). Writable d y) e w, subst (λ (y : Course). Readable o s d y) e r)
+module _ (o : Origin) (d : List ℕ) {c c' : Course} (e : c ≡ c') where
+  pub told_asks : Writable d c → Readable o d c → Writable d c' × Readable o d c'
+  told_asks w r = (subst (λ (y : Course). Writable d y) e w, subst (λ (y : Course). Readable o d y) e r)
 
-  pub told_copied : {x : ℕ} {d' : List ℕ} → x ≡ along c'.to c'.stride c'.n → d' ≡ run_copied o s d c'
-      → (x ≡ along c.to c.stride c.n) × (d' ≡ run_copied o s d c)
-  told_copied p q = (p ∙ ap (λ (y : Course). along y.to y.stride y.n) (sym e), q ∙ ap (λ (y : Course). run_copied o s d y) (sym e))
+  pub told_copied : {x : ℕ} {d' : List ℕ} → x ≡ along c'.to c'.stride c'.n → d' ≡ run_copied o d c'
+      → (x ≡ along c.to c.stride c.n) × (d' ≡ run_copied o d c)
+  told_copied p q = (p ∙ ap (λ (y : Course). along y.to y.stride y.n) (sym e), q ∙ ap (λ (y : Course). run_copied o d y) (sym e))
 
 -- ---- a run side by side, as a run of bytes
 
-pub record Block (o : Origin) (s d : List ℕ) (c : Course) : Type 0 where
+pub record Block (o : Origin) (d : List ℕ) (c : Course) : Type 0 where
   pub fits : c.n * c.size < 2 ^ 64
-  pub asks : Blocked o s d c.at c.to (c.n * c.size)
+  pub asks : Blocked o d c.at c.to (c.n * c.size)
   pub next : (c.to + c.n * c.size) % 2 ^ 64 ≡ along c.to c.stride c.n
-  pub copied : element_copied o s d c.at c.to (c.n * c.size) ≡ run_copied o s d c
+  pub copied : element_copied o d c.at c.to (c.n * c.size) ≡ run_copied o d c
 
 -- bytes none of which is another's
 ones_apart : (o : Origin) (l m a b n : ℕ) → a < 2 ^ 64 → b < 2 ^ 64 → l < 2 ^ 64 → m < 2 ^ 64 → Held l a 1 1 n → Held m b 1 1 n
     → ((i k : ℕ) → i < n → k < n → BytesApart o (along a 1 i) (along a 1 i + 1) (along b 1 k) (along b 1 k + 1)) → BytesApart o a (a + n) b (b + n)
-ones_apart Lent l m a b n fa fb fl fm ha hb p = tt
+ones_apart (Lent _) l m a b n fa fb fl fm ha hb p = tt
 ones_apart Inside l m a b n fa fb fl fm ha hb p = elim (dec_lt a b) [
   | yes x ↦ elim (dec_lt b (a + n)) [
     | yes y ↦
@@ -170,12 +170,12 @@ ones_apart Inside l m a b n fa fb fl fm ha hb p = elim (dec_lt a b) [
   ]
 ]
 
-sided_block : (o : Origin) (s d : List ℕ) (at to : ℕ) (pad : List ℕ) (z n : ℕ) → at < 2 ^ 64 → to < 2 ^ 64 → length s + length d < 2 ^ 64
-    → Writable d (sided at to pad z n) → Readable o s d (sided at to pad z n) → Block o s d (sided at to pad z n)
-sided_block o s d at to pad z n fa ft f w r =
+sided_block : (o : Origin) (d : List ℕ) (at to : ℕ) (pad : List ℕ) (z n : ℕ) → at < 2 ^ 64 → to < 2 ^ 64 → length d < 2 ^ 63
+    → Writable d (sided at to pad z n) → Readable o d (sided at to pad z n) → Block o d (sided at to pad z n)
+sided_block o d at to pad z n fa ft f w r =
     let p = (element_small z w.sized).0 in
-    let v = source_bytes o s d in
-    let long : length v < 2 ^ 64 = omega (arith, source_long o s d) in
+    let v = source_bytes o d in
+    let long : length v < 2 ^ 64 = omega (arith, short_source o d r.short f) in
     let room : length d < 2 ^ 64 = omega arith in
     let wh = bytes_held (length d) to z ft room n w.held p in
     let rh = bytes_held (length v) at z fa long n r.held p in
@@ -195,9 +195,9 @@ sided_block o s d at to pad z n fa ft f w r =
       copied = sym (whole v d at to pad long (length d) (n * z) fa ft room rh wh) ∙ bytes_run v d at to pad long (length d) z n room r.held w.held;
     }
 
-pub block : (o : Origin) (s d : List ℕ) (c : Course) → c.at < 2 ^ 64 → c.to < 2 ^ 64 → length s + length d < 2 ^ 64
-    → Writable d c → Readable o s d c → c.jump ≡ c.size → c.stride ≡ c.size → Block o s d c
-block o s d c fa ft f w r e g =
+pub block : (o : Origin) (d : List ℕ) (c : Course) → c.at < 2 ^ 64 → c.to < 2 ^ 64 → length d < 2 ^ 63
+    → Writable d c → Readable o d c → c.jump ≡ c.size → c.stride ≡ c.size → Block o d c
+block o d c fa ft f w r e g =
     let same : c ≡ sided c.at c.to c.pad c.size c.n = λ i. record { at = c.at; jump = e i; to = c.to; stride = g i; size = c.size; pad = c.pad; n = c.n } in
-    subst (λ (y : Course). Block o s d y) (sym same)
-    (sided_block o s d c.at c.to c.pad c.size c.n fa ft f (subst (λ (y : Course). Writable d y) same w) (subst (λ (y : Course). Readable o s d y) same r))
+    subst (λ (y : Course). Block o d y) (sym same)
+    (sided_block o d c.at c.to c.pad c.size c.n fa ft f (subst (λ (y : Course). Writable d y) same w) (subst (λ (y : Course). Readable o d y) same r))

@@ -124,11 +124,11 @@ module _ (p : Plan) (s : List ℕ) where
       ∙ moved_out g from n d k (omega arith) h
 
 -- while elements are written, the source's are as they were
-pub source_same : (o : Origin) (p : Plan) (s d : List ℕ) (from n c0 c1 c2 c3 : ℕ) → Ready o p s d → from + n ≤ plan_total p
-    → plan_bytes p (source_bytes o s (moved_by p (source_bytes o s d) from n d)) c0 c1 c2 c3 ≡ plan_bytes p (source_bytes o s d) c0 c1 c2 c3
+pub source_same : (o : Origin) (p : Plan) (d : List ℕ) (from n c0 c1 c2 c3 : ℕ) → Ready o p d → from + n ≤ plan_total p
+    → plan_bytes p (source_bytes o (moved_by p (source_bytes o d) from n d)) c0 c1 c2 c3 ≡ plan_bytes p (source_bytes o d) c0 c1 c2 c3
 unfolding plan_bytes
-source_same Lent p s d from n c0 c1 c2 c3 r m = refl
-source_same Inside p s d from n c0 c1 c2 c3 r m =
+source_same (Lent s) p d from n c0 c1 c2 c3 r m = refl
+source_same Inside p d from n c0 c1 c2 c3 r m =
     pick_same (plan_kept p c0 c1 c2 c3) (padding p.size p.pad)
     (λ t.
     bytes_same (moved_by p d from n d) d (home_of p c0 c1 c2 c3) p.size (length_moved p d from n d)

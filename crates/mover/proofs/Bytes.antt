@@ -1,10 +1,10 @@
 -- Laws of bytes stored at a place, `sets`, and of an element's. Assumes nothing.
-use Rattle.std.proofs.Common.{◌≡◌, ℕ, zero, suc, ◌+◌, ◌<◌, ◌≤◌, Bool, true, false, cond, ◌⊎◌, List, [], ◌∷◌, ◌++◌, length, get_or, take, drop, set, sym, refl, ◌∙◌, inl, inr, ⊎_elim, le_of_suc-le-suc, not-suc-le-zero, add-zero, add-suc, suc-add, add-one, arith, length-drop, length-set, length-take, length-take-le, get_or-drop, get_or-set_other, get_or-take, take-suc, get_or-set_same, ext_get_or}
+use Rattle.std.proofs.Common.{◌≡◌, ℕ, zero, suc, ◌+◌, ◌^◌, ◌<◌, ◌≤◌, Bool, true, false, cond, ◌⊎◌, List, [], ◌∷◌, ◌++◌, length, get_or, take, drop, set, sym, refl, ◌∙◌, inl, inr, ⊎_elim, le_of_suc-le-suc, not-suc-le-zero, add-zero, add-suc, suc-add, add-one, arith, length-drop, length-set, length-take, length-take-le, get_or-drop, get_or-set_other, get_or-take, take-suc, get_or-set_same, ext_get_or}
 use native.Mathlib.Nat.{min-le_left}
 use lib.Seq.{sets}
 use Rattle.mover.specs.declared.elements.Origin.{Origin}
 use Rattle.mover.specs.declared.elements.Origin.TheVariants.{Lent, Inside}
-use Rattle.mover.specs.Private.Elements.{source_bytes}
+use Rattle.mover.specs.Private.Elements.{source_bytes, Short}
 
 -- what is stored elsewhere leaves a byte as it was
 pub get_d_sets_out : (vs l : List ℕ) (i k : ℕ) → (k < i) ⊎ (i + length vs ≤ k) → get_or (sets l i vs) k 0 ≡ get_or l k 0
@@ -53,10 +53,10 @@ module _ (d s : List ℕ) (at to : ℕ) where
 pub length_take_most : (i : ℕ) (l : List ℕ) → length (take i l) ≤ i
 length_take_most i l = rw length-take (min-le_left i (length l))
 
--- either source is as long as one of the two lists
-pub source_long : (o : Origin) (s d : List ℕ) → length (source_bytes o s d) ≤ length s + length d
-source_long Lent s d = omega arith
-source_long Inside s d = omega arith
+-- source and destination together have fewer bytes than a number of 64 bits counts
+pub short_source : (o : Origin) (d : List ℕ) → Short o → length d < 2 ^ 63 → length (source_bytes o d) + length d < 2 ^ 64
+short_source (Lent s) d h k = omega arith
+short_source Inside d h k = omega arith
 
 pub length_cond : (b : Bool) (z : ℕ) (l m : List ℕ) → length m ≤ z → length (cond b (take z l) m) ≤ z
 length_cond true z l m h = length_take_most z l

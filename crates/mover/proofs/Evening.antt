@@ -38,13 +38,13 @@ twos_on a = refl
 
 -- ---- the loop: k elements are stored, of the n that go 16 at a time; the next stands at `at` and goes to `to`
 
-pub record Evened (o : Origin) (s d₀ : List ℕ) (c : Course) (n : ℕ) (d : List ℕ) (at to k : ℕ) : Type 0 where
-  pub stored : Done (kept_bytes (source_bytes o s d₀) c) c.to c.stride n d₀ d to k
+pub record Evened (o : Origin) (d₀ : List ℕ) (c : Course) (n : ℕ) (d : List ℕ) (at to k : ℕ) : Type 0 where
+  pub stored : Done (kept_bytes (source_bytes o d₀) c) c.to c.stride n d₀ d to k
   pub home : at ≡ along c.at c.jump k
 
-pub evened_start : (o : Origin) (s d : List ℕ) (c : Course) (n : ℕ) → c.at < 2 ^ 64 → c.to < 2 ^ 64 → Evened o s d c n d c.at c.to 0
-evened_start o s d c n fa ft = record {
-  stored = done_start (kept_bytes (source_bytes o s d) c) c.to c.stride n d ft;
+pub evened_start : (o : Origin) (d : List ℕ) (c : Course) (n : ℕ) → c.at < 2 ^ 64 → c.to < 2 ^ 64 → Evened o d c n d c.at c.to 0
+evened_start o d c n fa ft = record {
+  stored = done_start (kept_bytes (source_bytes o d) c) c.to c.stride n d ft;
   home = sym (along_none c.at c.jump fa);
 }
 
@@ -65,16 +65,16 @@ rest_is {c} e at to k =
 as_ones : (e : ℕ → List ℕ) {to to' t : ℕ} {d d' : List ℕ} → t ≡ 1 → to ≡ to' → d ≡ d' → run_stored e to t 16 d ≡ run_stored e to' 1 16 d'
 as_ones e a b c = rw (a, b, c)
 
-module _ {o : Origin} {s d₀ : List ℕ} {c : Course} {n : ℕ} {d : List ℕ} {at to k : ℕ} (a : Evened o s d₀ c n d at to k)
-    (w : Writable d₀ c) (r : Readable o s d₀ c) (m : n ≤ c.n) (e : Evens c) where
+module _ {o : Origin} {d₀ : List ℕ} {c : Course} {n : ℕ} {d : List ℕ} {at to k : ℕ} (a : Evened o d₀ c n d at to k)
+    (w : Writable d₀ c) (r : Readable o d₀ c) (m : n ≤ c.n) (e : Evens c) where
   evened_length : length d ≡ length d₀
   evened_length = done_length a.stored
 
   -- what is read is as it was
-  same : (j : ℕ) → j < c.n → kept_bytes (source_bytes o s d) c j ≡ kept_bytes (source_bytes o s d₀) c j
+  same : (j : ℕ) → j < c.n → kept_bytes (source_bytes o d) c j ≡ kept_bytes (source_bytes o d₀) c j
   same j l =
-      ap (λ (x : List ℕ). kept_bytes (source_bytes o s x) c j) a.stored.bytes
-      ∙ keeps_any o s d₀ (source_bytes o s d₀) c k j r.parted (omega (arith, a.stored.within)) l
+      ap (λ (x : List ℕ). kept_bytes (source_bytes o x) c j) a.stored.bytes
+      ∙ keeps_any o d₀ (source_bytes o d₀) c k j r.parted (omega (arith, a.stored.within)) l
 
   place_on : (i : ℕ) → along to c.stride i ≡ along c.to c.stride (k + i)
   place_on i = ap (λ (y : ℕ). along y c.stride i) a.stored.place ∙ along_on c.to c.stride k i
@@ -84,37 +84,38 @@ module _ {o : Origin} {s d₀ : List ℕ} {c : Course} {n : ℕ} {d : List ℕ} 
 
   -- ---- what is left
 
-  left_asks : Writable d (rest_of c at to k) × Readable o s d (rest_of c at to k)
+  left_asks : Writable d (rest_of c at to k) × Readable o d (rest_of c at to k)
   left_asks = (
     record { sized = w.sized; held = λ i l. rw (place_on i, evened_length) (w.held (k + i) (omega arith)) },
     record {
-      held = λ i l. rw (home_on i) (still_held o s d₀ d evened_length (r.held (k + i) (omega arith)));
+      short = r.short;
+      held = λ i l. rw (home_on i) (still_held o d₀ d evened_length (r.held (k + i) (omega arith)));
       parted = λ i j l g. rw (home_on i, place_on j) (r.parted (k + i) (k + j) (omega arith) (omega arith));
     },
   )
 
-  pub evened_asks : Writable d (evens_left c at to k) × Readable o s d (evens_left c at to k)
-  evened_asks = subst (λ (y : Course). Writable d y × Readable o s d y) (rest_is e at to k) left_asks
+  pub evened_asks : Writable d (evens_left c at to k) × Readable o d (evens_left c at to k)
+  evened_asks = subst (λ (y : Course). Writable d y × Readable o d y) (rest_is e at to k) left_asks
 
-  left_copied : run_copied o s d (rest_of c at to k) ≡ run_copied o s d₀ c
+  left_copied : run_copied o d (rest_of c at to k) ≡ run_copied o d₀ c
   left_copied =
-      let v = source_bytes o s d₀ in
+      let v = source_bytes o d₀ in
       let z : k + (c.n - k) ≡ c.n = omega (arith, a.stored.within) in
-      run_same (kept_bytes (source_bytes o s d) (rest_of c at to k)) (λ i. kept_bytes v c (k + i)) to c.stride (c.n - k) d
+      run_same (kept_bytes (source_bytes o d) (rest_of c at to k)) (λ i. kept_bytes v c (k + i)) to c.stride (c.n - k) d
       (λ i l. rw (home_on i) (same (k + i) (omega arith)))
       ∙ rw (a.stored.place, a.stored.bytes) (sym (run_add (kept_bytes v c) c.to c.stride k (c.n - k) d₀) ∙ ap (λ (y : ℕ). run_stored (kept_bytes v c) c.to c.stride y d₀) z)
 
-  pub evened_end : {x : ℕ} {d' : List ℕ} → x ≡ along to 1 (c.n - k) → d' ≡ run_copied o s d (evens_left c at to k)
-      → (x ≡ along c.to c.stride c.n) × (d' ≡ run_copied o s d₀ c)
+  pub evened_end : {x : ℕ} {d' : List ℕ} → x ≡ along to 1 (c.n - k) → d' ≡ run_copied o d (evens_left c at to k)
+      → (x ≡ along c.to c.stride c.n) × (d' ≡ run_copied o d₀ c)
   evened_end p q =
       let z : k + (c.n - k) ≡ c.n = omega (arith, a.stored.within) in (
         p ∙ ap (λ (y : ℕ). along to y (c.n - k)) (sym e.stride) ∙ place_on (c.n - k) ∙ ap (along c.to c.stride) z,
-        q ∙ ap (λ (y : Course). run_copied o s d y) (sym (rest_is e at to k)) ∙ left_copied,
+        q ∙ ap (λ (y : Course). run_copied o d y) (sym (rest_is e at to k)) ∙ left_copied,
       )
 
   -- ---- 16 more
 
-  module _ (p : 0 < n → c.at + n + n ≤ length (source_bytes o s d₀)) (fs : length (source_bytes o s d₀) < 2 ^ 64) (fd : length d₀ < 2 ^ 64) (h : k + 16 ≤ n) where
+  module _ (p : 0 < n → c.at + n + n ≤ length (source_bytes o d₀)) (fs : length (source_bytes o d₀) < 2 ^ 64) (fd : length d₀ < 2 ^ 64) (h : k + 16 ≤ n) where
     plain_home : (j : ℕ) → j < n → along c.at c.jump j ≡ c.at + 2 * j
     unfolding along
     plain_home j l = rw e.jump (mod-eq_of_lt (omega (arith, p (omega arith))) ∙ omega arith)
@@ -122,8 +123,8 @@ module _ {o : Origin} {s d₀ : List ℕ} {c : Course} {n : ℕ} {d : List ℕ} 
     home_at : (i : ℕ) → i < 16 → along c.at c.jump (k + i) ≡ at + 2 * i
     home_at i l = plain_home (k + i) (omega arith) ∙ omega (arith, a.home, plain_home k (omega arith))
 
-    pub evened_reads : at + 32 ≤ length (source_bytes o s d)
-    evened_reads = still_held o s d₀ d evened_length (omega (arith, p (omega arith), a.home, plain_home k (omega arith)))
+    pub evened_reads : at + 32 ≤ length (source_bytes o d)
+    evened_reads = still_held o d₀ d evened_length (omega (arith, p (omega arith), a.home, plain_home k (omega arith)))
 
     to_low : to < 2 ^ 64
     to_low = rw a.stored.place (along_fits c.to c.stride k)
@@ -134,8 +135,8 @@ module _ {o : Origin} {s d₀ : List ℕ} {c : Course} {n : ℕ} {d : List ℕ} 
     pub evened_writes : to + 16 ≤ length d
     evened_writes = rw evened_length (ones_lie (length d₀) to 16 to_low fd written (omega arith))
 
-    pub evened_more : {d' : List ℕ} {at' to' : ℕ} → d' ≡ sets d to (made 16 (λ i. get_or (source_bytes o s d) (at + 2 * i) 0))
-        → at' ≡ (at + 32) % 2 ^ 64 → to' ≡ (to + 16) % 2 ^ 64 → Evened o s d₀ c n d' at' to' (k + 16)
+    pub evened_more : {d' : List ℕ} {at' to' : ℕ} → d' ≡ sets d to (made 16 (λ i. get_or (source_bytes o d) (at + 2 * i) 0))
+        → at' ≡ (at + 32) % 2 ^ 64 → to' ≡ (to + 16) % 2 ^ 64 → Evened o d₀ c n d' at' to' (k + 16)
     evened_more x xa xt = record {
       stored = record {
         within = h;
@@ -145,10 +146,10 @@ module _ {o : Origin} {s d₀ : List ℕ} {c : Course} {n : ℕ} {d : List ℕ} 
       home = xa ∙ twos_on at ∙ ap (λ (y : ℕ). along at y 16) (sym e.jump) ∙ home_on 16;
     }
       where
-        all : run_stored (kept_bytes (source_bytes o s d₀) c) c.to c.stride (k + 16) d₀ ≡ sets d to (made 16 (λ i. get_or (source_bytes o s d) (at + 2 * i) 0))
+        all : run_stored (kept_bytes (source_bytes o d₀) c) c.to c.stride (k + 16) d₀ ≡ sets d to (made 16 (λ i. get_or (source_bytes o d) (at + 2 * i) 0))
         all =
-            run_add (kept_bytes (source_bytes o s d₀) c) c.to c.stride k 16 d₀
-            ∙ as_ones (λ i. kept_bytes (source_bytes o s d₀) c (k + i)) e.stride (sym a.stored.place) (sym a.stored.bytes)
-            ∙ run_same (λ i. kept_bytes (source_bytes o s d₀) c (k + i)) (λ i. get_or (source_bytes o s d) (at + 2 * i) 0 ∷ []) to 1 16 d
-            (λ i l. sym (same (k + i) (omega arith)) ∙ rw (e.size, home_at i l) (one_byte (source_bytes o s d) (at + 2 * i) (omega (arith, evened_reads))))
-            ∙ dense (λ i. get_or (source_bytes o s d) (at + 2 * i) 0) to 16 d (λ i l. plain (length d₀) to 1 to_low fd 16 written i l ∙ rw (mul-one i))
+            run_add (kept_bytes (source_bytes o d₀) c) c.to c.stride k 16 d₀
+            ∙ as_ones (λ i. kept_bytes (source_bytes o d₀) c (k + i)) e.stride (sym a.stored.place) (sym a.stored.bytes)
+            ∙ run_same (λ i. kept_bytes (source_bytes o d₀) c (k + i)) (λ i. get_or (source_bytes o d) (at + 2 * i) 0 ∷ []) to 1 16 d
+            (λ i l. sym (same (k + i) (omega arith)) ∙ rw (e.size, home_at i l) (one_byte (source_bytes o d) (at + 2 * i) (omega (arith, evened_reads))))
+            ∙ dense (λ i. get_or (source_bytes o d) (at + 2 * i) 0) to 16 d (λ i l. plain (length d₀) to 1 to_low fd 16 written i l ∙ rw (mul-one i))

@@ -385,11 +385,11 @@ module _ {p : Plan} {a b c d : Axis} (k : Foldable p) (f : Folds p (with_axes p 
 -- ---- for who folds
 
 -- a plan that is ready can be folded
-pub ready_foldable : {o : Origin} {p : Plan} {s d : List ℕ} → Ready o p s d → Foldable p
+pub ready_foldable : {o : Origin} {p : Plan} {d : List ℕ} → Ready o p d → Foldable p
 ready_foldable r = record { axes = r.axes; few = r.few }
 
 -- what is kept of the folded plan is kept of the plan, and its source element is the same
-folded_home : {o : Origin} {p r : Plan} {s d : List ℕ} → Folds p r → Ready o p s d → (c0 c1 c2 c3 : ℕ) → plan_kept r c0 c1 c2 c3 ≡ true
+folded_home : {o : Origin} {p r : Plan} {d : List ℕ} → Folds p r → Ready o p d → (c0 c1 c2 c3 : ℕ) → plan_kept r c0 c1 c2 c3 ≡ true
     → let q = number_of r c0 c1 c2 c3 in (plan_kept p (co0 p q) (co1 p q) (co2 p q) (co3 p q) ≡ true) × (home_of r c0 c1 c2 c3 ≡ home_of p (co0 p q) (co1 p q) (co2 p q) (co3 p q))
 unfolding kept_by home_by
 folded_home {o} {p} {r} f w c0 c1 c2 c3 k =
@@ -405,11 +405,12 @@ apart_same : (o : Origin) {a a' z z' b b' e e' : ℕ} → a ≡ a' → z ≡ z' 
 apart_same o p q r s h = rw (p, q, r, s) h
 
 -- and so folded it is ready too
-pub folds_ready : {o : Origin} {p r : Plan} {s d : List ℕ} → Folds p r → Ready o p s d → Ready o r s d
+pub folds_ready : {o : Origin} {p r : Plan} {d : List ℕ} → Folds p r → Ready o p d → Ready o r d
 folds_ready {o} {p} {r} f w =
     let e = f.total in
     let z = f.size in
     record {
+      short = w.short;
       sized = rw z w.sized;
       axes = f.axes;
       few = rw e w.few;
@@ -443,9 +444,9 @@ folds_moved {p} f s from (suc n) d h =
     rw (folds_moved f s from n d (omega arith), f.place (from + n) l, folds_bytes f s (from + n) l)
 
 -- what a stretch of the folded plan leaves is what the same stretch of the plan does
-pub folds_written : (o : Origin) {p r : Plan} (f : Folds p r) (s d : List ℕ) (from budget : ℕ) {n : ℕ} {e : List ℕ} → from < plan_total p
-    → n ≡ min budget (plan_total r - from) → e ≡ moved_from o r s d from n
-    → (n ≡ min budget (plan_total p - from)) × (e ≡ moved_from o p s d from n)
-folds_written o {p} {r} f s d from budget {n} l h w =
+pub folds_written : (o : Origin) {p r : Plan} (f : Folds p r) (d : List ℕ) (from budget : ℕ) {n : ℕ} {e : List ℕ} → from < plan_total p
+    → n ≡ min budget (plan_total r - from) → e ≡ moved_from o r d from n
+    → (n ≡ min budget (plan_total p - from)) × (e ≡ moved_from o p d from n)
+folds_written o {p} {r} f d from budget {n} l h w =
     let k : n ≡ min budget (plan_total p - from) = h ∙ ap (λ (m : ℕ). min budget (m - from)) f.total in
-    (k, w ∙ folds_moved f (source_bytes o s d) from n d (omega (arith, min-le_right budget (plan_total p - from))))
+    (k, w ∙ folds_moved f (source_bytes o d) from n d (omega (arith, min-le_right budget (plan_total p - from))))

@@ -1,6 +1,6 @@
 -- From what the code's checks answer, in their order, to the definitions: a whole move, the answer of a job, its verdict, and an
 -- advance. Assumes nothing.
-use Rattle.std.proofs.Common.{◌≡◌, ℕ, Result, Ok, Err, ◌+◌, ◌-◌, ◌<◌, ◌≤◌, min, Bool, true, false, List, length, drop, refl, sym, ap, ◌∙◌, subst, ap₂, arith, length-drop, length-take-le}
+use Rattle.std.proofs.Common.{◌≡◌, ℕ, Result, Ok, Err, ◌+◌, ◌-◌, ◌^◌, ◌<◌, ◌≤◌, min, Bool, true, false, List, length, drop, refl, sym, ap, ◌∙◌, subst, ap₂, arith, length-drop, length-take-le}
 use lib.Seq.{sets}
 use Rattle.plane.specs.declared.Tensor.{Tensor}
 use Rattle.plane.specs.declared.Config.{Config}
@@ -26,7 +26,7 @@ use Rattle.mover.specs.declared.elements.Origin.TheVariants.{Lent}
 use Rattle.mover.specs.Moved.{total, move_memory}
 use Rattle.mover.specs.Within.{leaves, off_boundary, off_boundaries, meets, job_rules, job_fault, total_of, verdict_of, advanced_by, further, advance_of, advance_memory}
 use Rattle.mover.specs.Private.Plans.{plan_of}
-use Rattle.mover.specs.Private.Elements.{plan_total, moved_by}
+use Rattle.mover.specs.Private.Elements.{lent, plan_total, moved_by}
 use Rattle.mover.specs.Private.Ready.{Ready}
 use Rattle.mover.proofs.Laws.{judged, moved_whole, moved_none, put_back, source_fits, destination_fits, job_good, total_positive}
 use Rattle.mover.proofs.Parts.{bytes_at}
@@ -96,9 +96,9 @@ unfolding total
 total_is t c e p = p ∙ ap (λ (x : Answer). product x.rank (at x.extent)) e
 
 module _ (t : Tensor) (c : Config) (src dst : List ℕ) (g : GoodMove t c (length src) (length dst)) {plan : Plan} (ep : plan ≡ plan_of t c) where
-  pub move_ready : Ready Lent plan src dst
-  move_ready =
-      subst (λ (p : Plan). Ready Lent p src dst) (sym ep) (planned_ready c g.source g.config g.destination src dst g.long g.room)
+  pub move_ready : (at : ℕ × ℕ) → length src < 2 ^ 63 → Ready (Lent (record { ref_ptr = at; now = src })) plan dst
+  move_ready at few =
+      subst (λ (p : Plan). Ready (Lent (record { ref_ptr = at; now = src })) p dst) (sym ep) (planned_ready c g.source g.config g.destination at src dst few g.long g.room)
 
   pub move_some : 0 < plan_total plan
   move_some = rw (ep, planned_total c g.source) (total_positive t c g.source g.config)
@@ -281,13 +281,14 @@ module _ (j : Job) (from budget : ℕ) (m : List ℕ) where
       all_is = ap plan_total ep ∙ planned_total j.config (job_good (length m) j is_clear).source
 
       -- what the engine asks
-      pub advance_ready : Ready Lent plan (bytes_of j.source m) (bytes_of j.destination m)
-      advance_ready =
+      pub advance_ready : length m < 2 ^ 63 → Ready (lent (bytes_of j.source m)) plan (bytes_of j.destination m)
+      advance_ready few =
           let g = job_good (length m) j is_clear in
           let s = part_length m j.source.start j.source.length (source_fits (length m) j is_clear) in
           let d = part_length m j.destination.start j.destination.length (destination_fits (length m) j is_clear) in
-          subst (λ (p : Plan). Ready Lent p (bytes_of j.source m) (bytes_of j.destination m)) (sym ep)
-          (planned_ready j.config g.source g.config g.destination (bytes_of j.source m) (bytes_of j.destination m) (omega (arith, g.long)) (omega (arith, g.room)))
+          subst (λ (p : Plan). Ready (lent (bytes_of j.source m)) p (bytes_of j.destination m)) (sym ep)
+          (planned_ready j.config g.source g.config g.destination (0, 0) (bytes_of j.source m) (bytes_of j.destination m)
+          (omega (arith, source_fits (length m) j is_clear)) (omega (arith, g.long)) (omega (arith, g.room)))
 
       pub advance_from : {all : ℕ} → all ≡ total_of j → from < all → from < plan_total plan
       advance_from p l = let q = all_is in omega arith

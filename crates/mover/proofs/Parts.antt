@@ -6,7 +6,7 @@ use Rattle.mover.specs.declared.elements.Origin.TheVariants.{Lent, Inside}
 use lib.Seq.{sets-eq, set_comm, take-append_seam, sets, length-sets, set-append_left}
 use Rattle.mover.specs.declared.plan.Axis.{Axis}
 use Rattle.mover.specs.declared.plan.Plan.{Plan}
-use Rattle.mover.specs.Private.Elements.{axis_kept, plan_kept, summed, place_of, home_of, padding, plan_bytes, put_at, co0, co1, co2, co3, put_number, plan_total, moved_by}
+use Rattle.mover.specs.Private.Elements.{lent, axis_kept, plan_kept, summed, place_of, home_of, padding, plan_bytes, put_at, co0, co1, co2, co3, put_number, plan_total, moved_by}
 use Rattle.mover.specs.Private.Runs.{BytesApart}
 use Rattle.mover.specs.Private.Ready.{reach_of, place_end, placed_at, GoodAxis, GoodAxes, InExtents, place_by, Rising, Ready}
 use Rattle.mover.proofs.Bytes.{length_take_most, get_d_sets_out, pick_same, bytes_same}
@@ -105,7 +105,7 @@ module _ (p : Plan) (a b : ℕ) where
   placed_reach = refl
 
   -- of a move that is ready between two parts
-  reads : (m e : List ℕ) (l : ℕ) → a + l ≤ length m → length m < 2 ^ 64 → Ready Lent p (bytes_at m a l) e → Reads l
+  reads : (m e : List ℕ) (l : ℕ) → a + l ≤ length m → length m < 2 ^ 64 → Ready (lent (bytes_at m a l)) p e → Reads l
   reads m e l w f r = record {
     fits = omega arith;
     each = λ c0 c1 c2 c3 k. omega (arith, r.span c0 c1 c2 c3 k, length_take_most l (drop a m));
@@ -132,16 +132,17 @@ module _ (p : Plan) (a b : ℕ) where
       omega (arith, h q r l (omega arith))
 
   -- what a move between the parts asks, and that they are apart, is what the move within the memory asks
-  pub placed_ready : (m none : List ℕ) (l k : ℕ) → a + l ≤ length m → b + k ≤ length m → length m < 2 ^ 64 → BytesApart Inside a (a + l) b (b + k)
-      → Ready Lent p (bytes_at m a l) (bytes_at m b k) → Ready Inside (placed_at a b p) none m
+  pub placed_ready : (m : List ℕ) (l k : ℕ) → a + l ≤ length m → b + k ≤ length m → length m < 2 ^ 64 → BytesApart Inside a (a + l) b (b + k)
+      → Ready (lent (bytes_at m a l)) p (bytes_at m b k) → Ready Inside (placed_at a b p) m
   unfolding placed_at plan_kept
-  placed_ready m none l k wa wb f64 u r =
+  placed_ready m l k wa wb f64 u r =
       let g = reads m (bytes_at m b k) l wa f64 r in
       let f = length_take_most k (drop b m) in
       let y = r.need in
       let home : (c0 c1 c2 c3 : ℕ) → plan_kept p c0 c1 c2 c3 ≡ true → (home_of (placed_at a b p) c0 c1 c2 c3 ≡ a + home_of p c0 c1 c2 c3) × (home_of p c0 c1 c2 c3 + p.size ≤ l) = λ c0 c1 c2 c3 t.
       let h = g.each c0 c1 c2 c3 t in (placed_home c0 c1 c2 c3 (omega (arith, g.fits)), h) in
       record {
+        short = tt;
         sized = r.sized;
         axes = record { in0 = r.axes.in0; in1 = r.axes.in1; in2 = r.axes.in2; in3 = r.axes.in3 };
         few = rw placed_total r.few;
@@ -166,7 +167,7 @@ module _ (p : Plan) (a b : ℕ) where
   unfolding home_of summed
   first_home h = simp (sub_self, zero-mul) (omega arith)
 
-  pub placed_fits : (m : List ℕ) (l k : ℕ) → a + l ≤ length m → b + k ≤ length m → p.home < 2 ^ 64 → Ready Lent p (bytes_at m a l) (bytes_at m b k)
+  pub placed_fits : (m : List ℕ) (l k : ℕ) → a + l ≤ length m → b + k ≤ length m → p.home < 2 ^ 64 → Ready (lent (bytes_at m a l)) p (bytes_at m b k)
       → (a + p.home ≤ length m) × (b + p.base ≤ length m)
   unfolding place_end summed
   placed_fits m l k wa wb f r =
@@ -175,7 +176,7 @@ module _ (p : Plan) (a b : ℕ) where
       (omega (arith, length_take_most l (drop a m)), omega (arith, length_take_most k (drop b m)))
 
   -- what the engine leaves of the memory is what the move between the parts leaves of the destination part
-  pub placed_written : (m e : List ℕ) (l k from budget r : ℕ) → a + l ≤ length m → b + k ≤ length m → length m < 2 ^ 64 → Ready Lent p (bytes_at m a l) (bytes_at m b k) → from < plan_total p
+  pub placed_written : (m e : List ℕ) (l k from budget r : ℕ) → a + l ≤ length m → b + k ≤ length m → length m < 2 ^ 64 → Ready (lent (bytes_at m a l)) p (bytes_at m b k) → from < plan_total p
       → r ≡ min budget (plan_total p - from) → e ≡ moved_by (placed_at a b p) m from r m
       → e ≡ sets m b (moved_by p (bytes_at m a l) from r (bytes_at m b k))
   placed_written m e l k from budget r wa wb f64 g f n w =

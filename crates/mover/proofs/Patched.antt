@@ -29,8 +29,9 @@ swap_fits {d} {p} w = record {
   off = λ i j k l hi hk hj hl ne. rw (swap_place p i j, swap_place p k l) (w.off j i l k hj hl hi hk (λ e. ne (e.1, e.0)));
 }
 
-pub swap_reads : {o : Origin} {s d : List ℕ} {p : Patch} → PatchReads o s d p → PatchReads o s d (swapped_of p)
-swap_reads {o} {s} {d} {p} r = record {
+pub swap_reads : {o : Origin} {d : List ℕ} {p : Patch} → PatchReads o d p → PatchReads o d (swapped_of p)
+swap_reads {o} {d} {p} r = record {
+  short = r.short;
   held = λ i j hi hj. rw (swap_home p i j) (r.held j i hj hi);
   parted = λ i j k l hi hj hk hl. rw (swap_home p i j, swap_place p k l) (r.parted j i l k hj hi hl hk);
 }
@@ -45,11 +46,11 @@ swap_stored {d} {p} e short w =
     let y = short k l in
     ⊎_elim (λ m. inl (omega arith)) (λ m. inr (omega arith)) (w.off i j k l hi hk hj hl ne)))
 
-pub swap_copied : (o : Origin) (s : List ℕ) {d : List ℕ} {p : Patch} → PatchFits d p → patch_copied o s d (swapped_of p) ≡ patch_copied o s d p
-swap_copied o s {d} {p} w =
-    rows_same (patch_bytes (source_bytes o s d) (swapped_of p)) (λ j i. patch_bytes (source_bytes o s d) p i j) p.to p.stride p.row_stride p.rows p.columns d
+pub swap_copied : (o : Origin) {d : List ℕ} {p : Patch} → PatchFits d p → patch_copied o d (swapped_of p) ≡ patch_copied o d p
+swap_copied o {d} {p} w =
+    rows_same (patch_bytes (source_bytes o d) (swapped_of p)) (λ j i. patch_bytes (source_bytes o d) p i j) p.to p.stride p.row_stride p.rows p.columns d
     (λ i j hi hj. rw (swap_home p i j))
-    ∙ swap_stored (patch_bytes (source_bytes o s d) p) (λ i j. length_take_most p.size _) w
+    ∙ swap_stored (patch_bytes (source_bytes o d) p) (λ i j. length_take_most p.size _) w
 
 pub swap_padded : {d : List ℕ} {p : Patch} → PatchFits d p → patch_padded d (swapped_of p) ≡ patch_padded d p
 swap_padded {d} {p} w = swap_stored (λ i j. padding p.size p.pad) (λ i j. length_take_most p.size _) w
@@ -86,11 +87,11 @@ module _ {d₀ : List ℕ} {p : Patch} {d : List ℕ} {to k : ℕ} (a : Padded d
 -- ---- kept elements: k rows are stored; the next one stands at `at` and goes to `to`
 
 -- while rows are stored, what is still to be read is as it was
-rows_keep : (o : Origin) (s d v : List ℕ) (p : Patch) (k i j : ℕ) → PatchReads o s d p → k ≤ p.rows → i < p.rows → j < p.columns
-    → patch_bytes (source_bytes o s (rows_stored (patch_bytes v p) p.to p.row_stride p.stride p.columns k d)) p i j
-    ≡ patch_bytes (source_bytes o s d) p i j
-rows_keep Lent s d v p k i j r w hi hj = refl
-rows_keep Inside s d v p k i j r w hi hj =
+rows_keep : (o : Origin) (d v : List ℕ) (p : Patch) (k i j : ℕ) → PatchReads o d p → k ≤ p.rows → i < p.rows → j < p.columns
+    → patch_bytes (source_bytes o (rows_stored (patch_bytes v p) p.to p.row_stride p.stride p.columns k d)) p i j
+    ≡ patch_bytes (source_bytes o d) p i j
+rows_keep (Lent s) d v p k i j r w hi hj = refl
+rows_keep Inside d v p k i j r w hi hj =
     bytes_same (rows_stored (patch_bytes v p) p.to p.row_stride p.stride p.columns k d) d (patch_home p i j) p.size
     (length_rows (patch_bytes v p) p.to p.row_stride p.stride p.columns k d)
     (λ x l g.
@@ -99,15 +100,15 @@ rows_keep Inside s d v p k i j r w hi hj =
     let z = length_take_most p.size (drop (patch_home p m n) v) in
     ⊎_elim (λ a. inl (omega arith)) (λ a. inr (omega arith)) (r.parted i j m n hi hj (omega arith) t)))
 
-pub record Rowed (o : Origin) (s d₀ : List ℕ) (p : Patch) (d : List ℕ) (at to k : ℕ) : Type 0 where
+pub record Rowed (o : Origin) (d₀ : List ℕ) (p : Patch) (d : List ℕ) (at to k : ℕ) : Type 0 where
   pub within : k ≤ p.rows
   pub home : at ≡ along p.at p.row_jump k
   pub place : to ≡ along p.to p.row_stride k
-  pub bytes : d ≡ rows_stored (patch_bytes (source_bytes o s d₀) p) p.to p.row_stride p.stride p.columns k d₀
+  pub bytes : d ≡ rows_stored (patch_bytes (source_bytes o d₀) p) p.to p.row_stride p.stride p.columns k d₀
 
-pub rows_start : (o : Origin) (s d : List ℕ) (p : Patch) → p.at < 2 ^ 64 → p.to < 2 ^ 64 → Rowed o s d p d p.at p.to 0
+pub rows_start : (o : Origin) (d : List ℕ) (p : Patch) → p.at < 2 ^ 64 → p.to < 2 ^ 64 → Rowed o d p d p.at p.to 0
 unfolding rows_stored
-rows_start o s d p fa ft = record {
+rows_start o d p fa ft = record {
   within = omega arith;
   home = sym (along_none p.at p.row_jump fa);
   place = sym (along_none p.to p.row_stride ft);
@@ -129,9 +130,9 @@ some_rows p at to n = record {
   stride = p.stride;
 }
 
-module _ {o : Origin} {s d₀ : List ℕ} {p : Patch} {d : List ℕ} {at to k : ℕ} (a : Rowed o s d₀ p d at to k) (w : PatchFits d₀ p) (r : PatchReads o s d₀ p) where
+module _ {o : Origin} {d₀ : List ℕ} {p : Patch} {d : List ℕ} {at to k : ℕ} (a : Rowed o d₀ p d at to k) (w : PatchFits d₀ p) (r : PatchReads o d₀ p) where
   pub rows_length : length d ≡ length d₀
-  rows_length = ap length a.bytes ∙ length_rows (patch_bytes (source_bytes o s d₀) p) p.to p.row_stride p.stride p.columns k d₀
+  rows_length = ap length a.bytes ∙ length_rows (patch_bytes (source_bytes o d₀) p) p.to p.row_stride p.stride p.columns k d₀
 
   its_place : (i j : ℕ) → along (along to p.row_stride i) p.stride j ≡ patch_place p (k + i) j
   its_place i j = ap (λ (y : ℕ). along y p.stride j) (rw a.place (along_on p.to p.row_stride k i))
@@ -140,22 +141,23 @@ module _ {o : Origin} {s d₀ : List ℕ} {p : Patch} {d : List ℕ} {at to k : 
   its_home i j = ap (λ (y : ℕ). along y p.jump j) (rw a.home (along_on p.at p.row_jump k i))
 
   -- what is read now is what was there
-  its_bytes : (i j : ℕ) → i < p.rows → j < p.columns → patch_bytes (source_bytes o s d) p i j ≡ patch_bytes (source_bytes o s d₀) p i j
-  its_bytes i j hi hj = rw a.bytes (rows_keep o s d₀ (source_bytes o s d₀) p k i j r a.within hi hj)
+  its_bytes : (i j : ℕ) → i < p.rows → j < p.columns → patch_bytes (source_bytes o d) p i j ≡ patch_bytes (source_bytes o d₀) p i j
+  its_bytes i j hi hj = rw a.bytes (rows_keep o d₀ (source_bytes o d₀) p k i j r a.within hi hj)
 
   -- the next row
   module _ (h : k < p.rows) where
     pub row_writes : Writable d (patch_row p at to)
     row_writes = record { sized = w.sized; held = λ j l. rw a.place (omega (arith, rows_length, w.held k j h l)) }
 
-    pub row_reads : Readable o s d (patch_row p at to)
+    pub row_reads : Readable o d (patch_row p at to)
     row_reads = record {
-      held = λ j l. rw a.home (still_held o s d₀ d rows_length (r.held k j h l));
+      short = r.short;
+      held = λ j l. rw a.home (still_held o d₀ d rows_length (r.held k j h l));
       parted = λ j l hj hl. rw (a.home, a.place) (r.parted k j k l h hj h hl);
     }
 
-    pub rows_next : {at' to' : ℕ} {d' : List ℕ} → d' ≡ run_copied o s d (patch_row p at to)
-        → at' ≡ (at + p.row_jump) % 2 ^ 64 → to' ≡ (to + p.row_stride) % 2 ^ 64 → Rowed o s d₀ p d' at' to' (k + 1)
+    pub rows_next : {at' to' : ℕ} {d' : List ℕ} → d' ≡ run_copied o d (patch_row p at to)
+        → at' ≡ (at + p.row_jump) % 2 ^ 64 → to' ≡ (to + p.row_stride) % 2 ^ 64 → Rowed o d₀ p d' at' to' (k + 1)
     unfolding rows_stored
     rows_next e x y = record {
       within = omega arith;
@@ -163,16 +165,16 @@ module _ {o : Origin} {s d₀ : List ℕ} {p : Patch} {d : List ℕ} {at to k : 
       place = y ∙ ap (λ (z : ℕ). (z + p.row_stride) % 2 ^ 64) a.place ∙ along_next p.to p.row_stride k;
       bytes =
           e ∙ rw (add-one)
-          (ap (λ (z : ℕ). run_stored (kept_bytes (source_bytes o s d) (patch_row p at to)) z p.stride p.columns d) a.place
-          ∙ run_same (kept_bytes (source_bytes o s d) (patch_row p at to)) (patch_bytes (source_bytes o s d₀) p k) (along p.to p.row_stride k) p.stride p.columns d
+          (ap (λ (z : ℕ). run_stored (kept_bytes (source_bytes o d) (patch_row p at to)) z p.stride p.columns d) a.place
+          ∙ run_same (kept_bytes (source_bytes o d) (patch_row p at to)) (patch_bytes (source_bytes o d₀) p k) (along p.to p.row_stride k) p.stride p.columns d
           (λ j l. rw a.home (its_bytes k j h l))
-          ∙ ap (run_stored (patch_bytes (source_bytes o s d₀) p k) (along p.to p.row_stride k) p.stride p.columns) a.bytes);
+          ∙ ap (run_stored (patch_bytes (source_bytes o d₀) p k) (along p.to p.row_stride k) p.stride p.columns) a.bytes);
     }
 
     -- where its elements stand side by side in both, it is a run of bytes
-    pub row_block : p.jump ≡ p.size → p.stride ≡ p.size → length s + length d₀ < 2 ^ 64 → Block o s d (patch_row p at to)
+    pub row_block : p.jump ≡ p.size → p.stride ≡ p.size → length d₀ < 2 ^ 63 → Block o d (patch_row p at to)
     row_block ej es f =
-        block o s d (patch_row p at to) (rw a.home (along_fits p.at p.row_jump k)) (rw a.place (along_fits p.to p.row_stride k))
+        block o d (patch_row p at to) (rw a.home (along_fits p.at p.row_jump k)) (rw a.place (along_fits p.to p.row_stride k))
         (omega (arith, rows_length)) row_writes row_reads ej es
 
   -- the next n rows
@@ -185,26 +187,27 @@ module _ {o : Origin} {s d₀ : List ℕ} {p : Patch} {d : List ℕ} {at to k : 
           rw (its_place i j, its_place m l) (w.off (k + i) j (k + m) l (omega arith) (omega arith) hj hl (λ e. ne (omega (arith, e.0), e.1)));
     }
 
-    pub some_read : PatchReads o s d (some_rows p at to n)
+    pub some_read : PatchReads o d (some_rows p at to n)
     some_read = record {
-      held = λ i j hi hj. rw (its_home i j) (still_held o s d₀ d rows_length (r.held (k + i) j (omega arith) hj));
+      short = r.short;
+      held = λ i j hi hj. rw (its_home i j) (still_held o d₀ d rows_length (r.held (k + i) j (omega arith) hj));
       parted = λ i j m l hi hj hm hl. rw (its_home i j, its_place m l) (r.parted (k + i) j (k + m) l (omega arith) hj (omega arith) hl);
     }
 
-    pub rows_more : {at' to' : ℕ} {d' : List ℕ} → d' ≡ patch_copied o s d (some_rows p at to n)
-        → at' ≡ along at p.row_jump n → to' ≡ along to p.row_stride n → Rowed o s d₀ p d' at' to' (k + n)
+    pub rows_more : {at' to' : ℕ} {d' : List ℕ} → d' ≡ patch_copied o d (some_rows p at to n)
+        → at' ≡ along at p.row_jump n → to' ≡ along to p.row_stride n → Rowed o d₀ p d' at' to' (k + n)
     rows_more e x y = record {
       within = h;
       home = x ∙ rw a.home (along_on p.at p.row_jump k n);
       place = y ∙ rw a.place (along_on p.to p.row_stride k n);
       bytes =
           e
-          ∙ rows_same (patch_bytes (source_bytes o s d) (some_rows p at to n)) (λ i. patch_bytes (source_bytes o s d₀) p (k + i)) to p.row_stride p.stride p.columns n d
-          (λ i j hi hj. ap (λ (z : ℕ). take p.size (drop z (source_bytes o s d))) (its_home i j) ∙ its_bytes (k + i) j (omega arith) hj)
-          ∙ ap (λ (z : ℕ). rows_stored (λ i. patch_bytes (source_bytes o s d₀) p (k + i)) z p.row_stride p.stride p.columns n d) a.place
-          ∙ ap (rows_stored (λ i. patch_bytes (source_bytes o s d₀) p (k + i)) (along p.to p.row_stride k) p.row_stride p.stride p.columns n) a.bytes
-          ∙ sym (rows_add (patch_bytes (source_bytes o s d₀) p) p.to p.row_stride p.stride p.columns k n d₀);
+          ∙ rows_same (patch_bytes (source_bytes o d) (some_rows p at to n)) (λ i. patch_bytes (source_bytes o d₀) p (k + i)) to p.row_stride p.stride p.columns n d
+          (λ i j hi hj. ap (λ (z : ℕ). take p.size (drop z (source_bytes o d))) (its_home i j) ∙ its_bytes (k + i) j (omega arith) hj)
+          ∙ ap (λ (z : ℕ). rows_stored (λ i. patch_bytes (source_bytes o d₀) p (k + i)) z p.row_stride p.stride p.columns n d) a.place
+          ∙ ap (rows_stored (λ i. patch_bytes (source_bytes o d₀) p (k + i)) (along p.to p.row_stride k) p.row_stride p.stride p.columns n) a.bytes
+          ∙ sym (rows_add (patch_bytes (source_bytes o d₀) p) p.to p.row_stride p.stride p.columns k n d₀);
     }
 
-  pub rows_end : p.rows ≤ k → d ≡ patch_copied o s d₀ p
+  pub rows_end : p.rows ≤ k → d ≡ patch_copied o d₀ p
   rows_end h = let v = a.within in let q : k ≡ p.rows = omega arith in a.bytes ∙ rw q

@@ -89,24 +89,25 @@ module _ (p : Plan) (c0 c1 c2 c3 : ℕ) where
 
 -- what lies within bytes that are apart is apart
 pub apart_part : (o : Origin) {a a' b b' x x' y y' : ℕ} → BytesApart o a a' b b' → a ≤ x → x' ≤ a' → b ≤ y → y' ≤ b' → BytesApart o x x' y y'
-apart_part Lent h p q r s = tt
+apart_part (Lent _) h p q r s = tt
 apart_part Inside h p q r s = ⊎_elim (λ u. inl (omega arith)) (λ v. inr (omega arith)) h
 
 -- a source of the same length
-pub still_held : (o : Origin) (s d e : List ℕ) {m : ℕ} → length e ≡ length d → m ≤ length (source_bytes o s d) → m ≤ length (source_bytes o s e)
-still_held Lent s d e h l = l
-still_held Inside s d e h l = rw h l
+pub still_held : (o : Origin) (d e : List ℕ) {m : ℕ} → length e ≡ length d → m ≤ length (source_bytes o d) → m ≤ length (source_bytes o e)
+still_held (Lent s) d e h l = l
+still_held Inside d e h l = rw h l
 
 -- what is asked speaks of the destination by its length alone
-pub still_ready : (o : Origin) (p : Plan) (s d e : List ℕ) → length e ≡ length d → Ready o p s d → Ready o p s e
-still_ready o p s d e h r =
+pub still_ready : (o : Origin) (p : Plan) (d e : List ℕ) → length e ≡ length d → Ready o p d → Ready o p e
+still_ready o p d e h r =
     record {
+      short = r.short;
       sized = r.sized;
       axes = r.axes;
       few = r.few;
       rising = r.rising;
       reach = r.reach;
       need = rw h r.need;
-      span = λ c0 c1 c2 c3 k. still_held o s d e h (r.span c0 c1 c2 c3 k);
+      span = λ c0 c1 c2 c3 k. still_held o d e h (r.span c0 c1 c2 c3 k);
       apart = r.apart;
     }

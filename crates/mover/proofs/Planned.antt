@@ -343,10 +343,12 @@ module _ {t : Tensor} (c : Config) (g : GoodSource t) where
         omega (arith, planned_fits x kept, planned_size)
 
     -- between two lent slices
-    pub planned_ready : GoodDst t c → (src dst : List ℕ) → span t ≤ length src → need t c ≤ length dst → Ready Lent (plan_of t c) src dst
+    pub planned_ready : GoodDst t c → (at : ℕ × ℕ) (src dst : List ℕ) → length src < 2 ^ 63 → span t ≤ length src → need t c ≤ length dst
+        → Ready (Lent (record { ref_ptr = at; now = src })) (plan_of t c) dst
     unfolding plan_of
-    planned_ready p src dst l m =
+    planned_ready p at src dst few l m =
         record {
+          short = few;
           sized = g.element;
           axes = planned_axes;
           few = planned_few;

@@ -69,10 +69,10 @@ module _ (e : ℕ → List ℕ) (to stride : ℕ) where
       get_d_sets_out (e n) (run_stored e to stride n d) (along to stride n) k (h n (omega arith)) ∙ run_out n d k (λ j l. h j (omega arith))
 
 -- while kept elements are stored, all that are read are as they were
-pub keeps_any : (o : Origin) (s d v : List ℕ) (c : Course) (k j : ℕ) → Parted o c → k ≤ c.n → j < c.n
-    → kept_bytes (source_bytes o s (run_stored (kept_bytes v c) c.to c.stride k d)) c j ≡ kept_bytes (source_bytes o s d) c j
-keeps_any Lent s d v c k j p g h = refl
-keeps_any Inside s d v c k j p g h =
+pub keeps_any : (o : Origin) (d v : List ℕ) (c : Course) (k j : ℕ) → Parted o c → k ≤ c.n → j < c.n
+    → kept_bytes (source_bytes o (run_stored (kept_bytes v c) c.to c.stride k d)) c j ≡ kept_bytes (source_bytes o d) c j
+keeps_any (Lent s) d v c k j p g h = refl
+keeps_any Inside d v c k j p g h =
     bytes_same (run_stored (kept_bytes v c) c.to c.stride k d) d (along c.at c.jump j) c.size (length_run (kept_bytes v c) c.to c.stride k d)
     (λ i a b.
     run_out (kept_bytes v c) c.to c.stride k d i
@@ -81,9 +81,9 @@ keeps_any Inside s d v c k j p g h =
     ⊎_elim (λ y. inl (omega arith)) (λ y. inr (omega arith)) (p j x h (omega arith))))
 
 -- the next among them
-pub run_keeps : (o : Origin) (s d v : List ℕ) (c : Course) (k : ℕ) → Parted o c → k < c.n
-    → kept_bytes (source_bytes o s (run_stored (kept_bytes v c) c.to c.stride k d)) c k ≡ kept_bytes (source_bytes o s d) c k
-run_keeps o s d v c k p h = keeps_any o s d v c k k p (omega arith) h
+pub run_keeps : (o : Origin) (d v : List ℕ) (c : Course) (k : ℕ) → Parted o c → k < c.n
+    → kept_bytes (source_bytes o (run_stored (kept_bytes v c) c.to c.stride k d)) c k ≡ kept_bytes (source_bytes o d) c k
+run_keeps o d v c k p h = keeps_any o d v c k k p (omega arith) h
 
 -- ---- a loop that stores n elements: k are, and the next stands at t
 

@@ -12,7 +12,7 @@ use Rattle.mover.specs.Private.Runs.{run_stored, kept_bytes, Held}
 use Rattle.mover.specs.Private.Patches.{rows_stored, sixteenth_of, rows_in, patch_home, patch_bytes, patch_copied, swapped_of, PatchFits, PatchReads, TurnedRows, SplitRows, MergedRows}
 use Rattle.mover.specs.Private.Shuffles.{made, tile_of, split_of, merged_of}
 use Rattle.plane.proofs.Bounds.{element_small}
-use Rattle.mover.proofs.Bytes.{source_long}
+use Rattle.mover.proofs.Bytes.{short_source}
 use Rattle.mover.proofs.Adding.{along_fits, along_is}
 use Rattle.mover.proofs.Blocks.{sided, whole, bytes_run, bytes_held, plain, all_lie}
 use Rattle.mover.proofs.Crossing.{run_same, length_rows, along_cross}
@@ -82,9 +82,9 @@ length_merged s at jump = length-append (made 48 _) _ ∙ ap (λ (n : ℕ). n + 
 
 -- ---- tiles
 
-module _ {o : Origin} {s d : List ℕ} {p : Patch} (w : PatchFits d p) (r : PatchReads o s d p) (f : length s + length d < 2 ^ 64) where
-  source : length (source_bytes o s d) < 2 ^ 64
-  source = omega (arith, source_long o s d)
+module _ {o : Origin} {d : List ℕ} {p : Patch} (w : PatchFits d p) (r : PatchReads o d p) (f : length d < 2 ^ 63) where
+  source : length (source_bytes o d) < 2 ^ 64
+  source = omega (arith, short_source o d r.short f)
 
   small : 0 < p.size
   small = (element_small p.size w.sized).0
@@ -96,11 +96,11 @@ module _ {o : Origin} {s d : List ℕ} {p : Patch} (w : PatchFits d p) (r : Patc
 
     -- stored from an array in which they stand one after the other
     pub spread : (t : List ℕ) → length t < 2 ^ 64 → p.rows * (p.columns * p.size) ≤ length t
-        → ((i j : ℕ) → i < p.rows → j < p.columns → patch_bytes (source_bytes o s d) p i j ≡ take p.size (drop (i * (p.columns * p.size) + j * p.size) t))
-        → patch_copied o s d p ≡ run_stored (λ i. take (p.columns * p.size) (drop (i * (p.columns * p.size)) t)) p.to p.row_stride p.rows d
+        → ((i j : ℕ) → i < p.rows → j < p.columns → patch_bytes (source_bytes o d) p i j ≡ take p.size (drop (i * (p.columns * p.size) + j * p.size) t))
+        → patch_copied o d p ≡ run_stored (λ i. take (p.columns * p.size) (drop (i * (p.columns * p.size)) t)) p.to p.row_stride p.rows d
     spread t ft lie same =
-        ap (λ (y : ℕ). rows_stored (patch_bytes (source_bytes o s d) p) p.to p.row_stride y p.columns p.rows d) e
-        ∙ rows_whole t (patch_bytes (source_bytes o s d) p) p.to p.row_stride p.size p.columns small ft p.rows d (omega arith) lie row_held same
+        ap (λ (y : ℕ). rows_stored (patch_bytes (source_bytes o d) p) p.to p.row_stride y p.columns p.rows d) e
+        ∙ rows_whole t (patch_bytes (source_bytes o d) p) p.to p.row_stride p.size p.columns small ft p.rows d (omega arith) lie row_held same
 
     pub rows_lie : 0 < p.columns → (i : ℕ) → i < p.rows → along p.to p.row_stride i + p.columns * p.size ≤ length d
     rows_lie c i hi = all_lie (length d) (along p.to p.row_stride i) p.size p.columns (along_fits p.to p.row_stride i) (omega arith) (row_held i hi) c
@@ -110,15 +110,15 @@ module _ {o : Origin} {s d : List ℕ} {p : Patch} (w : PatchFits d p) (r : Patc
     column_home : (i j : ℕ) → patch_home p i j ≡ along (along p.at p.jump j) p.size i
     column_home i j = along_cross p.at p.row_jump p.jump i j ∙ ap (λ (y : ℕ). along (along p.at p.jump j) y i) e
 
-    column_held : (j : ℕ) → j < p.columns → Held (length (source_bytes o s d)) (along p.at p.jump j) p.size p.size p.rows
+    column_held : (j : ℕ) → j < p.columns → Held (length (source_bytes o d)) (along p.at p.jump j) p.size p.size p.rows
     column_held j hj i hi = rw (column_home i j) at (r.held i j hi hj)
 
-    pub columns_lie : 0 < p.rows → Held (length (source_bytes o s d)) p.at p.jump (p.rows * p.size) p.columns
-    columns_lie c j hj = all_lie (length (source_bytes o s d)) (along p.at p.jump j) p.size p.rows (along_fits p.at p.jump j) source (column_held j hj) c
+    pub columns_lie : 0 < p.rows → Held (length (source_bytes o d)) p.at p.jump (p.rows * p.size) p.columns
+    columns_lie c j hj = all_lie (length (source_bytes o d)) (along p.at p.jump j) p.size p.rows (along_fits p.at p.jump j) source (column_held j hj) c
 
     pub column_plain : (i j : ℕ) → i < p.rows → j < p.columns → patch_home p i j ≡ along p.at p.jump j + i * p.size
     column_plain i j hi hj =
-        column_home i j ∙ plain (length (source_bytes o s d)) (along p.at p.jump j) p.size (along_fits p.at p.jump j) source p.rows (column_held j hj) i hi
+        column_home i j ∙ plain (length (source_bytes o d)) (along p.at p.jump j) p.size (along_fits p.at p.jump j) source p.rows (column_held j hj) i hi
 
 -- byte y of element j of row i, of rows of 16 bytes
 record Found (z i j y : ℕ) : Type 0 where
@@ -168,7 +168,7 @@ rows_in_lem t width n to stride d f =
     ap (λ (y : ℕ). take width (drop y t)) (along_is 0 width i (omega (arith, mul-le-mul_right width g)) ∙ zero-add (i * width)))
 
 -- rows and columns exchanged
-module _ {o : Origin} {s d : List ℕ} {p : Patch} (w : PatchFits d p) (r : PatchReads o s d p) (f : length s + length d < 2 ^ 64)
+module _ {o : Origin} {d : List ℕ} {p : Patch} (w : PatchFits d p) (r : PatchReads o d p) (f : length d < 2 ^ 63)
     (k : TurnedRows p) (c : p.columns ≡ sixteenth_of p.size) where
   sixteens : sixteenth_of p.size * p.size ≡ 16
   sixteens = sixteen p.size w.sized k.turns.size
@@ -192,10 +192,10 @@ module _ {o : Origin} {s d : List ℕ} {p : Patch} (w : PatchFits d p) (r : Patc
     rows_are : p.rows ≡ b
     rows_are = k.rows ∙ ap sixteenth_of ez ∙ eb
 
-    pub turned_reads : Held (length (source_bytes o s d)) p.at p.jump 16 b
+    pub turned_reads : Held (length (source_bytes o d)) p.at p.jump 16 b
     turned_reads =
-        subst (λ (y : ℕ). Held (length (source_bytes o s d)) p.at p.jump 16 y) columns_are
-        (subst (λ (y : ℕ). Held (length (source_bytes o s d)) p.at p.jump y p.columns) height (columns_lie w r f k.turns.jump some_rows_lem))
+        subst (λ (y : ℕ). Held (length (source_bytes o d)) p.at p.jump 16 y) columns_are
+        (subst (λ (y : ℕ). Held (length (source_bytes o d)) p.at p.jump y p.columns) height (columns_lie w r f k.turns.jump some_rows_lem))
 
     pub turned_writes : Held (length d) p.to p.row_stride 16 b
     turned_writes i h =
@@ -204,26 +204,26 @@ module _ {o : Origin} {s d : List ℕ} {p : Patch} (w : PatchFits d p) (r : Patc
 
   -- byte y of element (i, j)
   abbrev byte_of : ℕ → ℕ
-  byte_of x = get_or (source_bytes o s d) (along p.at p.jump (x % 16 / p.size) + (x / 16 * p.size + x % p.size)) 0
+  byte_of x = get_or (source_bytes o d) (along p.at p.jump (x % 16 / p.size) + (x / 16 * p.size + x % p.size)) 0
 
-  turned_byte : (i j y : ℕ) → i < p.rows → j < p.columns → y < p.size → get_or (source_bytes o s d) (patch_home p i j + y) 0 ≡ byte_of (i * 16 + j * p.size + y)
+  turned_byte : (i j y : ℕ) → i < p.rows → j < p.columns → y < p.size → get_or (source_bytes o d) (patch_home p i j + y) 0 ≡ byte_of (i * 16 + j * p.size + y)
   turned_byte i j y hi hj hy =
       let h = found p.size w.sized k.turns.size i j y (rw c at hj) hy in
       let u : patch_home p i j + y ≡ along p.at p.jump j + (i * p.size + y) = omega (arith, column_plain w r f k.turns.jump i j hi hj) in
-      rw (h.column, h.row, h.byte) (ap (λ (x : ℕ). get_or (source_bytes o s d) x 0) u)
+      rw (h.column, h.row, h.byte) (ap (λ (x : ℕ). get_or (source_bytes o d) x 0) u)
 
   turned_bytes : (n : ℕ) → p.rows * 16 ≤ n → (i j : ℕ) → i < p.rows → j < p.columns
-      → patch_bytes (source_bytes o s d) p i j ≡ take p.size (drop (i * (p.columns * p.size) + j * p.size) (made n byte_of))
+      → patch_bytes (source_bytes o d) p i j ≡ take p.size (drop (i * (p.columns * p.size) + j * p.size) (made n byte_of))
   turned_bytes n l i j hi hj =
       let a : suc i ≤ p.rows = hi in
       let b : suc j ≤ p.columns = hj in
       let m = mul-le-mul_right 16 a in
       let v = mul-le-mul_right p.size b in
       let x = suc-mul j p.size in
-      rw width (cut_made (source_bytes o s d) byte_of n (patch_home p i j) (i * 16 + j * p.size) p.size (r.held i j hi hj) (omega (arith, width)) (λ y hy. turned_byte i j y hi hj hy))
+      rw width (cut_made (source_bytes o d) byte_of n (patch_home p i j) (i * 16 + j * p.size) p.size (r.held i j hi hj) (omega (arith, width)) (λ y hy. turned_byte i j y hi hj hy))
 
-  pub turned_is : (b n : ℕ) → p.rows ≡ b → 256 / p.size ≡ n → n ≡ b * 16 → b * 16 < 2 ^ 64 → {t d' : List ℕ} → t ≡ tile_of p.size (source_bytes o s d) p.at p.jump
-      → d' ≡ run_stored (kept_bytes t (rows_in 16 b p.to p.row_stride)) p.to p.row_stride b d → d' ≡ patch_copied o s d p
+  pub turned_is : (b n : ℕ) → p.rows ≡ b → 256 / p.size ≡ n → n ≡ b * 16 → b * 16 < 2 ^ 64 → {t d' : List ℕ} → t ≡ tile_of p.size (source_bytes o d) p.at p.jump
+      → d' ≡ run_stored (kept_bytes t (rows_in 16 b p.to p.row_stride)) p.to p.row_stride b d → d' ≡ patch_copied o d p
   unfolding tile_of
   turned_is b n rb en nb fb {t} {d'} et e =
       let t_is : t ≡ made n byte_of = et ∙ ap (λ (m : ℕ). made m byte_of) en in
@@ -245,7 +245,7 @@ thrice : (a i j : ℕ) → along (along a 1 i) 3 j ≡ along a 1 (i + j * 3)
 unfolding along
 thrice a i j = mod-add-mod (a + i * 1) (2 ^ 64) (j * 3) ∙ ap (λ (y : ℕ). y % 2 ^ 64) (omega arith)
 
-module _ {o : Origin} {s d : List ℕ} {p : Patch} (w : PatchFits d p) (r : PatchReads o s d p) (f : length s + length d < 2 ^ 64) (fa : p.at < 2 ^ 64)
+module _ {o : Origin} {d : List ℕ} {p : Patch} (w : PatchFits d p) (r : PatchReads o d p) (f : length d < 2 ^ 63) (fa : p.at < 2 ^ 64)
     (k : SplitRows p) (c : p.columns ≡ 32) where
   pixel_home : (i j : ℕ) → patch_home p i j ≡ along p.at 1 (i + j * 3)
   pixel_home i j = rw (k.row_jump, k.jump) (thrice p.at i j)
@@ -253,9 +253,9 @@ module _ {o : Origin} {s d : List ℕ} {p : Patch} (w : PatchFits d p) (r : Patc
   pixel_width : p.columns * p.size ≡ 32
   pixel_width = rw (c, k.size)
 
-  pub split_reads : p.at + 96 ≤ length (source_bytes o s d)
+  pub split_reads : p.at + 96 ≤ length (source_bytes o d)
   split_reads =
-      all_lie (length (source_bytes o s d)) p.at 1 96 fa (source w r f)
+      all_lie (length (source_bytes o d)) p.at 1 96 fa (source w r f)
       (λ x h.
       let e : x % 3 + x / 3 * 3 ≡ x = omega arith in
       let g = r.held (x % 3) (x / 3) (rw k.rows (omega arith)) (rw c (omega arith)) in
@@ -269,10 +269,10 @@ module _ {o : Origin} {s d : List ℕ} {p : Patch} (w : PatchFits d p) (r : Patc
       omega (arith, pixel_width)
 
   abbrev pixel_of : ℕ → ℕ
-  pixel_of x = get_or (source_bytes o s d) (p.at + (x % 32 * 3 + x / 32)) 0
+  pixel_of x = get_or (source_bytes o d) (p.at + (x % 32 * 3 + x / 32)) 0
 
   split_bytes : (i j : ℕ) → i < p.rows → j < p.columns
-      → patch_bytes (source_bytes o s d) p i j ≡ take p.size (drop (i * (p.columns * p.size) + j * p.size) (made 96 pixel_of))
+      → patch_bytes (source_bytes o d) p i j ≡ take p.size (drop (i * (p.columns * p.size) + j * p.size) (made 96 pixel_of))
   split_bytes i j hi hj =
       let z = k.size in
       let hr : i < 3 = rw k.rows at hi in
@@ -281,14 +281,14 @@ module _ {o : Origin} {s d : List ℕ} {p : Patch} (w : PatchFits d p) (r : Patc
       let l = split_reads in
       let h : patch_home p i j ≡ p.at + (i + j * 3) = pixel_home i j ∙ along_is p.at 1 (i + j * 3) (omega (arith, source w r f)) ∙ omega arith in
       rw (pixel_width, jz)
-      (cut_made (source_bytes o s d) pixel_of 96 (patch_home p i j) (i * 32 + j) p.size (r.held i j hi hj) (omega arith)
+      (cut_made (source_bytes o d) pixel_of 96 (patch_home p i j) (i * 32 + j) p.size (r.held i j hi hj) (omega arith)
       (λ y hy.
       let a : (i * 32 + j + y) % 32 ≡ j = omega arith in
       let b : (i * 32 + j + y) / 32 ≡ i = omega arith in
-      rw (a, b) (ap (λ (x : ℕ). get_or (source_bytes o s d) x 0) (omega arith))))
+      rw (a, b) (ap (λ (x : ℕ). get_or (source_bytes o d) x 0) (omega arith))))
 
-  pub split_is : {t d' : List ℕ} → t ≡ split_of (source_bytes o s d) p.at
-      → d' ≡ run_stored (kept_bytes t (rows_in 32 3 p.to p.row_stride)) p.to p.row_stride 3 d → d' ≡ patch_copied o s d p
+  pub split_is : {t d' : List ℕ} → t ≡ split_of (source_bytes o d) p.at
+      → d' ≡ run_stored (kept_bytes t (rows_in 32 3 p.to p.row_stride)) p.to p.row_stride 3 d → d' ≡ patch_copied o d p
   unfolding split_of
   split_is {t} {d'} et e =
       let long : length t ≡ 96 = ap length et ∙ length_made 96 pixel_of in
@@ -303,19 +303,19 @@ module _ {o : Origin} {s d : List ℕ} {p : Patch} (w : PatchFits d p) (r : Patc
 
 -- ---- pixels put together
 
-module _ {o : Origin} {s d : List ℕ} {p : Patch} (w : PatchFits d p) (r : PatchReads o s d p) (f : length s + length d < 2 ^ 64) (ft : p.to < 2 ^ 64)
+module _ {o : Origin} {d : List ℕ} {p : Patch} (w : PatchFits d p) (r : PatchReads o d p) (f : length d < 2 ^ 63) (ft : p.to < 2 ^ 64)
     (k : MergedRows p) (c : p.columns ≡ 16) where
   -- as rows of three bytes
   turned_fits : PatchFits d (swapped_of p)
   turned_fits = swap_fits w
 
-  turned_reads' : PatchReads o s d (swapped_of p)
+  turned_reads' : PatchReads o d (swapped_of p)
   turned_reads' = swap_reads r
 
   three_wide : p.rows * p.size ≡ 3
   three_wide = rw (k.rows, k.size)
 
-  pub merged_reads : Held (length (source_bytes o s d)) p.at p.row_jump 16 3
+  pub merged_reads : Held (length (source_bytes o d)) p.at p.row_jump 16 3
   merged_reads i h =
       let e : p.columns * p.size ≡ 16 = rw (c, k.size) in
       let l = columns_lie turned_fits turned_reads' f (k.jump ∙ sym k.size) (rw c (omega arith)) i (rw k.rows h) in
@@ -331,10 +331,10 @@ module _ {o : Origin} {s d : List ℕ} {p : Patch} (w : PatchFits d p) (r : Patc
   merged_writes = all_lie (length d) p.to 3 16 ft (omega arith) merged_held (omega arith)
 
   abbrev merge_of : ℕ → ℕ
-  merge_of x = get_or (source_bytes o s d) (along p.at p.row_jump (x % 3) + x / 3) 0
+  merge_of x = get_or (source_bytes o d) (along p.at p.row_jump (x % 3) + x / 3) 0
 
   merged_bytes : (i j : ℕ) → i < p.columns → j < p.rows
-      → patch_bytes (source_bytes o s d) (swapped_of p) i j ≡ take p.size (drop (i * (p.rows * p.size) + j * p.size) (made 48 merge_of))
+      → patch_bytes (source_bytes o d) (swapped_of p) i j ≡ take p.size (drop (i * (p.rows * p.size) + j * p.size) (made 48 merge_of))
   merged_bytes i j hi hj =
       let z = k.size in
       let hr : j < 3 = rw k.rows at hj in
@@ -343,13 +343,13 @@ module _ {o : Origin} {s d : List ℕ} {p : Patch} (w : PatchFits d p) (r : Patc
       let iz : i * p.size ≡ i = rw z (mul-one i) in
       let h = column_plain turned_fits turned_reads' f (k.jump ∙ sym k.size) i j hi hj in
       rw (three_wide, jz)
-      (cut_made (source_bytes o s d) merge_of 48 (patch_home (swapped_of p) i j) (i * 3 + j) p.size (turned_reads'.held i j hi hj) (omega arith)
+      (cut_made (source_bytes o d) merge_of 48 (patch_home (swapped_of p) i j) (i * 3 + j) p.size (turned_reads'.held i j hi hj) (omega arith)
       (λ y hy.
       let a : (i * 3 + j + y) % 3 ≡ j = omega arith in
       let b : (i * 3 + j + y) / 3 ≡ i = omega arith in
-      rw (a, b) (ap (λ (x : ℕ). get_or (source_bytes o s d) x 0) (omega arith))))
+      rw (a, b) (ap (λ (x : ℕ). get_or (source_bytes o d) x 0) (omega arith))))
 
-  pub merged_is : {t d' : List ℕ} → t ≡ merged_of (source_bytes o s d) p.at p.row_jump → d' ≡ sets d p.to (take 48 (drop 0 t)) → d' ≡ patch_copied o s d p
+  pub merged_is : {t d' : List ℕ} → t ≡ merged_of (source_bytes o d) p.at p.row_jump → d' ≡ sets d p.to (take 48 (drop 0 t)) → d' ≡ patch_copied o d p
   unfolding merged_of
   merged_is {t} {d'} et e =
       let m = length_made 48 merge_of in
@@ -357,7 +357,7 @@ module _ {o : Origin} {s d : List ℕ} {p : Patch} (w : PatchFits d p) (r : Patc
       let lie : p.columns * (p.rows * p.size) ≤ length (made 48 merge_of) = rw (three_wide, c) (omega arith) in
       e ∙ ap (sets d p.to) cut
       ∙ sym (
-      sym (swap_copied o s w)
+      sym (swap_copied o w)
       ∙ spread turned_fits turned_reads' f (k.row_stride ∙ sym k.size) (made 48 merge_of) (omega arith) lie merged_bytes
       ∙ ap (λ (x : ℕ). run_stored (λ i. take x (drop (i * x) (made 48 merge_of))) p.to p.stride p.columns d) three_wide
       ∙ ap (λ (x : ℕ). run_stored (λ i. take 3 (drop (i * 3) (made 48 merge_of))) p.to p.stride x d) c

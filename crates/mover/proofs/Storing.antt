@@ -23,7 +23,7 @@ little_at (suc w) n (suc b) h =
 
 -- what is stored apart from the source leaves its bytes as they were
 apart_seen : (o : Origin) (s vs d : List ℕ) (from to n b : ℕ) → length vs ≤ b → b < n → BytesApart o from (from + n) to (to + n)
-    → get_or (source_bytes o s (sets d to vs)) (from + b) 0 ≡ get_or (source_bytes o s d) (from + b) 0
+    → get_or (source_bytes o (sets d to vs)) (from + b) 0 ≡ get_or (source_bytes o d) (from + b) 0
 apart_seen Lent s vs d from to n b h l a = refl
 apart_seen Inside s vs d from to n b h l a =
     get_d_sets_out vs d to (from + b) (⊎_elim (λ u. inl (omega arith)) (λ v. inr (omega arith)) a)

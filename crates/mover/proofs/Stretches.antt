@@ -110,11 +110,11 @@ within_sets m u e b i h k =
 
 -- while the destination's part is written, the source's is as it was
 seen_same : (o : Origin) (s : List ℕ) (p r : Part) (m u : List ℕ) → BytesApart o p.start (p.start + p.length) r.start (r.start + length u)
-    → bytes_of p (source_bytes o s (sets m r.start u)) ≡ bytes_of p (source_bytes o s m)
+    → bytes_of p (source_bytes o (sets m r.start u)) ≡ bytes_of p (source_bytes o m)
 seen_same Lent s p r m u h = refl
 seen_same Inside s p r m u h = part_other m u r.start p.start p.length h
 
-source_64 : (o : Origin) (s d : List ℕ) → length s < 2 ^ 64 → length d < 2 ^ 64 → length (source_bytes o s d) < 2 ^ 64
+source_64 : (o : Origin) (d : List ℕ) → length s < 2 ^ 64 → length d < 2 ^ 64 → length (source_bytes o d) < 2 ^ 64
 source_64 Lent s d h k = h
 source_64 Inside s d h k = k
 

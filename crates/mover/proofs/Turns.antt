@@ -58,7 +58,7 @@ least_all q n t h = min-eq_left (omega arith)
 -- the coordinates are those of element number from + done, where done is the part of the budget that is not left; what is before it
 -- has been moved; behind a coordinate at its end all are 0; and the spots are those of its slab, layer and row and its own. Of the
 -- source's place nothing is said where no element is left, or no kept one is ahead in the row
-pub record At (o : Origin) (p : Plan) (s d₀ : List ℕ) (from budget : ℕ) (d : List ℕ) (c0 c1 c2 c3 left : ℕ) (u : Spots) : Type 0 where
+pub record At (o : Origin) (p : Plan) (d₀ : List ℕ) (from budget : ℕ) (d : List ℕ) (c0 c1 c2 c3 left : ℕ) (u : Spots) : Type 0 where
   pub in1 : c1 ≤ p.d1.extent
   pub in2 : c2 ≤ p.d2.extent
   pub in3 : c3 ≤ p.d3.extent
@@ -67,7 +67,7 @@ pub record At (o : Origin) (p : Plan) (s d₀ : List ℕ) (from budget : ℕ) (d
   pub fund : left ≤ budget
   pub number : number_of p c0 c1 c2 c3 ≡ from + (budget - left)
   pub most : from + (budget - left) ≤ plan_total p
-  pub bytes : d ≡ moved_by p (source_bytes o s d₀) from (budget - left) d₀
+  pub bytes : d ≡ moved_by p (source_bytes o d₀) from (budget - left) d₀
   pub slab : u.slab ≡ spot_at (first_spot p) p.d0 c0
   pub layer : u.layer ≡ spot_at u.slab p.d1 c1
   pub row : u.row ≡ spot_at u.layer p.d2 c2
@@ -75,16 +75,16 @@ pub record At (o : Origin) (p : Plan) (s d₀ : List ℕ) (from budget : ℕ) (d
   pub home : 0 < left → c3 < p.d3.pre + p.d3.count → u.here.at ≡ along u.row.at p.d3.jump (c3 - p.d3.pre)
 
 -- from one state of the loops to another, `At` is kept, whatever destination it began with
-abbrev pub Keeps : Origin → Plan → List ℕ → ℕ → ℕ → List ℕ → ℕ → ℕ → ℕ → ℕ → ℕ → Spots → List ℕ → ℕ → ℕ → ℕ → ℕ → ℕ → Spots → Type 0
-Keeps o p s from budget e b0 b1 b2 b3 had v d c0 c1 c2 c3 left u =
-    (d₀ : List ℕ) → At o p s d₀ from budget e b0 b1 b2 b3 had v → At o p s d₀ from budget d c0 c1 c2 c3 left u
+abbrev pub Keeps : Origin → Plan → ℕ → ℕ → List ℕ → ℕ → ℕ → ℕ → ℕ → ℕ → Spots → List ℕ → ℕ → ℕ → ℕ → ℕ → ℕ → Spots → Type 0
+Keeps o p from budget e b0 b1 b2 b3 had v d c0 c1 c2 c3 left u =
+    (d₀ : List ℕ) → At o p d₀ from budget e b0 b1 b2 b3 had v → At o p d₀ from budget d c0 c1 c2 c3 left u
 
 -- what is so when the loops are left
-pub record Over (o : Origin) (p : Plan) (s d₀ : List ℕ) (from budget : ℕ) (d : List ℕ) (left : ℕ) : Type 0 where
+pub record Over (o : Origin) (p : Plan) (d₀ : List ℕ) (from budget : ℕ) (d : List ℕ) (left : ℕ) : Type 0 where
   pub fund : left ≤ budget
   pub long : length d ≡ length d₀
   pub count : budget - left ≡ min budget (plan_total p - from)
-  pub bytes : d ≡ moved_by p (source_bytes o s d₀) from (budget - left) d₀
+  pub bytes : d ≡ moved_by p (source_bytes o d₀) from (budget - left) d₀
 
 -- the end of one row of e is the start of the next
 pub carry : (a c e : ℕ) → (a + (c + 1)) * e + 0 ≡ (a + c) * e + e
@@ -93,10 +93,10 @@ carry a c e = rw (← add_assoc) (add-zero ((a + c + 1) * e) ∙ add-mul (a + c)
 carry0 : (c e : ℕ) → (c + 1) * e + 0 ≡ c * e + e
 carry0 c e = add-zero ((c + 1) * e) ∙ add-mul c 1 e ∙ rw one-mul
 
-pub start : (o : Origin) (p : Plan) (s d : List ℕ) (from budget : ℕ) {b : Beginning} → Ready o p s d → from < plan_total p → b ≡ beginning_of p from
-    → At o p s d from budget d b.c0 b.c1 b.c2 b.c3 budget b.spots
+pub start : (o : Origin) (p : Plan) (d : List ℕ) (from budget : ℕ) {b : Beginning} → Ready o p d → from < plan_total p → b ≡ beginning_of p from
+    → At o p d from budget d b.c0 b.c1 b.c2 b.c3 budget b.spots
 unfolding moved_by beginning_of spot_at
-start o p s d from budget r h e =
+start o p d from budget r h e =
     let w = spread_good p r.axes from in
     rw e
     (record {
@@ -121,18 +121,18 @@ pub start_row : (p : Plan) (from : ℕ) {b : Beginning} → GoodAxes p → b ≡
 unfolding beginning_of
 start_row p from g e = rw e (spread_good p g from).in3
 
-module _ {o : Origin} {p : Plan} {s d₀ : List ℕ} {from budget : ℕ} {d : List ℕ} {c0 c1 c2 c3 left : ℕ} {u : Spots} (a : At o p s d₀ from budget d c0 c1 c2 c3 left u) where
+module _ {o : Origin} {p : Plan} {d₀ : List ℕ} {from budget : ℕ} {d : List ℕ} {c0 c1 c2 c3 left : ℕ} {u : Spots} (a : At o p d₀ from budget d c0 c1 c2 c3 left u) where
   pub at_length : length d ≡ length d₀
-  at_length = ap length a.bytes ∙ length_moved p (source_bytes o s d₀) from (budget - left) d₀
+  at_length = ap length a.bytes ∙ length_moved p (source_bytes o d₀) from (budget - left) d₀
 
-  pub at_ready : Ready o p s d₀ → Ready o p s d
-  at_ready r = still_ready o p s d₀ d at_length r
+  pub at_ready : Ready o p d₀ → Ready o p d
+  at_ready r = still_ready o p d₀ d at_length r
 
-  pub at_was_ready : Ready o p s d → Ready o p s d₀
-  at_was_ready r = still_ready o p s d d₀ (sym at_length) r
+  pub at_was_ready : Ready o p d → Ready o p d₀
+  at_was_ready r = still_ready o p d d₀ (sym at_length) r
 
   -- a run from here on
-  module _ (r : Ready o p s d) (f : length s + length d < 2 ^ 64) (w : InExtents p c0 c1 c2 c3) {outer : Bool} (q : outer ≡ (axis_kept p.d0 c0 && axis_kept p.d1 c1 && axis_kept p.d2 c2)) {run : Run} (l : Alike p.d3 outer c3 left run) where
+  module _ (r : Ready o p d) (f : length d < 2 ^ 63) (w : InExtents p c0 c1 c2 c3) {outer : Bool} (q : outer ≡ (axis_kept p.d0 c0 && axis_kept p.d1 c1 && axis_kept p.d2 c2)) {run : Run} (l : Alike p.d3 outer c3 left run) where
     its_within : (k : ℕ) → k < run.n → InExtents p c0 c1 c2 (c3 + k)
     its_within k h = record { in0 = w.in0; in1 = w.in1; in2 = w.in2; in3 = omega (arith, l.row) }
 
@@ -166,8 +166,9 @@ module _ {o : Origin} {p : Plan} {s d₀ : List ℕ} {from budget : ℕ} {d : Li
       held = λ k h. rw (its_place k h) (omega (arith, place_most p c0 c1 c2 (c3 + k) (its_within k h), r.need));
     }
 
-    pub run_reads : run.kept ≡ true → Readable o s d (course_of p u.here run)
+    pub run_reads : run.kept ≡ true → Readable o d (course_of p u.here run)
     run_reads t = record {
+      short = r.short;
       held = λ k h. rw (its_home t k h) (r.span c0 c1 c2 (c3 + k) (its_kept k h ∙ t));
       parted = λ i k h g.
           rw (its_home t i h, its_place k g)
@@ -176,17 +177,17 @@ module _ {o : Origin} {p : Plan} {s d₀ : List ℕ} {from budget : ℕ} {d : Li
     }
 
     -- and what it leaves: its bytes are the elements', and nothing else has changed
-    its_bytes : (k : ℕ) → k < run.n → plan_bytes p (source_bytes o s d₀) c0 c1 c2 (c3 + k) ≡ either_bytes run.kept (source_bytes o s d) (course_of p u.here run) k
+    its_bytes : (k : ℕ) → k < run.n → plan_bytes p (source_bytes o d₀) c0 c1 c2 (c3 + k) ≡ either_bytes run.kept (source_bytes o d) (course_of p u.here run) k
     unfolding plan_bytes
     its_bytes k h =
-        let v = source_bytes o s d in
-        sym (source_same o p s d₀ from (budget - left) c0 c1 c2 (c3 + k) (at_was_ready r) a.most)
-        ∙ ap (λ (y : List ℕ). plan_bytes p (source_bytes o s y) c0 c1 c2 (c3 + k)) (sym a.bytes)
+        let v = source_bytes o d in
+        sym (source_same o p d₀ from (budget - left) c0 c1 c2 (c3 + k) (at_was_ready r) a.most)
+        ∙ ap (λ (y : List ℕ). plan_bytes p (source_bytes o y) c0 c1 c2 (c3 + k)) (sym a.bytes)
         ∙ rw (its_kept k h) (pick_same run.kept (padding p.size p.pad) (λ t. rw (its_home t k h)))
 
     pub turn : {d' : List ℕ} {u' : Spots}
-        → (u' ≡ after_run u p.d3 run.n) × (d' ≡ run_moved o p s d u.here run)
-        → At o p s d₀ from budget d' c0 c1 c2 (c3 + run.n) (left - run.n) u'
+        → (u' ≡ after_run u p.d3 run.n) × (d' ≡ run_moved o p d u.here run)
+        → At o p d₀ from budget d' c0 c1 c2 (c3 + run.n) (left - run.n) u'
     turn {d'} t =
         let m : budget - (left - run.n) ≡ budget - left + run.n = omega (arith, a.fund, l.cut) in
         let z = number_lt p (its_within (run.n - 1) (omega (arith, l.some))) in
@@ -202,10 +203,10 @@ module _ {o : Origin} {p : Plan} {s d₀ : List ℕ} {from budget : ℕ} {d : Li
           most = omega (arith, a.number, a.fund, l.cut, l.some);
           bytes =
               t.1
-              ∙ sym (run_moved_lem p (source_bytes o s d₀) d _ u.here.to c0 c1 c2 c3 run.n a.number its_within its_place its_bytes)
-              ∙ ap (moved_by p (source_bytes o s d₀) (from + (budget - left)) run.n) a.bytes
-              ∙ sym (moved_add p (source_bytes o s d₀) from (budget - left) run.n d₀)
-              ∙ ap (λ (j : ℕ). moved_by p (source_bytes o s d₀) from j d₀) (sym m);
+              ∙ sym (run_moved_lem p (source_bytes o d₀) d _ u.here.to c0 c1 c2 c3 run.n a.number its_within its_place its_bytes)
+              ∙ ap (moved_by p (source_bytes o d₀) (from + (budget - left)) run.n) a.bytes
+              ∙ sym (moved_add p (source_bytes o d₀) from (budget - left) run.n d₀)
+              ∙ ap (λ (j : ℕ). moved_by p (source_bytes o d₀) from j d₀) (sym m);
           slab = a.slab;
           layer = a.layer;
           row = a.row;
@@ -229,8 +230,8 @@ module _ {o : Origin} {p : Plan} {s d₀ : List ℕ} {from budget : ℕ} {d : Li
         let z = number_lt p last in
         omega (arith, a.number, g.some)
 
-    rows_on : Ready o p s d → {d' : List ℕ} → d' ≡ moved_from o p s d (from + (budget - left)) n
-        → At o p s d₀ from budget d' c0 c1 c2 (c3 + n) (left - n) (after_run u p.d3 n)
+    rows_on : Ready o p d → {d' : List ℕ} → d' ≡ moved_from o p d (from + (budget - left)) n
+        → At o p d₀ from budget d' c0 c1 c2 (c3 + n) (left - n) (after_run u p.d3 n)
     rows_on r {d'} t =
         let paid = g.paid in
         let m : budget - (left - n) ≡ budget - left + n = omega (arith, a.fund) in
@@ -245,11 +246,11 @@ module _ {o : Origin} {p : Plan} {s d₀ : List ℕ} {from budget : ℕ} {d : Li
           most = omega (arith, row_fits);
           bytes =
               t
-              ∙ moved_same p (source_bytes o s d) (source_bytes o s d₀) (from + (budget - left)) n d
-              (λ x0 x1 x2 x3. ap (λ (y : List ℕ). plan_bytes p (source_bytes o s y) x0 x1 x2 x3) a.bytes ∙ source_same o p s d₀ from (budget - left) x0 x1 x2 x3 (at_was_ready r) a.most)
-              ∙ ap (moved_by p (source_bytes o s d₀) (from + (budget - left)) n) a.bytes
-              ∙ sym (moved_add p (source_bytes o s d₀) from (budget - left) n d₀)
-              ∙ ap (λ (j : ℕ). moved_by p (source_bytes o s d₀) from j d₀) (sym m);
+              ∙ moved_same p (source_bytes o d) (source_bytes o d₀) (from + (budget - left)) n d
+              (λ x0 x1 x2 x3. ap (λ (y : List ℕ). plan_bytes p (source_bytes o y) x0 x1 x2 x3) a.bytes ∙ source_same o p d₀ from (budget - left) x0 x1 x2 x3 (at_was_ready r) a.most)
+              ∙ ap (moved_by p (source_bytes o d₀) (from + (budget - left)) n) a.bytes
+              ∙ sym (moved_add p (source_bytes o d₀) from (budget - left) n d₀)
+              ∙ ap (λ (j : ℕ). moved_by p (source_bytes o d₀) from j d₀) (sym m);
           slab = a.slab;
           layer = a.layer;
           row = a.row;
@@ -257,14 +258,14 @@ module _ {o : Origin} {p : Plan} {s d₀ : List ℕ} {from budget : ℕ} {d : Li
           home = λ h v. absurd (omega (arith, g.full h, r.axes.in3.within));
         }
 
-    pub row_turn : Ready o p s d → {k : ℕ} {d' : List ℕ} → k ≡ min n (plan_total p - (from + (budget - left))) → d' ≡ moved_from o p s d (from + (budget - left)) k
-        → At o p s d₀ from budget d' c0 c1 c2 (c3 + n) (left - n) (after_run u p.d3 n)
+    pub row_turn : Ready o p d → {k : ℕ} {d' : List ℕ} → k ≡ min n (plan_total p - (from + (budget - left))) → d' ≡ moved_from o p d (from + (budget - left)) k
+        → At o p d₀ from budget d' c0 c1 c2 (c3 + n) (left - n) (after_run u p.d3 n)
     row_turn r f t =
-        rows_on r (t ∙ ap (λ (j : ℕ). moved_by p (source_bytes o s d) (from + (budget - left)) j d) (f ∙ least_all (from + (budget - left)) n (plan_total p) row_fits))
+        rows_on r (t ∙ ap (λ (j : ℕ). moved_by p (source_bytes o d) (from + (budget - left)) j d) (f ∙ least_all (from + (budget - left)) n (plan_total p) row_fits))
 
   -- a row, a layer and a slab are done
   pub next_row_lem : {v : Spots} → c1 < p.d1.extent → c2 < p.d2.extent → p.d3.extent ≤ c3 → v ≡ next_row u p.d2 (c2 + 1)
-      → At o p s d₀ from budget d c0 c1 (c2 + 1) 0 left v
+      → At o p d₀ from budget d c0 c1 (c2 + 1) 0 left v
   next_row_lem h1 h l g =
       let e : c3 ≡ p.d3.extent = omega (arith, a.in3) in
       let n = onward_of u.row p.d2 (c2 + 1) in
@@ -289,7 +290,7 @@ module _ {o : Origin} {p : Plan} {s d₀ : List ℕ} {from budget : ℕ} {d : Li
       })
 
   pub next_layer_lem : {v : Spots} → c1 < p.d1.extent → p.d2.extent ≤ c2 → v ≡ next_layer u p.d1 (c1 + 1)
-      → At o p s d₀ from budget d c0 (c1 + 1) 0 c3 left v
+      → At o p d₀ from budget d c0 (c1 + 1) 0 c3 left v
   next_layer_lem h l g =
       let e : c2 ≡ p.d2.extent = omega (arith, a.in2) in
       let z : c3 ≡ 0 = a.rest2 l in
@@ -315,7 +316,7 @@ module _ {o : Origin} {p : Plan} {s d₀ : List ℕ} {from budget : ℕ} {d : Li
       })
 
   pub next_slab_lem : {v : Spots} → p.d1.extent ≤ c1 → v ≡ next_slab u p.d0 (c0 + 1)
-      → At o p s d₀ from budget d (c0 + 1) 0 c2 c3 left v
+      → At o p d₀ from budget d (c0 + 1) 0 c2 c3 left v
   next_slab_lem l g =
       let e : c1 ≡ p.d1.extent = omega (arith, a.in1) in
       let y = (a.rest1 l).0 in
@@ -342,7 +343,7 @@ module _ {o : Origin} {p : Plan} {s d₀ : List ℕ} {from budget : ℕ} {d : Li
       })
 
   -- the budget is spent
-  pub at_spent : left ≡ 0 → Over o p s d₀ from budget d left
+  pub at_spent : left ≡ 0 → Over o p d₀ from budget d left
   at_spent e =
       record {
         fund = a.fund;
@@ -352,7 +353,7 @@ module _ {o : Origin} {p : Plan} {s d₀ : List ℕ} {from budget : ℕ} {d : Li
       }
 
   -- nothing is left to move
-  pub at_end : p.d0.extent ≤ c0 → Over o p s d₀ from budget d left
+  pub at_end : p.d0.extent ≤ c0 → Over o p d₀ from budget d left
   unfolding plan_total
   at_end h =
       let x1 = mul-le-mul_right p.d1.extent h in

@@ -56,7 +56,7 @@ module _ (t : Tensor) (c : Config) (z : (room_fault t c).status ≡ 0) where
 
 -- between a part p of the source and a part r of the destination
 module _ (t : Tensor) (c : Config) (o : Origin) (p r : Part) (s d : List ℕ) (z : (room_fault t c).status ≡ 0)
-    (ps : p.start + p.length ≤ length (source_bytes o s d)) (rd : r.start + r.length ≤ length d)
+    (ps : p.start + p.length ≤ length (source_bytes o d)) (rd : r.start + r.length ≤ length d)
     (apart : BytesApart o p.start (p.start + p.length) r.start (r.start + r.length)) (long : span t ≤ p.length) (enough : need t c ≤ r.length) where
   abbrev all : Row
   all = outermost_of t c o p.start r.start
@@ -84,11 +84,11 @@ module _ (t : Tensor) (c : Config) (o : Origin) (p r : Part) (s d : List ℕ) (z
   unfolding stretch_in moved
   none_yet first last =
       let k : min last (first_of all t.rank) - first ≡ 0 = omega (arith, min-le_right last (first_of all t.rank), zero-mul (elements_in all t.rank)) in
-      sym (ap (λ (i : ℕ). sets d r.start (moved t c (bytes_of p (source_bytes o s d)) first i (bytes_of r d))) k ∙ put_back d r.start r.length rd)
+      sym (ap (λ (i : ℕ). sets d r.start (moved t c (bytes_of p (source_bytes o d)) first i (bytes_of r d))) k ∙ put_back d r.start r.length rd)
 
   all_stored : (first last : ℕ) {out : List ℕ}
       → ((h : Stands all t.rank s d) → Comes h first last (first_of all t.rank) (past_of all t.rank) out)
-      → out ≡ sets d r.start (moved t c (bytes_of p (source_bytes o s d)) first (min last (total t c) - first) (bytes_of r d))
+      → out ≡ sets d r.start (moved t c (bytes_of p (source_bytes o d)) first (min last (total t c) - first) (bytes_of r d))
   unfolding stretch_in all_stands
   all_stored first last f =
       f all_stands d (none_yet first last) ∙ ap (λ (i : ℕ). stretch_in all p r s first last i d) all_elements

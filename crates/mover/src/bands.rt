@@ -98,28 +98,27 @@ fn patch(plan: Plan, at: usize, to: usize, rows: usize, columns: usize) -> Patch
 
 // Moves a band, whose first row starts at `row`: what is padded in front, what is kept, and what is padded behind.
 pub(crate) fn move_band(
-    src: &[u8],
+    origin: Origin<'_>,
     dst: &mut [u8],
-    origin: Origin,
     plan: Plan,
     f: Frame,
     row: Spot,
     band: Band,
 )
     requires framed { Framed plan.d3 f }
-    requires banded { Banded origin plan src.now dst.old row band }
-    ensures { dst.new ≡ band_moved origin plan src.now dst.old row band }
+    requires banded { Banded origin plan dst.old row band }
+    ensures { dst.new ≡ band_moved origin.entry plan dst.old row band }
 {
     let x = plan.d3;
     let n = band.rows;
     if band.kept {
         if x.count == x.extent {
-            copy_patch(src, dst, origin, patch(plan, row.at, row.to, n, x.extent));
+            copy_patch(origin, dst, patch(plan, row.at, row.to, n, x.extent));
             return;
         }
         pad_patch(dst, patch(plan, row.at, row.to, n, x.pre));
         let first = wrapping_add_usize(row.to, f.front);
-        copy_patch(src, dst, origin, patch(plan, row.at, first, n, x.count));
+        copy_patch(origin, dst, patch(plan, row.at, first, n, x.count));
         if let Some(rear) = f.rear {
             let last = wrapping_add_usize(row.to, rear);
             let columns = x.extent - x.pre - x.count;

@@ -22,15 +22,15 @@ pub(crate) fn bytes(size: usize, n: usize) -> usize
 
 // n bytes from `at` of the source to `to`. Within one memory the two blocks share no byte, so it is cut in two between them: `copy_within`
 // would go byte by byte, and take longer.
-pub(crate) fn copy_bytes(src: &[u8], dst: &mut [u8], origin: Origin, at: usize, to: usize, n: usize)
-    requires { Blocked origin src.now dst.old at to n }
-    ensures { dst.new ≡ element_copied origin src.now dst.old at to n }
+pub(crate) fn copy_bytes(origin: Origin<'_>, dst: &mut [u8], at: usize, to: usize, n: usize)
+    requires { Blocked origin dst.old at to n }
+    ensures { dst.new ≡ element_copied origin.entry dst.old at to n }
 {
     if n == 0 {
         return;
     }
     match origin {
-        Origin::Lent => dst[to..to + n].copy_from_slice(&src[at..at + n]),
+        Origin::Lent(src) => dst[to..to + n].copy_from_slice(&src[at..at + n]),
         Origin::Inside if at < to => {
             let (front, back) = dst.split_at_mut(to);
             back[..n].copy_from_slice(&front[at..at + n]);

@@ -34,19 +34,19 @@ fn pairs_in(len: usize, at: usize, n: usize) -> usize
 
 // A run of single bytes, every second of the source's, to bytes side by side; tells where the next is stored. As long as 16 are left it
 // takes as many: source and destination, which may be one memory, cannot both be lent in chunks.
-fn copy_evens(src: &[u8], dst: &mut [u8], origin: Origin, c: Course) -> usize
+fn copy_evens(origin: Origin<'_>, dst: &mut [u8], c: Course) -> usize
     requires evens { Evens c }
     requires writable { Writable dst.old c }
-    requires readable { Readable origin src.now dst.old c }
+    requires readable { Readable origin dst.old c }
     ensures next { result ≡ along c.to c.stride c.n }
-    ensures written { dst.new ≡ run_copied origin src.now dst.old c }
+    ensures written { dst.new ≡ run_copied origin.entry dst.old c }
 {
-    let n = pairs_in(source(src, dst, origin).len(), c.at, c.n);
+    let n = pairs_in(source(origin, dst).len(), c.at, c.n);
     let mut at = c.at;
     let mut to = c.to;
     let mut k = 0;
     while 16 <= n - k {
-        let a = read_evens(source(src, dst, origin), at);
+        let a = read_evens(source(origin, dst), at);
         dst[to..to + 16].copy_from_slice(&a);
         at = at.wrapping_add(32);
         to = to.wrapping_add(16);
@@ -61,7 +61,7 @@ fn copy_evens(src: &[u8], dst: &mut [u8], origin: Origin, c: Course) -> usize
         n: c.n - k,
         ..c
     };
-    copy_each(src, dst, origin, rest)
+    copy_each(origin, dst, rest)
 }
 
 // Whether a run takes every second byte to bytes side by side.
@@ -79,20 +79,19 @@ fn are_evens(c: Course) -> bool
 // A run that is not side by side in both: where the compiler is told that it is in one of them, it makes a shorter loop. Out of line, so
 // that a run of bytes saves nothing for it.
 #[inline(never)]
-fn copy_apart(src: &[u8], dst: &mut [u8], origin: Origin, c: Course) -> usize
+fn copy_apart(origin: Origin<'_>, dst: &mut [u8], c: Course) -> usize
     requires writable { Writable dst.old c }
-    requires readable { Readable origin src.now dst.old c }
+    requires readable { Readable origin dst.old c }
     ensures next { result ≡ along c.to c.stride c.n }
-    ensures written { dst.new ≡ run_copied origin src.now dst.old c }
+    ensures written { dst.new ≡ run_copied origin.entry dst.old c }
 {
     if c.stride == c.size {
         if are_evens(c) {
-            return copy_evens(src, dst, origin, c);
+            return copy_evens(origin, dst, c);
         }
         return copy_each(
-            src,
-            dst,
             origin,
+            dst,
             Course {
                 stride: c.size,
                 ..c
@@ -100,44 +99,38 @@ fn copy_apart(src: &[u8], dst: &mut [u8], origin: Origin, c: Course) -> usize
         );
     }
     if c.jump == c.size {
-        return copy_each(src, dst, origin, Course { jump: c.size, ..c });
+        return copy_each(origin, dst, Course { jump: c.size, ..c });
     }
-    copy_each(src, dst, origin, c)
+    copy_each(origin, dst, c)
 }
 
 // A run of kept elements; tells where the next is stored. Side by side in both they are a run of bytes.
-pub(crate) fn copy_run(src: &[u8], dst: &mut [u8], origin: Origin, c: Course) -> usize
+pub(crate) fn copy_run(origin: Origin<'_>, dst: &mut [u8], c: Course) -> usize
     requires writable { Writable dst.old c }
-    requires readable { Readable origin src.now dst.old c }
+    requires readable { Readable origin dst.old c }
     ensures next { result ≡ along c.to c.stride c.n }
-    ensures written { dst.new ≡ run_copied origin src.now dst.old c }
+    ensures written { dst.new ≡ run_copied origin.entry dst.old c }
 {
     if c.stride == c.size && c.jump == c.size {
         let n = bytes(c.size, c.n);
-        copy_bytes(src, dst, origin, c.at, c.to, n);
+        copy_bytes(origin, dst, c.at, c.to, n);
         return c.to.wrapping_add(n);
     }
-    copy_apart(src, dst, origin, c)
+    copy_apart(origin, dst, c)
 }
 
 // A run, of kept elements or of padding; tells where the next element is stored. For a few elements no way is looked for.
-pub(crate) fn move_course(
-    src: &[u8],
-    dst: &mut [u8],
-    origin: Origin,
-    c: Course,
-    kept: bool,
-) -> usize
+pub(crate) fn move_course(origin: Origin<'_>, dst: &mut [u8], c: Course, kept: bool) -> usize
     requires writable { Writable dst.old c }
-    requires readable { kept ≡ true → Readable origin src.now dst.old c }
+    requires readable { kept ≡ true → Readable origin dst.old c }
     ensures next { result ≡ along c.to c.stride c.n }
-    ensures written { dst.new ≡ course_moved origin kept src.now dst.old c }
+    ensures written { dst.new ≡ course_moved origin.entry kept dst.old c }
 {
     if kept {
         if c.n < 16 {
-            return copy_each(src, dst, origin, c);
+            return copy_each(origin, dst, c);
         }
-        return copy_run(src, dst, origin, c);
+        return copy_run(origin, dst, c);
     }
     pad_run(dst, c)
 }

@@ -6,10 +6,10 @@ ghost use Rattle.mover.specs.Private.Adding.{along};
 ghost use Rattle.plane.specs.Planes.{Sized};
 ghost use Rattle.mover.specs.Private.Runs.{element_copied, run_copied, run_padded, Readable, Writable};
 
-// Where the source's bytes stand: in the slice lent for reading, or in the destination's own.
+// Where the source's bytes stand: in a slice lent for reading, or in the destination itself.
 #[derive(Clone, Copy)]
-pub(crate) enum Origin {
-    Lent,
+pub(crate) enum Origin<'a> {
+    Lent(&'a [u8]),
     Inside,
 }
 
@@ -27,23 +27,23 @@ pub(crate) struct Course {
 }
 
 // The source's bytes, wherever they stand.
-pub(crate) fn source<'a>(src: &'a [u8], dst: &'a [u8], origin: Origin) -> &'a [u8]
-    ensures { result.now ≡ source_bytes origin src.now dst.now }
+pub(crate) fn source<'a>(origin: Origin<'a>, dst: &'a [u8]) -> &'a [u8]
+    ensures { result.now ≡ source_bytes origin.entry dst.now }
 {
     match origin {
-        Origin::Lent => src,
+        Origin::Lent(src) => src,
         Origin::Inside => dst,
     }
 }
 
 // The bytes of the source's element at `at`, to `to`, in straight code for each size: all are read before one is stored.
-pub(crate) fn copy(src: &[u8], dst: &mut [u8], origin: Origin, at: usize, to: usize, size: usize)
+pub(crate) fn copy(origin: Origin<'_>, dst: &mut [u8], at: usize, to: usize, size: usize)
     requires sized { Sized size }
-    requires size_in_bounds { at + size ≤ length (source_bytes origin src.now dst.old) }
+    requires size_in_bounds { at + size ≤ length (source_bytes origin dst.old) }
     requires size_in_bounds_2 { to + size ≤ length dst.old }
-    ensures { dst.new ≡ element_copied origin src.now dst.old at to size }
+    ensures { dst.new ≡ element_copied origin.entry dst.old at to size }
 {
-    let bytes = source(src, dst, origin);
+    let bytes = source(origin, dst);
     let a = bytes[at];
     if size == 1 {
         dst[to] = a;
@@ -70,16 +70,16 @@ pub(crate) fn copy(src: &[u8], dst: &mut [u8], origin: Origin, at: usize, to: us
 }
 
 // A run of kept elements, one by one; tells where the next is stored. The size is tested within: the compiler makes a loop for each.
-pub(crate) fn copy_each(src: &[u8], dst: &mut [u8], origin: Origin, c: Course) -> usize
+pub(crate) fn copy_each(origin: Origin<'_>, dst: &mut [u8], c: Course) -> usize
     requires writable { Writable dst.old c }
-    requires readable { Readable origin src.now dst.old c }
+    requires readable { Readable origin dst.old c }
     ensures next { result ≡ along c.to c.stride c.n }
-    ensures written { dst.new ≡ run_copied origin src.now dst.old c }
+    ensures written { dst.new ≡ run_copied origin.entry dst.old c }
 {
     let mut at = c.at;
     let mut to = c.to;
     for _ in 0..c.n {
-        copy(src, dst, origin, at, to, c.size);
+        copy(origin, dst, at, to, c.size);
         at = at.wrapping_add(c.jump);
         to = to.wrapping_add(c.stride);
     }

@@ -15,11 +15,11 @@ use crate::spots::{Spot, Spots, next_layer, next_row, next_slab};
 use crate::start::begin;
 
 // Moves a run, kept elements or padding, and tells the spots after it: where to store the next element of the row.
-fn move_run(src: &[u8], dst: &mut [u8], origin: Origin, plan: Plan, s: Spots, run: Run) -> Spots
+fn move_run(origin: Origin<'_>, dst: &mut [u8], plan: Plan, s: Spots, run: Run) -> Spots
     requires writable { Writable dst.old (course_of plan s.here run) }
-    requires readable { run.kept ≡ true → Readable origin src.now dst.old (course_of plan s.here run) }
+    requires readable { run.kept ≡ true → Readable origin dst.old (course_of plan s.here run) }
     ensures next { result ≡ after_run s plan.d3 run.n }
-    ensures written { dst.new ≡ run_moved origin plan src.now dst.old s.here run }
+    ensures written { dst.new ≡ run_moved origin.entry plan dst.old s.here run }
 {
     let at = s.here.at;
     let pad = plan.pad;
@@ -32,7 +32,7 @@ fn move_run(src: &[u8], dst: &mut [u8], origin: Origin, plan: Plan, s: Spots, ru
         pad,
         n: run.n,
     };
-    let to = move_course(src, dst, origin, course, run.kept);
+    let to = move_course(origin, dst, course, run.kept);
     let here = Spot { to, at };
     Spots { here, ..s }
 }
@@ -41,17 +41,16 @@ fn move_run(src: &[u8], dst: &mut [u8], origin: Origin, plan: Plan, s: Spots, ru
 // kept is decided where they change. The form is the paper's: nested loops over four destination coordinates, left by a label when the
 // budget reaches zero.
 pub(crate) fn by_runs(
-    src: &[u8],
+    origin: Origin<'_>,
     dst: &mut [u8],
-    origin: Origin,
     plan: Plan,
     from: usize,
     budget: usize,
 ) -> usize
-    requires ready { Ready origin plan src.now dst.old }
+    requires ready { Ready origin plan dst.old }
     requires from_bound { from < plan_total plan }
     ensures counted { result ≡ min budget (plan_total plan - from) }
-    ensures written { dst.new ≡ moved_from origin plan src.now dst.old from result }
+    ensures written { dst.new ≡ moved_from origin.entry plan dst.old from result }
 {
     let start = begin(plan, from);
     let mut c0 = start.c0;
@@ -74,7 +73,7 @@ pub(crate) fn by_runs(
                     let run = run_at(plan.d3, kept2, c3, left);
                     c3 += run.n;
                     left -= run.n;
-                    spots = move_run(src, dst, origin, plan, spots, run);
+                    spots = move_run(origin, dst, plan, spots, run);
                 }
                 c3 = 0;
                 c2 += 1;

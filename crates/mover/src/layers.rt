@@ -14,17 +14,16 @@ use crate::start::begin;
 // Writes the elements numbered from, from + 1, .. and tells how many: the budget, or what is left. The form of the loops is the paper's,
 // as in `by_runs`.
 pub(crate) fn by_bands(
-    src: &[u8],
+    origin: Origin<'_>,
     dst: &mut [u8],
-    origin: Origin,
     plan: Plan,
     from: usize,
     budget: usize,
 ) -> usize
-    requires ready { Ready origin plan src.now dst.old }
+    requires ready { Ready origin plan dst.old }
     requires from_bound { from < plan_total plan }
     ensures counted { result ≡ min budget (plan_total plan - from) }
-    ensures written { dst.new ≡ moved_from origin plan src.now dst.old from result }
+    ensures written { dst.new ≡ moved_from origin.entry plan dst.old from result }
 {
     let start = begin(plan, from);
     let frame = frame_of(plan);
@@ -45,7 +44,7 @@ pub(crate) fn by_bands(
                 if c3 == 0 {
                     let band = band_at(plan.d2, plan.d3.extent, frame.most, kept1, c2, left);
                     if 0 < band.rows {
-                        move_band(src, dst, origin, plan, frame, spots.row, band);
+                        move_band(origin, dst, plan, frame, spots.row, band);
                         c2 += band.rows;
                         left -= band.elements;
                         spots = behind(spots, plan.d2, c2);
@@ -53,7 +52,7 @@ pub(crate) fn by_bands(
                     }
                 }
                 let n = (plan.d3.extent - c3).min(left);
-                by_runs(src, dst, origin, plan, from + (budget - left), n);
+                by_runs(origin, dst, plan, from + (budget - left), n);
                 left -= n;
                 if left == 0 {
                     break 'all;

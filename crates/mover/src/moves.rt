@@ -16,7 +16,7 @@ pub fn move_plane(t: Tensor, c: Config, src: &[u8], dst: &mut [u8]) -> Answer
 {
     match judged(t, c, src.len(), dst.len()) {
         Ok(a) => {
-            advance(src, dst, Origin::Lent, plan_of(t, c, a), 0, total(a));
+            advance(Origin::Lent(src), dst, plan_of(t, c, a), 0, total(a));
             a
         }
         Err(f) => Answer::refused(f),

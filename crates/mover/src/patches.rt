@@ -67,19 +67,19 @@ pub(crate) fn pad_rows(dst: &mut [u8], p: Patch)
 }
 
 // Kept elements, row by row. For short rows no way is looked for.
-pub(crate) fn copy_rows(src: &[u8], dst: &mut [u8], origin: Origin, p: Patch)
+pub(crate) fn copy_rows(origin: Origin<'_>, dst: &mut [u8], p: Patch)
     requires patch_fits { PatchFits dst.old p }
-    requires patch_reads { PatchReads origin src.now dst.old p }
-    ensures { dst.new ≡ patch_copied origin src.now dst.old p }
+    requires patch_reads { PatchReads origin dst.old p }
+    ensures { dst.new ≡ patch_copied origin.entry dst.old p }
 {
     let mut at = p.at;
     let mut to = p.to;
     for _ in 0..p.rows {
         let c = row(p, at, to);
         if c.n < 16 {
-            copy_each(src, dst, origin, c);
+            copy_each(origin, dst, c);
         } else {
-            copy_run(src, dst, origin, c);
+            copy_run(origin, dst, c);
         }
         at = at.wrapping_add(p.row_jump);
         to = to.wrapping_add(p.row_stride);
@@ -87,17 +87,17 @@ pub(crate) fn copy_rows(src: &[u8], dst: &mut [u8], origin: Origin, p: Patch)
 }
 
 // The same where the elements of a row stand side by side, in source and destination: each row is a run of bytes.
-pub(crate) fn copy_lines(src: &[u8], dst: &mut [u8], origin: Origin, p: Patch)
+pub(crate) fn copy_lines(origin: Origin<'_>, dst: &mut [u8], p: Patch)
     requires lines { Lines p }
     requires patch_fits { PatchFits dst.old p }
-    requires patch_reads { PatchReads origin src.now dst.old p }
-    ensures { dst.new ≡ patch_copied origin src.now dst.old p }
+    requires patch_reads { PatchReads origin dst.old p }
+    ensures { dst.new ≡ patch_copied origin.entry dst.old p }
 {
     let n = bytes(p.size, p.columns);
     let mut at = p.at;
     let mut to = p.to;
     for _ in 0..p.rows {
-        copy_bytes(src, dst, origin, at, to, n);
+        copy_bytes(origin, dst, at, to, n);
         at = at.wrapping_add(p.row_jump);
         to = to.wrapping_add(p.row_stride);
     }

@@ -2,7 +2,7 @@
 ghost use Rattle.std.specs.Prelude.{◌≡◌, ◌+◌, ◌≤◌, true, [], length};
 ghost use Rattle.faults.specs.Faults.{lowest, outcome};
 ghost use Rattle.plane.specs.Arrays.{at, firsts};
-ghost use Rattle.mover.specs.declared.elements.Origin.TheVariants.{Lent};
+ghost use Rattle.mover.specs.Private.Elements.{source_bytes};
 ghost use Rattle.mover.specs.Pixel.{bad_coordinate, pixel_fault, pixel_of};
 ghost use Rattle.mover.specs.Private.Pixels.{Pickable, row_at};
 ghost use Rattle.mover.specs.Private.Rows.{size_of, row_byte};
@@ -34,11 +34,11 @@ fn pixel_fault(t: Tensor, c: Config, len: usize, x: [u32; 4]) -> Result<(), Faul
 }
 
 // The element at this coordinate, as the plain engine comes to it: inward by one entry for each dimension.
-fn row_at(t: Tensor, c: Config, x: [u32; 4]) -> Row
+fn row_at<'a>(t: Tensor, c: Config, src: &'a [u8], x: [u32; 4]) -> Row<'a>
     requires { Pickable t c x }
-    ensures { result ≡ row_at t c x }
+    ensures { result ≡ row_at t c src.entry x }
 {
-    let mut row = outermost(t, c, Origin::Lent, 0, 0);
+    let mut row = outermost(t, c, Origin::Lent(src), 0, 0);
     for i in 0..t.rank {
         row = inward(row, i as usize, x[i as usize]);
     }
@@ -46,15 +46,14 @@ fn row_at(t: Tensor, c: Config, x: [u32; 4]) -> Row
 }
 
 // The bytes of an element, with 0 behind them. Its source is lent, so nothing of a destination is read.
-fn bytes_of(src: &[u8], row: Row) -> [u8; 4]
+fn bytes_of(row: Row<'_>) -> [u8; 4]
     requires row_bound { size_of row ≤ 4 }
-    requires origin_value { row.origin ≡ Lent }
-    requires row_in_bounds { row.kept ≡ true → row.at + size_of row ≤ length src.now }
-    ensures { result ≡ firsts (size_of row) (row_byte row src.now []) }
+    requires row_in_bounds { row.kept ≡ true → row.at + size_of row ≤ length (source_bytes row.origin []) }
+    ensures { result ≡ firsts (size_of row.entry) (row_byte row.entry []) }
 {
     let mut bytes = [0u8; 4];
     for b in 0..row.tensor.element_size as usize {
-        bytes[b] = byte(src, &[0u8; 0], row, b);
+        bytes[b] = byte(&[0u8; 0], row, b);
     }
     bytes
 }
@@ -66,11 +65,11 @@ pub fn pixel(t: Tensor, c: Config, src: &[u8], at: [u32; 4]) -> PixelAnswer
 {
     match pixel_fault(t, c, src.len(), at) {
         Ok(()) => {
-            let row = row_at(t, c, at);
+            let row = row_at(t, c, src, at);
             PixelAnswer {
                 status: 0,
                 dim: 0,
-                bytes: bytes_of(src, row),
+                bytes: bytes_of(row),
                 padding: !row.kept,
             }
         }

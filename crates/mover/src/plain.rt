@@ -14,10 +14,10 @@ use plane::{Config, Tensor};
 // A row: the elements of the destination that have the same coordinates in its first dimensions. Its depth is how many dimensions are
 // left: with one it is a row of the paper, with none an element, with all of them the destination.
 #[derive(Clone, Copy)]
-pub(crate) struct Row {
+pub(crate) struct Row<'a> {
     pub(crate) tensor: Tensor,
     pub(crate) config: Config,
-    pub(crate) origin: Origin, // where the source's bytes stand: in src, or in dst itself
+    pub(crate) origin: Origin<'a>, // where the source's bytes stand
     pub(crate) source: plane::Source, // the sizes of the source's strides
     pub(crate) answer: plane::Answer, // the destination's extents and strides
     pub(crate) number: u64, // how many rows of its depth come before it
@@ -27,16 +27,16 @@ pub(crate) struct Row {
 }
 
 // Byte b of an element: the source's, or the fill's, the lowest first.
-pub(crate) fn byte(src: &[u8], dst: &[u8], row: Row, b: usize) -> u8
+pub(crate) fn byte(dst: &[u8], row: Row<'_>, b: usize) -> u8
     requires b_bound { b < 4 }
-    requires b_in_bounds { row.kept ≡ true → row.at + b < length (source_bytes row.origin src.now dst.now) }
-    ensures { result ≡ row_byte row src.now dst.now b }
+    requires b_in_bounds { row.kept ≡ true → row.at + b < length (source_bytes row.origin dst.now) }
+    ensures { result ≡ row_byte row.entry dst.now b }
 {
     if row.kept {
         let at = row.at + b;
         let origin = row.origin;
         match origin {
-            Origin::Lent => src[at],
+            Origin::Lent(src) => src[at],
             Origin::Inside => dst[at],
         }
     } else {
@@ -45,12 +45,12 @@ pub(crate) fn byte(src: &[u8], dst: &[u8], row: Row, b: usize) -> u8
 }
 
 // Stores an element.
-fn store(src: &[u8], dst: &mut [u8], row: Row)
-    requires { Storable row src.now dst.old }
-    ensures { dst.new ≡ row_stored row src.now dst.old }
+fn store(dst: &mut [u8], row: Row<'_>)
+    requires { Storable row dst.old }
+    ensures { dst.new ≡ row_stored row.entry dst.old }
 {
     for b in 0..row.tensor.element_size as usize {
-        dst[row.place + b] = byte(src, dst, row, b);
+        dst[row.place + b] = byte(dst, row, b);
     }
 }
 
@@ -69,9 +69,9 @@ fn kept_count(t: Tensor, config: Config, s: usize) -> u32
 }
 
 // The row at coordinate c of destination dimension i, which is source dimension s = perm[i].
-pub(crate) fn inward(mut row: Row, i: usize, c: u32) -> Row
+pub(crate) fn inward<'a>(mut row: Row<'a>, i: usize, c: u32) -> Row<'a>
     requires { Passable row i c }
-    ensures { result ≡ inward_of row i c }
+    ensures { result ≡ inward_of row.entry i c }
 {
     let t = row.tensor;
     let config = row.config;
@@ -102,16 +102,16 @@ pub(crate) fn inward(mut row: Row, i: usize, c: u32) -> Row
 
 // Of the elements numbered first to end - 1, stores those in a row of that depth. Tells whether any come after the row; where none do,
 // its callers stop too.
-fn store_row(src: &[u8], dst: &mut [u8], row: Row, depth: u8, first: u64, end: u64) -> bool
-    requires stands { Stands row depth src.now dst.old }
+fn store_row(dst: &mut [u8], row: Row<'_>, depth: u8, first: u64, end: u64) -> bool
+    requires stands { Stands row depth dst.old }
     requires depth_bound { first_of row depth < end }
-    ensures told { result ≡ nat_lt (past_of row depth) end }
-    ensures stored { (h : Stands row depth src.now dst.old) → Comes h first end (first_of row depth) (past_of row depth) dst.new }
+    ensures told { result ≡ nat_lt (past_of row.entry depth) end }
+    ensures stored { (h : Stands row.entry depth dst.old) → Comes h first end (first_of row.entry depth) (past_of row.entry depth) dst.new }
 {
     if depth == 0 {
         let is_asked = first <= row.number;
         if is_asked {
-            store(src, dst, row);
+            store(dst, row);
         }
         return row.number + 1 < end;
     }
@@ -119,7 +119,7 @@ fn store_row(src: &[u8], dst: &mut [u8], row: Row, depth: u8, first: u64, end: u
     let i = (row.tensor.rank - depth) as usize;
     for c in 0..answer.extent[i] {
         let next = inward(row, i, c);
-        if !store_row(src, dst, next, depth - 1, first, end) {
+        if !store_row(dst, next, depth - 1, first, end) {
             return false;
         }
     }
@@ -127,8 +127,8 @@ fn store_row(src: &[u8], dst: &mut [u8], row: Row, depth: u8, first: u64, end: u
 }
 
 // The destination of an accepted move as one row, which starts at byte `place`; the source starts at byte `at`.
-pub(crate) fn outermost(t: Tensor, config: Config, origin: Origin, at: usize, place: usize) -> Row
-    ensures { result ≡ outermost_of t config origin at place }
+pub(crate) fn outermost<'a>(t: Tensor, config: Config, origin: Origin<'a>, at: usize, place: usize) -> Row<'a>
+    ensures { result ≡ outermost_of t config origin.entry at place }
 {
     let room = plane::room(t, config);
     let answer = room.answer;
@@ -152,8 +152,8 @@ pub fn move_plane(t: Tensor, config: Config, src: &[u8], dst: &mut [u8]) -> plan
 {
     let a = plane::judge(t, config, src.len(), dst.len()); // it goes out as it is, refused or not
     if a.status == 0 {
-        let row = outermost(t, config, Origin::Lent, 0, 0);
-        store_row(src, dst, row, t.rank, 0, u64::MAX); // the end is above every number
+        let row = outermost(t, config, Origin::Lent(src), 0, 0);
+        store_row(dst, row, t.rank, 0, u64::MAX); // the end is above every number
     }
     a
 }
@@ -171,7 +171,7 @@ pub fn advance(mem: &mut [u8], job: crate::Job, from: u64, budget: u64) -> crate
         let at = job.source.start as usize;
         let place = job.destination.start as usize;
         let row = outermost(job.tensor, job.config, Origin::Inside, at, place);
-        store_row(&[0u8; 0], mem, row, job.tensor.rank, from, from + count);
+        store_row(mem, row, job.tensor.rank, from, from + count);
     }
     crate::Advanced {
         status: v.status,

@@ -28,8 +28,8 @@ fn zipped<const N: usize, const SIZE: usize>(t: [u8; N], half: usize) -> [u8; N]
     let mut k = 0;
     let mut j = 0;
     while k < half {
-        copy(&t, &mut o, Origin::Lent, k, j, SIZE);
-        copy(&t, &mut o, Origin::Lent, k + half, j + SIZE, SIZE);
+        copy(Origin::Lent(&t), &mut o, k, j, SIZE);
+        copy(Origin::Lent(&t), &mut o, k + half, j + SIZE, SIZE);
         k += SIZE;
         j += SIZE + SIZE;
     }

@@ -1,7 +1,7 @@
 // A stretch of a move: its elements from any one on, until the budget is spent.
 ghost use Rattle.std.specs.Prelude.{◌≡◌, ◌-◌, ◌<◌, min};
 ghost use Rattle.parts.specs.Parts.{bytes_of};
-ghost use Rattle.mover.specs.Private.Elements.{plan_total, moved_from};
+ghost use Rattle.mover.specs.Private.Elements.{lent, plan_total, moved_from};
 ghost use Rattle.mover.specs.Private.Ready.{Ready, LiesIn, PartsApart, moved_within};
 
 use crate::Part;
@@ -30,26 +30,25 @@ fn is_few(p: Plan) -> bool
 // Writes the elements numbered from, from + 1, .. and tells how many: the budget, or what is left. What of the plan is one dimension is
 // made one first; layers of a few elements go by runs.
 pub(crate) fn advance(
-    src: &[u8],
+    origin: Origin<'_>,
     dst: &mut [u8],
-    origin: Origin,
     plan: Plan,
     from: usize,
     budget: usize,
 ) -> usize
-    requires ready { Ready origin plan src.now dst.old }
+    requires ready { Ready origin plan dst.old }
     requires from_bound { from < plan_total plan }
     ensures counted { result ≡ min budget (plan_total plan - from) }
-    ensures written { dst.new ≡ moved_from origin plan src.now dst.old from result }
+    ensures written { dst.new ≡ moved_from origin.entry plan dst.old from result }
 {
     if is_short(plan, budget) {
-        return by_runs(src, dst, origin, plan, from, budget);
+        return by_runs(origin, dst, plan, from, budget);
     }
     let p = folded(plan);
     if is_few(p) {
-        return by_runs(src, dst, origin, p, from, budget);
+        return by_runs(origin, dst, p, from, budget);
     }
-    by_bands(src, dst, origin, p, from, budget)
+    by_bands(origin, dst, p, from, budget)
 }
 
 // The same within one memory, from one part of it to another.
@@ -63,16 +62,15 @@ pub(crate) fn advance_within(
 ) -> usize
     requires lies_in { LiesIn source mem.old × LiesIn destination mem.old }
     requires parts_apart { PartsApart source destination }
-    requires ready { Ready Origin.Lent plan (bytes_of source mem.old) (bytes_of destination mem.old) }
+    requires ready { Ready (lent (bytes_of source mem.old)) plan (bytes_of destination mem.old) }
     requires from_bound { from < plan_total plan }
     ensures counted { result ≡ min budget (plan_total plan - from) }
     ensures written { mem.new ≡ moved_within plan source destination mem.old from result }
 {
-    let none = [0u8; 0];
     let placed = Plan {
         home: source.start as usize + plan.home,
         base: destination.start as usize + plan.base,
         ..plan
     };
-    advance(&none, mem, Origin::Inside, placed, from, budget)
+    advance(Origin::Inside, mem, placed, from, budget)
 }

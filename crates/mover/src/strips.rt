@@ -64,11 +64,11 @@ fn step_of(tile: Tile, p: Patch) -> Step
 }
 
 // A patch that has the rows of one tile.
-pub(crate) fn copy_strip(src: &[u8], dst: &mut [u8], origin: Origin, tile: Tile, p: Patch)
+pub(crate) fn copy_strip(origin: Origin<'_>, dst: &mut [u8], tile: Tile, p: Patch)
     requires tiled { Tiled tile p }
     requires patch_fits { PatchFits dst.old p }
-    requires patch_reads { PatchReads origin src.now dst.old p }
-    ensures { dst.new ≡ patch_copied origin src.now dst.old p }
+    requires patch_reads { PatchReads origin dst.old p }
+    ensures { dst.new ≡ patch_copied origin.entry dst.old p }
 {
     let s = step_of(tile, p);
     let mut at = p.at;
@@ -76,9 +76,8 @@ pub(crate) fn copy_strip(src: &[u8], dst: &mut [u8], origin: Origin, tile: Tile,
     let mut k = 0;
     while s.columns <= p.columns - k {
         copy_tile(
-            src,
-            dst,
             origin,
+            dst,
             tile,
             Patch {
                 at,
@@ -93,9 +92,8 @@ pub(crate) fn copy_strip(src: &[u8], dst: &mut [u8], origin: Origin, tile: Tile,
     }
     if k < p.columns {
         copy_rows(
-            src,
-            dst,
             origin,
+            dst,
             Patch {
                 at,
                 to,
@@ -107,11 +105,11 @@ pub(crate) fn copy_strip(src: &[u8], dst: &mut [u8], origin: Origin, tile: Tile,
 }
 
 // A patch of which rows and columns are exchanged, strip by strip, and what is left of the rows one by one.
-pub(crate) fn copy_strips(src: &[u8], dst: &mut [u8], origin: Origin, p: Patch)
+pub(crate) fn copy_strips(origin: Origin<'_>, dst: &mut [u8], p: Patch)
     requires turns { Turns p }
     requires patch_fits { PatchFits dst.old p }
-    requires patch_reads { PatchReads origin src.now dst.old p }
-    ensures { dst.new ≡ patch_copied origin src.now dst.old p }
+    requires patch_reads { PatchReads origin dst.old p }
+    ensures { dst.new ≡ patch_copied origin.entry dst.old p }
 {
     let n = sixteenth(p.size);
     let further = across(p.size, p.row_stride);
@@ -120,9 +118,8 @@ pub(crate) fn copy_strips(src: &[u8], dst: &mut [u8], origin: Origin, p: Patch)
     let mut k = 0;
     while n <= p.rows - k {
         copy_strip(
-            src,
-            dst,
             origin,
+            dst,
             Tile::Turned,
             Patch {
                 at,
@@ -137,9 +134,8 @@ pub(crate) fn copy_strips(src: &[u8], dst: &mut [u8], origin: Origin, p: Patch)
     }
     if k < p.rows {
         copy_rows(
-            src,
-            dst,
             origin,
+            dst,
             Patch {
                 at,
                 to,

@@ -33,28 +33,27 @@ fn rows_of(width: usize, n: usize, to: usize, stride: usize) -> Course
 
 // A tile of N bytes, of as many rows as columns, each of SIZE bytes, where a shuffle turns it.
 fn copy_square<const N: usize, const SIZE: usize>(
-    src: &[u8],
+    origin: Origin<'_>,
     dst: &mut [u8],
-    origin: Origin,
     p: Patch,
     s: Shuffle,
 )
     requires turned { (p.size ≡ SIZE) × Turning N SIZE s }
     requires tiled { Tiled Tile.Turned p × (p.columns ≡ tile_columns Tile.Turned p) }
     requires patch_fits { PatchFits dst.old p }
-    requires patch_reads { PatchReads origin src.now dst.old p }
-    ensures { dst.new ≡ patch_copied origin src.now dst.old p }
+    requires patch_reads { PatchReads origin dst.old p }
+    ensures { dst.new ≡ patch_copied origin.entry dst.old p }
 {
-    let t = shuffled::<N, SIZE>(source(src, dst, origin), p.at, p.jump, s);
+    let t = shuffled::<N, SIZE>(source(origin, dst), p.at, p.jump, s);
     copy_blocks(&t, dst, rows_of(16, s.rows, p.to, p.row_stride));
 }
 
 // A tile of 16, 8 or 4 rows, by the size of an element.
-fn copy_turned(src: &[u8], dst: &mut [u8], origin: Origin, p: Patch)
+fn copy_turned(origin: Origin<'_>, dst: &mut [u8], p: Patch)
     requires tiled { Tiled Tile.Turned p × (p.columns ≡ tile_columns Tile.Turned p) }
     requires patch_fits { PatchFits dst.old p }
-    requires patch_reads { PatchReads origin src.now dst.old p }
-    ensures { dst.new ≡ patch_copied origin src.now dst.old p }
+    requires patch_reads { PatchReads origin dst.old p }
+    ensures { dst.new ≡ patch_copied origin.entry dst.old p }
 {
     match p.size {
         1 => {
@@ -63,7 +62,7 @@ fn copy_turned(src: &[u8], dst: &mut [u8], origin: Origin, p: Patch)
                 half: 128,
                 times: 4,
             };
-            copy_square::<256, 1>(src, dst, origin, p, s);
+            copy_square::<256, 1>(origin, dst, p, s);
         }
         2 => {
             let s = Shuffle {
@@ -71,7 +70,7 @@ fn copy_turned(src: &[u8], dst: &mut [u8], origin: Origin, p: Patch)
                 half: 64,
                 times: 3,
             };
-            copy_square::<128, 2>(src, dst, origin, p, s);
+            copy_square::<128, 2>(origin, dst, p, s);
         }
         _ => {
             let s = Shuffle {
@@ -79,26 +78,26 @@ fn copy_turned(src: &[u8], dst: &mut [u8], origin: Origin, p: Patch)
                 half: 32,
                 times: 2,
             };
-            copy_square::<64, 4>(src, dst, origin, p, s);
+            copy_square::<64, 4>(origin, dst, p, s);
         }
     }
 }
 
 // A tile of a patch.
-pub(crate) fn copy_tile(src: &[u8], dst: &mut [u8], origin: Origin, tile: Tile, p: Patch)
+pub(crate) fn copy_tile(origin: Origin<'_>, dst: &mut [u8], tile: Tile, p: Patch)
     requires tiled { Tiled tile p × (p.columns ≡ tile_columns tile p) }
     requires patch_fits { PatchFits dst.old p }
-    requires patch_reads { PatchReads origin src.now dst.old p }
-    ensures { dst.new ≡ patch_copied origin src.now dst.old p }
+    requires patch_reads { PatchReads origin dst.old p }
+    ensures { dst.new ≡ patch_copied origin.entry dst.old p }
 {
     match tile {
-        Tile::Turned => copy_turned(src, dst, origin, p),
+        Tile::Turned => copy_turned(origin, dst, p),
         Tile::Split => {
-            let t = split(source(src, dst, origin), p.at);
+            let t = split(source(origin, dst), p.at);
             copy_blocks(&t, dst, rows_of(32, 3, p.to, p.row_stride));
         }
         Tile::Merged => {
-            let t = merge(source(src, dst, origin), p.at, p.row_jump);
+            let t = merge(source(origin, dst), p.at, p.row_jump);
             copy_block(&t, 0, dst, p.to, 48);
         }
     }

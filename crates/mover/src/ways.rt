@@ -37,50 +37,50 @@ fn turns(p: Patch) -> bool
 }
 
 // Kept elements of a few columns: pixels put together, else column by column; of a few rows too, row by row.
-fn copy_narrow(src: &[u8], dst: &mut [u8], origin: Origin, p: Patch)
+fn copy_narrow(origin: Origin<'_>, dst: &mut [u8], p: Patch)
     requires patch_fits { PatchFits dst.old p }
-    requires patch_reads { PatchReads origin src.now dst.old p }
-    ensures { dst.new ≡ patch_copied origin src.now dst.old p }
+    requires patch_reads { PatchReads origin dst.old p }
+    ensures { dst.new ≡ patch_copied origin.entry dst.old p }
 {
     if p.rows < 16 {
-        copy_rows(src, dst, origin, p);
+        copy_rows(origin, dst, p);
         return;
     }
     let columns = swapped(p);
     if is_merged(columns) {
-        copy_strip(src, dst, origin, Tile::Merged, columns);
+        copy_strip(origin, dst, Tile::Merged, columns);
     } else {
-        copy_rows(src, dst, origin, columns);
+        copy_rows(origin, dst, columns);
     }
 }
 
 // Kept elements of more columns: pixels taken apart, rows and columns exchanged, else row by row.
-fn copy_wide(src: &[u8], dst: &mut [u8], origin: Origin, p: Patch)
+fn copy_wide(origin: Origin<'_>, dst: &mut [u8], p: Patch)
     requires patch_fits { PatchFits dst.old p }
-    requires patch_reads { PatchReads origin src.now dst.old p }
-    ensures { dst.new ≡ patch_copied origin src.now dst.old p }
+    requires patch_reads { PatchReads origin dst.old p }
+    ensures { dst.new ≡ patch_copied origin.entry dst.old p }
 {
     if is_split(p) {
-        copy_strip(src, dst, origin, Tile::Split, p);
+        copy_strip(origin, dst, Tile::Split, p);
     } else if turns(p) {
-        copy_strips(src, dst, origin, p);
+        copy_strips(origin, dst, p);
     } else {
-        copy_rows(src, dst, origin, p);
+        copy_rows(origin, dst, p);
     }
 }
 
 // Kept elements.
-pub(crate) fn copy_patch(src: &[u8], dst: &mut [u8], origin: Origin, p: Patch)
+pub(crate) fn copy_patch(origin: Origin<'_>, dst: &mut [u8], p: Patch)
     requires patch_fits { PatchFits dst.old p }
-    requires patch_reads { PatchReads origin src.now dst.old p }
-    ensures { dst.new ≡ patch_copied origin src.now dst.old p }
+    requires patch_reads { PatchReads origin dst.old p }
+    ensures { dst.new ≡ patch_copied origin.entry dst.old p }
 {
     if are_lines(p) {
-        copy_lines(src, dst, origin, p);
+        copy_lines(origin, dst, p);
     } else if p.columns < 16 {
-        copy_narrow(src, dst, origin, p);
+        copy_narrow(origin, dst, p);
     } else {
-        copy_wide(src, dst, origin, p);
+        copy_wide(origin, dst, p);
     }
 }
 

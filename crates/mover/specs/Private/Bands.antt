@@ -8,7 +8,7 @@ use Rattle.mover.specs.declared.spots.Spots.{Spots}
 use Rattle.mover.specs.declared.bands.Band.{Band}
 use Rattle.mover.specs.declared.bands.Frame.{Frame}
 use Rattle.mover.specs.declared.elements.Origin.{Origin}
-use Rattle.mover.specs.Private.Elements.{source_bytes, axis_kept, padding}
+use Rattle.mover.specs.Private.Elements.{source_bytes, Short, axis_kept, padding}
 use Rattle.mover.specs.Private.Adding.{along, spot_at}
 use Rattle.mover.specs.Private.Ready.{GoodAxis}
 use Rattle.mover.specs.Private.Runs.{BytesApart}
@@ -25,9 +25,9 @@ abbrev pub band_bytes : Plan → List ℕ → Spot → Bool → ℕ → ℕ → 
 band_bytes p s u kept i j = cond (kept && axis_kept p.d3 j) (take p.size (drop (band_home p u i j) s)) (padding p.size p.pad)
 
 -- what is left of the destination d
-abbrev pub band_moved : Origin → Plan → List ℕ → List ℕ → Spot → Band → List ℕ
-band_moved o p s d u b =
-    rows_stored (band_bytes p (source_bytes o s d) u b.kept) u.to p.d2.stride p.d3.stride p.d3.extent b.rows d
+abbrev pub band_moved : Origin → Plan → List ℕ → Spot → Band → List ℕ
+band_moved o p d u b =
+    rows_stored (band_bytes p (source_bytes o d) u b.kept) u.to p.d2.stride p.d3.stride p.d3.extent b.rows d
 
 -- where what is kept of a row begins, and where padding goes on behind it, if there is any, in bytes from the row's start
 pub record Framed (x : Axis) (f : Frame) : Type 0 where
@@ -43,11 +43,12 @@ pub record BandAt (x : Axis) (e : ℕ) (outer : Bool) (c left : ℕ) (b : Band) 
 
 -- what a band asks: its elements lie in destination and source, no source element shares a byte with a destination element, and no two
 -- destination elements do
-pub record Banded (o : Origin) (p : Plan) (s d : List ℕ) (u : Spot) (b : Band) : Type 0 where
+pub record Banded (o : Origin) (p : Plan) (d : List ℕ) (u : Spot) (b : Band) : Type 0 where
+  pub short : Short o
   pub sized : Sized p.size
   pub axis : GoodAxis p.d3
   pub places : (i j : ℕ) → i < b.rows → j < p.d3.extent → band_place p u i j + p.size ≤ length d
-  pub homes : (i j : ℕ) → i < b.rows → (b.kept && axis_kept p.d3 j) ≡ true → band_home p u i j + p.size ≤ length (source_bytes o s d)
+  pub homes : (i j : ℕ) → i < b.rows → (b.kept && axis_kept p.d3 j) ≡ true → band_home p u i j + p.size ≤ length (source_bytes o d)
   pub parted : (i j k l : ℕ) → i < b.rows → (b.kept && axis_kept p.d3 j) ≡ true → k < b.rows → l < p.d3.extent
       → BytesApart o (band_home p u i j) (band_home p u i j + p.size) (band_place p u k l) (band_place p u k l + p.size)
   pub off : (i j k l : ℕ) → i < b.rows → k < b.rows → j < p.d3.extent → l < p.d3.extent → ((i ≡ k) × (j ≡ l) → ⊥)

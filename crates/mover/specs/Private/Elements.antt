@@ -1,5 +1,5 @@
 -- What the engine writes: elements by four destination coordinates, and by their numbers.
-use Rattle.std.specs.Prelude.{ℕ, zero, suc, ◌+◌, ◌-◌, ◌*◌, ◌/◌, ◌%◌, ◌^◌, Bool, cond, ◌&&◌, List, take, drop, nat_le, nat_lt}
+use Rattle.std.specs.Prelude.{ℕ, zero, suc, ◌+◌, ◌-◌, ◌*◌, ◌/◌, ◌%◌, ◌^◌, ◌<◌, Bool, cond, ◌&&◌, List, length, take, drop, nat_le, nat_lt}
 use Rattle.std.proofs.lemmas.List.Edits.{sets}
 use Rattle.plane.specs.Arrays.{at, array}
 use Rattle.mover.specs.declared.plan.Axis.{Axis}
@@ -8,9 +8,18 @@ use Rattle.mover.specs.declared.elements.Origin.{Origin}
 use Rattle.mover.specs.declared.elements.Origin.TheVariants.{Lent, Inside}
 
 -- the source's bytes: those lent for reading, or the destination's own as they were
-abbrev pub source_bytes : Origin → List ℕ → List ℕ → List ℕ
-source_bytes Lent s d = s
-source_bytes Inside s d = d
+abbrev pub source_bytes : Origin → List ℕ → List ℕ
+source_bytes (Lent s) d = s.now
+source_bytes Inside d = d
+
+-- lent bytes are fewer than a slice can have at the most
+abbrev pub Short : Origin → Type 0
+Short (Lent s) = length s.now < 2 ^ 63
+Short Inside = Unit
+
+-- these bytes, lent
+abbrev pub lent : List ℕ → Origin
+lent s = Lent (record { ref_ptr = (0, 0); now = s })
 
 -- a destination coordinate c has k = c - pre; it is kept if k is from 0 to count - 1
 unfoldable pub axis_kept : Axis → ℕ → Bool
@@ -74,6 +83,6 @@ unfoldable pub moved_by : Plan → List ℕ → ℕ → ℕ → List ℕ → Lis
 moved_by p s from zero d = d
 moved_by p s from (suc n) d = put_number p s (from + n) (moved_by p s from n d)
 
--- what the engine leaves of the destination d, from a source that stands in s or in d
-abbrev pub moved_from : Origin → Plan → List ℕ → List ℕ → ℕ → ℕ → List ℕ
-moved_from o p s d from n = moved_by p (source_bytes o s d) from n d
+-- what the engine leaves of the destination d
+abbrev pub moved_from : Origin → Plan → List ℕ → ℕ → ℕ → List ℕ
+moved_from o p d from n = moved_by p (source_bytes o d) from n d

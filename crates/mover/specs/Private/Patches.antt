@@ -8,7 +8,7 @@ use Rattle.mover.specs.declared.tiles.Tile.TheVariants.{Turned, Split, Merged}
 use Rattle.mover.specs.declared.strips.Step.{Step}
 use Rattle.mover.specs.declared.elements.Course.{Course}
 use Rattle.mover.specs.declared.elements.Origin.{Origin}
-use Rattle.mover.specs.Private.Elements.{source_bytes, padding}
+use Rattle.mover.specs.Private.Elements.{source_bytes, Short, padding}
 use Rattle.mover.specs.Private.Adding.{along}
 use Rattle.mover.specs.Private.Runs.{run_stored, BytesApart}
 
@@ -31,8 +31,8 @@ patch_bytes s p i j = take p.size (drop (patch_home p i j) s)
 abbrev pub patch_stored : (ℕ → ℕ → List ℕ) → Patch → List ℕ → List ℕ
 patch_stored e p d = rows_stored e p.to p.row_stride p.stride p.columns p.rows d
 
-abbrev pub patch_copied : Origin → List ℕ → List ℕ → Patch → List ℕ
-patch_copied o s d p = patch_stored (patch_bytes (source_bytes o s d) p) p d
+abbrev pub patch_copied : Origin → List ℕ → Patch → List ℕ
+patch_copied o d p = patch_stored (patch_bytes (source_bytes o d) p) p d
 
 abbrev pub patch_padded : List ℕ → Patch → List ℕ
 patch_padded d p = patch_stored (λ i j. padding p.size p.pad) p d
@@ -68,8 +68,9 @@ pub record PatchFits (d : List ℕ) (p : Patch) : Type 0 where
       → (patch_place p i j + p.size ≤ patch_place p k l) ⊎ (patch_place p k l + p.size ≤ patch_place p i j)
 
 -- and, where it is kept, of the source: its elements lie in it, and none shares a byte with one of the destination
-pub record PatchReads (o : Origin) (s d : List ℕ) (p : Patch) : Type 0 where
-  pub held : (i j : ℕ) → i < p.rows → j < p.columns → patch_home p i j + p.size ≤ length (source_bytes o s d)
+pub record PatchReads (o : Origin) (d : List ℕ) (p : Patch) : Type 0 where
+  pub short : Short o
+  pub held : (i j : ℕ) → i < p.rows → j < p.columns → patch_home p i j + p.size ≤ length (source_bytes o d)
   pub parted : (i j k l : ℕ) → i < p.rows → j < p.columns → k < p.rows → l < p.columns
       → BytesApart o (patch_home p i j) (patch_home p i j + p.size) (patch_place p k l) (patch_place p k l + p.size)
 

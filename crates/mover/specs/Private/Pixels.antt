@@ -1,5 +1,6 @@
 -- One element as the plain engine comes to it: a row with no dimension left.
 use Rattle.std.specs.Prelude.{◌≡◌, ℕ, zero, suc, List}
+use Rattle.std.specs.Borrow.{Bor}
 use Rattle.plane.specs.declared.Tensor.{Tensor}
 use Rattle.plane.specs.declared.Config.{Config}
 use Rattle.plane.specs.Arrays.{at}
@@ -19,5 +20,5 @@ row_to w x zero = w
 row_to w x (suc i) = inward_of (row_to w x i) i (at x i)
 
 -- the element at x, from the destination as one row
-abbrev pub row_at : Tensor → Config → List ℕ → Row
-row_at t c x = row_to (outermost_of t c Lent 0 0) x t.rank
+abbrev pub row_at : Tensor → Config → Bor (List ℕ) → List ℕ → Row
+row_at t c s x = row_to (outermost_of t c (Lent s) 0 0) x t.rank

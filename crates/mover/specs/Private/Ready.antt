@@ -7,7 +7,7 @@ use Rattle.mover.specs.declared.plan.Axis.{Axis}
 use Rattle.mover.specs.declared.plan.Plan.{Plan}
 use Rattle.mover.specs.declared.elements.Origin.{Origin}
 use Rattle.mover.specs.declared.elements.Origin.TheVariants.{Inside}
-use Rattle.mover.specs.Private.Elements.{source_bytes, plan_kept, summed, place_of, home_of, plan_total, co0, co1, co2, co3, moved_by}
+use Rattle.mover.specs.Private.Elements.{source_bytes, Short, plan_kept, summed, place_of, home_of, plan_total, co0, co1, co2, co3, moved_by}
 use Rattle.mover.specs.Private.Plans.{jump_length}
 use Rattle.plane.specs.Planes.{Sized}
 use Rattle.mover.specs.Private.Runs.{BytesApart}
@@ -48,7 +48,8 @@ abbrev pub Rising : Plan → Type 0
 Rising p = (q r : ℕ) → q < r → r < plan_total p → place_by p q + p.size ≤ place_by p r
 
 -- what the engine asks of a plan, and of the bytes of source and destination
-pub record Ready (o : Origin) (p : Plan) (s d : List ℕ) : Type 0 where
+pub record Ready (o : Origin) (p : Plan) (d : List ℕ) : Type 0 where
+  pub short : Short o
   pub sized : Sized p.size
   pub axes : GoodAxes p
   pub few : plan_total p < 2 ^ 64
@@ -56,7 +57,7 @@ pub record Ready (o : Origin) (p : Plan) (s d : List ℕ) : Type 0 where
   pub reach : reach_of p < 2 ^ 64
   pub need : place_end p ≤ length d
   -- each source element that is kept lies in the source, and apart from the destination
-  pub span : (c0 c1 c2 c3 : ℕ) → plan_kept p c0 c1 c2 c3 ≡ true → home_of p c0 c1 c2 c3 + p.size ≤ length (source_bytes o s d)
+  pub span : (c0 c1 c2 c3 : ℕ) → plan_kept p c0 c1 c2 c3 ≡ true → home_of p c0 c1 c2 c3 + p.size ≤ length (source_bytes o d)
   pub apart : (c0 c1 c2 c3 : ℕ) → plan_kept p c0 c1 c2 c3 ≡ true
       → BytesApart o (home_of p c0 c1 c2 c3) (home_of p c0 c1 c2 c3 + p.size) p.base (place_end p)
 

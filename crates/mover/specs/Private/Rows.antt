@@ -24,20 +24,20 @@ abbrev pub size_of : Row → ℕ
 size_of w = w.tensor.element_size
 
 -- the bytes of a row that is one element; and byte b of them, as the code works it out
-abbrev pub row_bytes : Row → List ℕ → List ℕ → List ℕ
-row_bytes w s d = cond w.kept (take (size_of w) (drop w.at (source_bytes w.origin s d))) (little (size_of w) w.config.fill)
+abbrev pub row_bytes : Row → List ℕ → List ℕ
+row_bytes w d = cond w.kept (take (size_of w) (drop w.at (source_bytes w.origin d))) (little (size_of w) w.config.fill)
 
-abbrev pub row_byte : Row → List ℕ → List ℕ → ℕ → ℕ
-row_byte w s d b = cond w.kept (slice_index (source_bytes w.origin s d) (w.at + b)) (w.config.fill / 2 ^ (8 * b) % 256)
+abbrev pub row_byte : Row → List ℕ → ℕ → ℕ
+row_byte w d b = cond w.kept (slice_index (source_bytes w.origin d) (w.at + b)) (w.config.fill / 2 ^ (8 * b) % 256)
 
 -- the destination d with it stored
-abbrev pub row_stored : Row → List ℕ → List ℕ → List ℕ
-row_stored w s d = sets d w.place (row_bytes w s d)
+abbrev pub row_stored : Row → List ℕ → List ℕ
+row_stored w d = sets d w.place (row_bytes w d)
 
 -- such a row can be stored into d
-pub record Storable (w : Row) (s d : List ℕ) : Type 0 where
+pub record Storable (w : Row) (d : List ℕ) : Type 0 where
   pub sized : Sized (size_of w)
-  pub source : w.kept ≡ true → w.at + size_of w ≤ length (source_bytes w.origin s d)
+  pub source : w.kept ≡ true → w.at + size_of w ≤ length (source_bytes w.origin d)
   pub destination : w.place + size_of w ≤ length d
   pub apart : w.kept ≡ true → BytesApart w.origin w.at (w.at + size_of w) w.place (w.place + size_of w)
 
@@ -127,24 +127,24 @@ pub record Passable (w : Row) (i x : ℕ) : Type 0 where
   pub end : r + need w.tensor w.config < 2 ^ 64
 
 -- a row of that depth, of an accepted move from the part p of the source to the part r of d
-pub record Stands (w : Row) (depth : ℕ) (s d : List ℕ) : Type 0 where
+pub record Stands (w : Row) (depth : ℕ) (d : List ℕ) : Type 0 where
   pub p : Part
   pub r : Part
   pub few : depth ≤ w.tensor.rank
   pub row : RowOf p.start r.start (w.tensor.rank - depth) w
   -- both parts lie where they should, apart, and are long enough
-  pub source : p.start + p.length ≤ length (source_bytes w.origin s d)
+  pub source : p.start + p.length ≤ length (source_bytes w.origin d)
   pub destination : r.start + r.length ≤ length d
   pub apart : BytesApart w.origin p.start (p.start + p.length) r.start (r.start + r.length)
   pub long : span w.tensor ≤ p.length
   pub enough : need w.tensor w.config ≤ r.length
 
 -- the memory m with those of the elements first to end - 1 stored that are numbered below n: of the move that a row is of
-unfoldable pub stretch_in : Row → Part → Part → List ℕ → ℕ → ℕ → ℕ → List ℕ → List ℕ
-stretch_in w p r s first end n m =
-    sets m r.start (moved w.tensor w.config (bytes_of p (source_bytes w.origin s m)) first (min end n - first) (bytes_of r m))
+unfoldable pub stretch_in : Row → Part → Part → ℕ → ℕ → ℕ → List ℕ → List ℕ
+stretch_in w p r first end n m =
+    sets m r.start (moved w.tensor w.config (bytes_of p (source_bytes w.origin m)) first (min end n - first) (bytes_of r m))
 
 -- what the plain engine leaves, e: if the destination had come to element number n of a memory m, it has come to number n'
-abbrev pub Comes : {w : Row} {depth : ℕ} {s d : List ℕ} → Stands w depth s d → ℕ → ℕ → ℕ → ℕ → List ℕ → Type 0
-Comes {w} {depth} {s} {d} h first end n n' e =
-    (m : List ℕ) → d ≡ stretch_in w h.p h.r s first end n m → e ≡ stretch_in w h.p h.r s first end n' m
+abbrev pub Comes : {w : Row} {depth : ℕ} {d : List ℕ} → Stands w depth d → ℕ → ℕ → ℕ → ℕ → List ℕ → Type 0
+Comes {w} {depth} {d} h first end n n' e =
+    (m : List ℕ) → d ≡ stretch_in w h.p h.r first end n m → e ≡ stretch_in w h.p h.r first end n' m

@@ -45,7 +45,7 @@ pub pad_patch-requires-in-Some : goal.pad_patch-requires-in-Some
 pad_patch-requires-in-Some c =
     let x = c.args.plan.d3 in
     part_fits c.requires.banded (x.pre + x.count) c.patch-in-Some.ensures (λ g. rear_at (goal.at-pad_patch-requires-in-Some c).After-wrapping_add_usize-last) (omega (arith, c.requires.banded.axis.within))
-    (copied_length c.args.origin c.args.src.now c.pad_patch.new.dst c.patch-then-band-2.result c.copy_patch-then-band.ensures ∙ first-length (goal.at-pad_patch-requires-in-Some c).After-pad_patch)
+    (copied_length c.args.origin c.pad_patch.new.dst c.patch-then-band-2.result c.copy_patch-then-band.ensures ∙ first-length (goal.at-pad_patch-requires-in-Some c).After-pad_patch)
 
 pub returns-in-Some : goal.returns-in-Some
 returns-in-Some c =

@@ -8,7 +8,7 @@ returns-in-Lent c =
     let a = c.args in
     let p : 0 < a.n = omega (arith, c.if-n-eq0.false) in
     rw c.in-Lent.is
-    (block_put a.dst.now a.src.now c.copy_from_slice.new.self a.at a.to a.n (a.to + a.n - a.to) (rw c.in-Lent.is at c.requires.read p) (c.requires.write p) (omega arith)
+    (block_put a.dst.now c.in-Lent.src.now c.copy_from_slice.new.self a.at a.to a.n (a.to + a.n - a.to) (rw c.in-Lent.is at c.requires.read p) (c.requires.write p) (omega arith)
     (let e : a.at + a.n - a.at ≡ a.to + a.n - a.to = omega arith in rw (← e) c.copy_from_slice.ensures.after))
 
 pub returns-in-Inside : goal.returns-in-Inside

@@ -4,7 +4,7 @@ use Rattle.mover.specs.Private.Elements.{source_bytes}
 use Rattle.mover.specs.Private.Runs.{kept_bytes}
 use Rattle.mover.specs.Private.Shuffles.{made}
 use Rattle.mover.proofs.Blocking.{part_put}
-use Rattle.mover.proofs.Bytes.{source_long}
+use Rattle.mover.proofs.Bytes.{short_source}
 use Rattle.mover.proofs.Runs.{length_run}
 use Rattle.mover.proofs.Shuffled.{length_made}
 use Rattle.mover.proofs.Evening.{evened_start, evened_asks, evened_end, evened_reads, evened_writes, evened_more}
@@ -13,14 +13,14 @@ use Rattle.mover.proofs.courses.copy_evens.Goals.{At-loop-k, In-loop-k}
 
 -- the pairs lie in the source, and both memories are short enough
 lies : (l : At-loop-k) → let n = l.pairs_in-n.result in
-    0 < n → l.args.c.at + n + n ≤ length (source_bytes l.args.origin l.args.src.now l.args.dst.now)
+    0 < n → l.args.c.at + n + n ≤ length (source_bytes l.args.origin l.args.dst.now)
 lies l p = omega (arith, l.pairs_in-n.ensures.1 p, ap length l.source.ensures)
-
-short-source : (l : At-loop-k) → length (source_bytes l.args.origin l.args.src.now l.args.dst.now) < 2 ^ 64
-short-source l = omega (arith, source_long l.args.origin l.args.src.now l.args.dst.now, l.well_formed)
 
 short : (l : At-loop-k) → length l.args.dst.now < 2 ^ 64
 short l = omega (arith, l.well_formed)
+
+short-source : (l : At-loop-k) → length (source_bytes l.args.origin l.args.dst.now) < 2 ^ 64
+short-source l = omega (arith, short_source l.args.origin l.args.dst.now l.requires.readable.short (omega (arith, l.well_formed)))
 
 sixteen : (c : In-loop-k) → c.loop-k.k + 16 ≤ c.pairs_in-n.result
 sixteen c = omega (arith, c.loop-k-test, c.loop-k.invariant.stored.within)
@@ -41,7 +41,7 @@ overflow_add-k c =
 pub loop-k-preserved : goal.loop-k-preserved
 loop-k-preserved c =
     let l = c.loop-k in
-    let picked : c.copy_from_slice.new.self ≡ made 16 (λ k. slice_index (source_bytes c.args.origin c.args.src.now l.dst) (l.at + 2 * k)) =
+    let picked : c.copy_from_slice.new.self ≡ made 16 (λ k. slice_index (source_bytes c.args.origin l.dst) (l.at + 2 * k)) =
     c.copy_from_slice.ensures.after ∙ c.read_evens-a.ensures ∙ rw c.source-in-loop-k.ensures in
     let w : l.to + 16 - l.to ≡ 16 = omega arith in
     let stored = part_put l.dst c.copy_from_slice.new.self l.to (l.to + 16 - l.to) (ap length picked ∙ rw (w, length_made))
@@ -66,11 +66,11 @@ returns c =
 
 pub shape_of-dst : goal.shape_of-dst
 shape_of-dst c =
-    ap length (returns c).written ∙ length_run (kept_bytes (source_bytes c.args.origin c.args.src.now c.args.dst.now) c.args.c) c.args.c.to c.args.c.stride c.args.c.n c.args.dst.now
+    ap length (returns c).written ∙ length_run (kept_bytes (source_bytes c.args.origin c.args.dst.now) c.args.c) c.args.c.to c.args.c.stride c.args.c.n c.args.dst.now
 
 pub loop-k-init : goal.loop-k-init
 loop-k-init c =
-    evened_start c.args.origin c.args.src.now c.args.dst.now c.args.c c.pairs_in-n.result (omega (arith, c.well_formed)) (omega (arith, c.well_formed))
+    evened_start c.args.origin c.args.dst.now c.args.c c.pairs_in-n.result (omega (arith, c.well_formed)) (omega (arith, c.well_formed))
 
 pub overflow_sub-n : goal.overflow_sub-n
 overflow_sub-n c = c.loop-k.invariant.stored.within

@@ -4,7 +4,7 @@ use Rattle.mover.proofs.Evening.{Evened}
 use Rattle.mover.proofs.courses.copy_evens.Given as goal
 
 abbrev pub invariant-loop-k : goal.invariant-loop-k
-invariant-loop-k l = Evened l.origin l.src l.initial.dst l.c l.n l.dst l.at l.to l.k
+invariant-loop-k l = Evened l.origin l.initial.dst l.c l.n l.dst l.at l.to l.k
 
 abbrev pub decreases-loop-k : goal.decreases-loop-k
 decreases-loop-k l = l.n - l.k

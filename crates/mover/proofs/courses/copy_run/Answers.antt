@@ -5,9 +5,9 @@ use Rattle.mover.proofs.courses.copy_run.Goals as goal
 use Rattle.mover.proofs.courses.copy_run.Goals.{Then-c-2}
 
 -- where jump and stride are the size
-side_by_side : (c : Then-c-2) → Block c.args.origin c.args.src.now c.args.dst.now c.args.c
+side_by_side : (c : Then-c-2) → Block c.args.origin c.args.dst.now c.args.c
 side_by_side c =
-    block c.args.origin c.args.src.now c.args.dst.now c.args.c (omega (arith, c.well_formed)) (omega (arith, c.well_formed)) (omega (arith, c.well_formed))
+    block c.args.origin c.args.dst.now c.args.c (omega (arith, c.well_formed)) (omega (arith, c.well_formed)) (omega (arith, c.well_formed))
     c.requires.writable c.requires.readable c.if-c-2.true c.if-c.true
 
 pub bytes-n-requires : goal.bytes-n-requires

@@ -9,4 +9,4 @@ pub returns : goal.returns
 returns c =
     let e : c.args.size ≡ 4 = element_four c.args.size c.requires.sized c.if-size-eq1.false c.if-size-eq2.false c.if-size-eq3.false in
     rw (e, c.source-bytes.ensures)
-    (copied_four c.args.dst.now (source_bytes c.args.origin c.args.src.now c.args.dst.now) c.args.at c.args.to (omega (arith, c.requires.size_in_bounds, e)))
+    (copied_four c.args.dst.now (source_bytes c.args.origin c.args.dst.now) c.args.at c.args.to (omega (arith, c.requires.size_in_bounds, e)))

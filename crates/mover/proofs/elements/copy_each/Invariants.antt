@@ -8,4 +8,4 @@ use Rattle.mover.proofs.elements.copy_each.Given as goal
 
 abbrev pub invariant-loop : goal.invariant-loop
 invariant-loop l =
-    Done (kept_bytes (source_bytes l.origin l.src l.initial.dst) l.c) l.c.to l.c.stride l.c.n l.initial.dst l.dst l.to l.counter × (l.at ≡ along l.c.at l.c.jump l.counter)
+    Done (kept_bytes (source_bytes l.origin l.initial.dst) l.c) l.c.to l.c.stride l.c.n l.initial.dst l.dst l.to l.counter × (l.at ≡ along l.c.at l.c.jump l.counter)

@@ -7,23 +7,23 @@ use Rattle.mover.proofs.engine.by_runs.Goals.{At-all, At-loop-c1, At-loop-c2, At
 
 -- where the innermost loop stands, from the destination that the function began with
 at-loop3 : (c : At-loop-c3) → let a = c.loop-c3 in
-    At c.args.origin c.args.plan c.args.src.now c.args.dst.now c.args.from c.args.budget a.dst c.all.c0 c.loop-c1.c1 c.loop-c2.c2 a.c3 a.left a.spots
+    At c.args.origin c.args.plan c.args.dst.now c.args.from c.args.budget a.dst c.all.c0 c.loop-c1.c1 c.loop-c2.c2 a.c3 a.left a.spots
 at-loop3 c =
     c.loop-c3.invariant c.args.dst.now
     (c.loop-c2.invariant c.args.dst.now
     (c.loop-c1.invariant c.args.dst.now
     (c.all.invariant c.args.dst.now
-    (start c.args.origin c.args.plan c.args.src.now c.args.dst.now c.args.from c.args.budget c.requires.ready c.requires.from_bound c.begin-start.ensures))))
+    (start c.args.origin c.args.plan c.args.dst.now c.args.from c.args.budget c.requires.ready c.requires.from_bound c.begin-start.ensures))))
 
 -- in the innermost loop the coordinates are those of an element, and what a run asks holds
 within : (c : In-loop-c3) → InExtents c.args.plan c.all.c0 c.loop-c1.c1 c.loop-c2.c2 c.loop-c3.c3
 within c =
     record { in0 = c.all-test.true; in1 = c.loop-c1-test.true; in2 = c.loop-c2-test.true; in3 = c.loop-c3-test.true }
 
-ready : (c : At-loop-c3) → Ready c.args.origin c.args.plan c.args.src.now c.loop-c3.dst
+ready : (c : At-loop-c3) → Ready c.args.origin c.args.plan c.loop-c3.dst
 ready c = at_ready (at-loop3 c) c.requires.ready
 
-long : (c : At-loop-c3) → length c.args.src.now + length c.loop-c3.dst < 2 ^ 64
+long : (c : At-loop-c3) → length c.loop-c3.dst < 2 ^ 63
 long c = omega (arith, c.well_formed, at_length (at-loop3 c))
 
 -- whether the outer coordinates are kept
@@ -82,10 +82,10 @@ all-preserved c =
     λ d₀ a. next_slab_lem (c.loop-c1.invariant d₀ (c.all.invariant d₀ a)) c.loop-c1-test.false c.next_slab-spots.ensures
 
 -- where the ways out of the loops meet: at the end of the outermost, and by the label
-over : (c : Left-all) → Over c.args.origin c.args.plan c.args.src.now c.args.dst.now c.args.from c.args.budget c.all-test.dst c.all-test.left
+over : (c : Left-all) → Over c.args.origin c.args.plan c.args.dst.now c.args.from c.args.budget c.all-test.dst c.all-test.left
 over c =
     let at_all = c.all.invariant c.args.dst.now
-    (start c.args.origin c.args.plan c.args.src.now c.args.dst.now c.args.from c.args.budget c.requires.ready c.requires.from_bound c.begin-start.ensures) in
+    (start c.args.origin c.args.plan c.args.dst.now c.args.from c.args.budget c.requires.ready c.requires.from_bound c.begin-start.ensures) in
     elim c.all-test.branch [
       | else-all-test w ↦ rw (w.dst-is, w.left-is) (at_end at_all w.all-test.false)
       | then-all-test+then-loop-c1-test+then-loop-c2-test+then-loop-c3-test+then-is_spent w ↦

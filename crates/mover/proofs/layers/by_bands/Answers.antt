@@ -10,22 +10,22 @@ use Rattle.mover.proofs.layers.by_bands.Goals.{After-min-n, After-slice_known-in
 
 -- where the innermost loop stands, from the destination that the function began with
 at-loop2 : (c : At-loop-c2) → let a = c.loop-c2 in
-    At c.args.origin c.args.plan c.args.src.now c.args.dst.now c.args.from c.args.budget a.dst c.all.c0 c.loop-c1.c1 a.c2 a.c3 a.left a.spots
+    At c.args.origin c.args.plan c.args.dst.now c.args.from c.args.budget a.dst c.all.c0 c.loop-c1.c1 a.c2 a.c3 a.left a.spots
 at-loop2 c =
     c.loop-c2.invariant.0 c.args.dst.now
     (c.loop-c1.invariant.0 c.args.dst.now
     (c.all.invariant.0 c.args.dst.now
-    (start c.args.origin c.args.plan c.args.src.now c.args.dst.now c.args.from c.args.budget c.requires.ready c.requires.from_bound c.begin-start.ensures)))
+    (start c.args.origin c.args.plan c.args.dst.now c.args.from c.args.budget c.requires.ready c.requires.from_bound c.begin-start.ensures)))
 
 -- the last coordinate is one of a row
 in_row : (c : At-loop-c2) → c.loop-c2.c3 < c.args.plan.d3.extent
 in_row c =
     c.loop-c2.invariant.1 (c.loop-c1.invariant.1 (c.all.invariant.1 (start_row c.args.plan c.args.from c.requires.ready.axes c.begin-start.ensures)))
 
-ready : (c : At-loop-c2) → Ready c.args.origin c.args.plan c.args.src.now c.loop-c2.dst
+ready : (c : At-loop-c2) → Ready c.args.origin c.args.plan c.loop-c2.dst
 ready c = at_ready (at-loop2 c) c.requires.ready
 
-long : (c : At-loop-c2) → length c.args.src.now + length c.loop-c2.dst < 2 ^ 64
+long : (c : At-loop-c2) → length c.loop-c2.dst < 2 ^ 63
 long c = omega (arith, c.well_formed, at_length (at-loop2 c))
 
 -- whether the outer coordinates are kept
@@ -122,8 +122,8 @@ by_runs-requires c =
 
 -- where it was, the loops stand behind it
 turned : (c : After-slice_known-in-loop-c2-1) (d₀ : List ℕ) → let a = c.loop-c2 in
-    At c.args.origin c.args.plan c.args.src.now d₀ c.args.from c.args.budget a.dst c.all.c0 c.loop-c1.c1 a.c2 a.c3 a.left a.spots
-    → At c.args.origin c.args.plan c.args.src.now d₀ c.args.from c.args.budget c.by_runs.new.dst c.all.c0 c.loop-c1.c1 a.c2 (a.c3 + c.min-n.result) (a.left - c.min-n.result) (after_run a.spots c.args.plan.d3 c.min-n.result)
+    At c.args.origin c.args.plan d₀ c.args.from c.args.budget a.dst c.all.c0 c.loop-c1.c1 a.c2 a.c3 a.left a.spots
+    → At c.args.origin c.args.plan d₀ c.args.from c.args.budget c.by_runs.new.dst c.all.c0 c.loop-c1.c1 a.c2 (a.c3 + c.min-n.result) (a.left - c.min-n.result) (after_run a.spots c.args.plan.d3 c.min-n.result)
 turned c d₀ a =
     row_turn a (within (goal.at-overflow_sub-left-in-loop-c2 c).Else-left-eq0) (cut (goal.at-overflow_sub-left-in-loop-c2 c).After-min-n) (ready (goal.at-overflow_sub-left-in-loop-c2 c).At-loop-c2) c.by_runs.ensures.counted c.by_runs.ensures.written
 
@@ -147,10 +147,10 @@ all-preserved c = (
 )
 
 -- where the ways out of the loops meet: at the end of the outermost, and by the label, before a part of a row or behind it
-over : (c : Left-all) → Over c.args.origin c.args.plan c.args.src.now c.args.dst.now c.args.from c.args.budget c.all-test.dst c.all-test.left
+over : (c : Left-all) → Over c.args.origin c.args.plan c.args.dst.now c.args.from c.args.budget c.all-test.dst c.all-test.left
 over c =
     let at_all = c.all.invariant.0 c.args.dst.now
-    (start c.args.origin c.args.plan c.args.src.now c.args.dst.now c.args.from c.args.budget c.requires.ready c.requires.from_bound c.begin-start.ensures) in
+    (start c.args.origin c.args.plan c.args.dst.now c.args.from c.args.budget c.requires.ready c.requires.from_bound c.begin-start.ensures) in
     elim c.all-test.branch [
       | else-all-test w ↦ rw (w.dst-is, w.left-is) (at_end at_all w.all-test.false)
       | then-all-test+then-loop-c1-test+then-loop-c2-test+then-left-eq0 w ↦

@@ -1,5 +1,5 @@
 -- `mover::move_plane` moves all the elements of an accepted move, and none of a refused one. Assumes nothing.
-use Rattle.std.proofs.Common.{◌≡◌, length, sym}
+use Rattle.std.proofs.Common.{◌≡◌, length, sym, arith}
 use Rattle.plane.specs.Moves.{room_fault, accepted}
 use Rattle.plane.specs.Good.{GoodMove}
 use Rattle.mover.proofs.Laws.{moved_refused}
@@ -33,7 +33,7 @@ total-requires c =
 pub advance-requires : goal.advance-requires
 advance-requires c =
     record {
-      ready = move_ready c.args.t c.args.c c.args.src.now c.args.dst.now (good (goal.at-advance-requires c).In-Ok) c.plan_of.ensures;
+      ready = move_ready c.args.t c.args.c c.args.src.now c.args.dst.now (good (goal.at-advance-requires c).In-Ok) c.plan_of.ensures c.args.src.ref_ptr (omega (arith, c.well_formed));
       from_bound = move_some c.args.t c.args.c c.args.src.now c.args.dst.now (good (goal.at-advance-requires c).In-Ok) c.plan_of.ensures;
     }
 

@@ -4,14 +4,14 @@ use Rattle.mover.proofs.patches.copy_lines.Goals as goal
 
 pub bytes-n-requires : goal.bytes-n-requires
 bytes-n-requires c =
-    let start = rows_start c.args.origin c.args.src.now c.args.dst.now c.args.p (omega (arith, c.well_formed)) (omega (arith, c.well_formed)) in record {
+    let start = rows_start c.args.origin c.args.dst.now c.args.p (omega (arith, c.well_formed)) (omega (arith, c.well_formed)) in record {
       sized = c.requires.patch_fits.sized;
       size_bound = (row_block start c.requires.patch_fits c.requires.patch_reads c.requires.lines.some c.requires.lines.jump c.requires.lines.stride (omega (arith, c.well_formed))).fits;
     }
 
 pub loop-init : goal.loop-init
 loop-init c =
-    rows_start c.args.origin c.args.src.now c.args.dst.now c.args.p (omega (arith, c.well_formed)) (omega (arith, c.well_formed))
+    rows_start c.args.origin c.args.dst.now c.args.p (omega (arith, c.well_formed)) (omega (arith, c.well_formed))
 
 pub copy_bytes-requires : goal.copy_bytes-requires
 copy_bytes-requires c =

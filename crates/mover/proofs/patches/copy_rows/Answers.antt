@@ -5,7 +5,7 @@ use Rattle.mover.proofs.patches.copy_rows.Goals.{then-c-lt16, else-c-lt16}
 
 pub loop-init : goal.loop-init
 loop-init c =
-    rows_start c.args.origin c.args.src.now c.args.dst.now c.args.p (omega (arith, c.well_formed)) (omega (arith, c.well_formed))
+    rows_start c.args.origin c.args.dst.now c.args.p (omega (arith, c.well_formed)) (omega (arith, c.well_formed))
 
 pub loop-preserved : goal.loop-preserved
 loop-preserved c =

@@ -12,7 +12,7 @@ by_runs-requires-then-is_few c =
 
 pub returns-then-is_few : goal.returns-then-is_few
 returns-then-is_few c =
-    let told = folds_written c.args.origin c.folded-p.ensures c.args.src.now c.args.dst.now c.args.from c.args.budget c.requires.from_bound c.by_runs-then-is_few.ensures.counted c.by_runs-then-is_few.ensures.written in record {
+    let told = folds_written c.args.origin c.folded-p.ensures c.args.dst.now c.args.from c.args.budget c.requires.from_bound c.by_runs-then-is_few.ensures.counted c.by_runs-then-is_few.ensures.written in record {
       counted = told.0;
       written = told.1;
     }
@@ -26,7 +26,7 @@ by_bands-requires c =
 
 pub returns : goal.returns
 returns c =
-    let told = folds_written c.args.origin c.folded-p.ensures c.args.src.now c.args.dst.now c.args.from c.args.budget c.requires.from_bound c.by_bands.ensures.counted c.by_bands.ensures.written in record {
+    let told = folds_written c.args.origin c.folded-p.ensures c.args.dst.now c.args.from c.args.budget c.requires.from_bound c.by_bands.ensures.counted c.by_bands.ensures.written in record {
       counted = told.0;
       written = told.1;
     }

@@ -1,5 +1,5 @@
 -- `mover::stretch::advance_within` runs the engine within the memory, at the plan that stands at the parts' starts. Assumes nothing.
-use Rattle.std.proofs.Common.{◌+◌, ◌≤◌, [], length, arith}
+use Rattle.std.proofs.Common.{◌+◌, ◌≤◌, length, arith}
 use Rattle.mover.specs.Private.Elements.{plan_total}
 use Rattle.mover.specs.Private.Ready.{placed_at}
 use Rattle.mover.proofs.Parts.{placed_fits, placed_ready, placed_written}
@@ -15,7 +15,7 @@ pub advance-requires : goal.advance-requires
 unfolding placed_at plan_total
 advance-requires c =
     record {
-      ready = placed_ready c.args.plan c.args.source.start c.args.destination.start c.args.mem.now [] c.args.source.length c.args.destination.length c.requires.lies_in.0 c.requires.lies_in.1 (omega (arith, c.well_formed)) c.requires.parts_apart c.requires.ready;
+      ready = placed_ready c.args.plan c.args.source.start c.args.destination.start c.args.mem.now c.args.source.length c.args.destination.length c.requires.lies_in.0 c.requires.lies_in.1 (omega (arith, c.well_formed)) c.requires.parts_apart c.requires.ready;
       from_bound = c.requires.from_bound;
     }
 

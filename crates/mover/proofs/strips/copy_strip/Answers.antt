@@ -15,21 +15,21 @@ columns-is l = ap (λ (x : Step). x.columns) (step_is l)
 
 pub loop-k-init : goal.loop-k-init
 loop-k-init c =
-    rows_start c.args.origin c.args.src.now c.args.dst.now (swapped_of c.args.p) (omega (arith, c.well_formed)) (omega (arith, c.well_formed))
+    rows_start c.args.origin c.args.dst.now (swapped_of c.args.p) (omega (arith, c.well_formed)) (omega (arith, c.well_formed))
 
 -- the next n columns, as rows
 module _ (l : At-loop-k) (n : ℕ) (h : l.loop-k.k + n ≤ l.args.p.columns) where
   its-fit : PatchFits l.loop-k.dst (some_rows (swapped_of l.args.p) l.loop-k.at l.loop-k.to n)
   its-fit = some_fit l.loop-k.invariant (swap_fits l.requires.patch_fits) (swap_reads l.requires.patch_reads) n h
 
-  its-read : PatchReads l.args.origin l.args.src.now l.loop-k.dst (some_rows (swapped_of l.args.p) l.loop-k.at l.loop-k.to n)
+  its-read : PatchReads l.args.origin l.loop-k.dst (some_rows (swapped_of l.args.p) l.loop-k.at l.loop-k.to n)
   its-read = some_read l.loop-k.invariant (swap_fits l.requires.patch_fits) (swap_reads l.requires.patch_reads) n h
 
-  its-next : {at to : ℕ} {d : List ℕ} → d ≡ patch_copied l.args.origin l.args.src.now l.loop-k.dst (some_columns l.args.p l.loop-k.at l.loop-k.to n)
+  its-next : {at to : ℕ} {d : List ℕ} → d ≡ patch_copied l.args.origin l.loop-k.dst (some_columns l.args.p l.loop-k.at l.loop-k.to n)
       → at ≡ along l.loop-k.at l.args.p.jump n → to ≡ along l.loop-k.to l.args.p.stride n
-      → Rowed l.args.origin l.args.src.now l.args.dst.now (swapped_of l.args.p) d at to (l.loop-k.k + n)
+      → Rowed l.args.origin l.args.dst.now (swapped_of l.args.p) d at to (l.loop-k.k + n)
   its-next e x y =
-      rows_more l.loop-k.invariant (swap_fits l.requires.patch_fits) (swap_reads l.requires.patch_reads) n h (e ∙ swap_copied l.args.origin l.args.src.now its-fit) x y
+      rows_more l.loop-k.invariant (swap_fits l.requires.patch_fits) (swap_reads l.requires.patch_reads) n h (e ∙ swap_copied l.args.origin its-fit) x y
 
 within : (l : At-loop-k) → l.step_of-s.result.columns ≤ l.args.p.columns - l.loop-k.k → l.loop-k.k + l.step_of-s.result.columns ≤ l.args.p.columns
 within l h = omega (arith, h, l.loop-k.invariant.within)
@@ -63,10 +63,10 @@ copy_rows-requires c =
     }
 
 -- all columns, and the same patch
-whole : (l : At-loop-k) {d : List ℕ} {at to k : ℕ} → Rowed l.args.origin l.args.src.now l.args.dst.now (swapped_of l.args.p) d at to k
-    → l.args.p.columns ≤ k → d ≡ patch_copied l.args.origin l.args.src.now l.args.dst.now l.args.p
+whole : (l : At-loop-k) {d : List ℕ} {at to k : ℕ} → Rowed l.args.origin l.args.dst.now (swapped_of l.args.p) d at to k
+    → l.args.p.columns ≤ k → d ≡ patch_copied l.args.origin l.args.dst.now l.args.p
 whole l r h =
-    rows_end r (swap_fits l.requires.patch_fits) (swap_reads l.requires.patch_reads) h ∙ swap_copied l.args.origin l.args.src.now l.requires.patch_fits
+    rows_end r (swap_fits l.requires.patch_fits) (swap_reads l.requires.patch_reads) h ∙ swap_copied l.args.origin l.requires.patch_fits
 
 pub returns-then-k-p : goal.returns-then-k-p
 returns-then-k-p c =

@@ -15,19 +15,19 @@ rows_are l = l.sixteenth-n.ensures
 
 pub loop-k-init : goal.loop-k-init
 loop-k-init c =
-    rows_start c.args.origin c.args.src.now c.args.dst.now c.args.p (omega (arith, c.well_formed)) (omega (arith, c.well_formed))
+    rows_start c.args.origin c.args.dst.now c.args.p (omega (arith, c.well_formed)) (omega (arith, c.well_formed))
 
 -- the next n rows
 module _ (l : At-loop-k) (n : ℕ) (h : l.loop-k.k + n ≤ l.args.p.rows) where
   its-fit : PatchFits l.loop-k.dst (some_rows l.args.p l.loop-k.at l.loop-k.to n)
   its-fit = some_fit l.loop-k.invariant l.requires.patch_fits l.requires.patch_reads n h
 
-  its-read : PatchReads l.args.origin l.args.src.now l.loop-k.dst (some_rows l.args.p l.loop-k.at l.loop-k.to n)
+  its-read : PatchReads l.args.origin l.loop-k.dst (some_rows l.args.p l.loop-k.at l.loop-k.to n)
   its-read = some_read l.loop-k.invariant l.requires.patch_fits l.requires.patch_reads n h
 
-  its-next : {at to : ℕ} {d : List ℕ} → d ≡ patch_copied l.args.origin l.args.src.now l.loop-k.dst (some_rows l.args.p l.loop-k.at l.loop-k.to n)
+  its-next : {at to : ℕ} {d : List ℕ} → d ≡ patch_copied l.args.origin l.loop-k.dst (some_rows l.args.p l.loop-k.at l.loop-k.to n)
       → at ≡ along l.loop-k.at l.args.p.row_jump n → to ≡ along l.loop-k.to l.args.p.row_stride n
-      → Rowed l.args.origin l.args.src.now l.args.dst.now l.args.p d at to (l.loop-k.k + n)
+      → Rowed l.args.origin l.args.dst.now l.args.p d at to (l.loop-k.k + n)
   its-next e x y = rows_more l.loop-k.invariant l.requires.patch_fits l.requires.patch_reads n h e x y
 
 within : (l : At-loop-k) → rows l ≤ l.args.p.rows - l.loop-k.k → l.loop-k.k + rows l ≤ l.args.p.rows
@@ -59,8 +59,8 @@ copy_rows-requires c =
       patch_reads = its-read (goal.at-copy_rows-requires c).At-loop-k n h;
     }
 
-whole : (l : At-loop-k) {d : List ℕ} {at to k : ℕ} → Rowed l.args.origin l.args.src.now l.args.dst.now l.args.p d at to k
-    → l.args.p.rows ≤ k → d ≡ patch_copied l.args.origin l.args.src.now l.args.dst.now l.args.p
+whole : (l : At-loop-k) {d : List ℕ} {at to k : ℕ} → Rowed l.args.origin l.args.dst.now l.args.p d at to k
+    → l.args.p.rows ≤ k → d ≡ patch_copied l.args.origin l.args.dst.now l.args.p
 whole l r h = rows_end r l.requires.patch_fits l.requires.patch_reads h
 
 pub returns-then-k-p : goal.returns-then-k-p

@@ -11,21 +11,21 @@ use Rattle.mover.proofs.tiles.copy_square.Goals as goal
 use Rattle.mover.proofs.tiles.copy_square.Goals.{Start}
 
 module _ (g : Over) (s : Start g) where
-  long : length s.args.src.now + length s.args.dst.now < 2 ^ 64
+  long : length s.args.dst.now < 2 ^ 63
   long = omega (arith, s.well_formed)
 
-  reads : Held (length (source_bytes s.args.origin s.args.src.now s.args.dst.now)) s.args.p.at s.args.p.jump 16 s.args.s.rows
+  reads : Held (length (source_bytes s.args.origin s.args.dst.now)) s.args.p.at s.args.p.jump 16 s.args.s.rows
   reads = turned_reads s.requires.patch_fits s.requires.patch_reads long s.requires.tiled.0 s.requires.tiled.1 g.row.SIZE s.args.s.rows s.requires.turned.0 (sym s.requires.turned.1.rows)
 
   writes : Held (length s.args.dst.now) s.args.p.to s.args.p.row_stride 16 s.args.s.rows
   writes = turned_writes s.requires.patch_fits s.requires.patch_reads long s.requires.tiled.0 s.requires.tiled.1 g.row.SIZE s.args.s.rows s.requires.turned.0 (sym s.requires.turned.1.rows)
 
   -- what is read is the tile, turned
-  tile : {v t : List ℕ} → v ≡ source_bytes s.args.origin s.args.src.now s.args.dst.now
+  tile : {v t : List ℕ} → v ≡ source_bytes s.args.origin s.args.dst.now
       → t ≡ shuffled g.row.SIZE s.args.s (rows_read v s.args.p.at s.args.p.jump s.args.s.rows g.row.N)
-      → t ≡ tile_of g.row.SIZE (source_bytes s.args.origin s.args.src.now s.args.dst.now) s.args.p.at s.args.p.jump
+      → t ≡ tile_of g.row.SIZE (source_bytes s.args.origin s.args.dst.now) s.args.p.at s.args.p.jump
   tile e t =
-      (rw e at t) ∙ s.requires.turned.1.turned (source_bytes s.args.origin s.args.src.now s.args.dst.now) s.args.p.at s.args.p.jump reads
+      (rw e at t) ∙ s.requires.turned.1.turned (source_bytes s.args.origin s.args.dst.now) s.args.p.at s.args.p.jump reads
 
 pub shuffled-t-requires : goal.shuffled-t-requires
 shuffled-t-requires g c =

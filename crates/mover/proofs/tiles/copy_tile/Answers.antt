@@ -7,7 +7,7 @@ use Rattle.mover.proofs.Spreading.{length_split, length_merged, split_reads, spl
 use Rattle.mover.proofs.tiles.copy_tile.Goals as goal
 use Rattle.mover.proofs.tiles.copy_tile.Goals.{Start}
 
-long : (s : Start) → length s.args.src.now + length s.args.dst.now < 2 ^ 64
+long : (s : Start) → length s.args.dst.now < 2 ^ 63
 long s = omega (arith, s.well_formed)
 
 -- what the kind of tile says

@@ -13,7 +13,7 @@ copy_strip-requires c =
 
 pub returns-then-is_merged : goal.returns-then-is_merged
 returns-then-is_merged c =
-    (rw c.swapped-columns.ensures at c.copy_strip.ensures) ∙ swap_copied c.args.origin c.args.src.now c.requires.patch_fits
+    (rw c.swapped-columns.ensures at c.copy_strip.ensures) ∙ swap_copied c.args.origin c.requires.patch_fits
 
 pub copy_rows-requires-else-is_merged : goal.copy_rows-requires-else-is_merged
 copy_rows-requires-else-is_merged c =
@@ -24,4 +24,4 @@ copy_rows-requires-else-is_merged c =
 
 pub returns-else-is_merged : goal.returns-else-is_merged
 returns-else-is_merged c =
-    (rw c.swapped-columns.ensures at c.copy_rows-else-is_merged.ensures) ∙ swap_copied c.args.origin c.args.src.now c.requires.patch_fits
+    (rw c.swapped-columns.ensures at c.copy_rows-else-is_merged.ensures) ∙ swap_copied c.args.origin c.requires.patch_fits

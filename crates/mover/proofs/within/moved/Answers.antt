@@ -1,5 +1,5 @@
 -- `mover::within::moved` moves what the budget allows of a job's elements from a number on. Assumes nothing.
-use Rattle.std.proofs.Common.{◌≡◌, ◌<◌, Err, length, ◌∙◌, rules}
+use Rattle.std.proofs.Common.{◌≡◌, ◌<◌, Err, length, ◌∙◌, rules, arith}
 use Rattle.plane.specs.Moves.{room_fault, accepted}
 use Rattle.mover.specs.Within.{total_of}
 use Rattle.mover.specs.Private.Elements.{plan_total}
@@ -51,7 +51,7 @@ advance_within-count-requires c =
     let z = job_clear (length c.args.mem.now) c.args.job e in record {
       lies_in = (source_fits (length c.args.mem.now) c.args.job z, destination_fits (length c.args.mem.now) c.args.job z);
       parts_apart = job_apart (length c.args.mem.now) c.args.job z;
-      ready = advance_ready c.args.job c.args.from c.args.budget c.args.mem.now e c.plan_of.ensures;
+      ready = advance_ready c.args.job c.args.from c.args.budget c.args.mem.now e c.plan_of.ensures (omega (arith, c.well_formed));
       from_bound = within c;
     }
 
