@@ -22,12 +22,15 @@ pub(crate) fn check_each<F: Fn(usize) -> bool>(status: u8, n: u8, is_bad: F) -> 
     requires callable { (d : ℕ) → d < n → F.pre is_bad d }
     ensures { (bad : ℕ → Bool) → Tells (F.post is_bad) n bad → result ≡ outcome (lowest status n bad) tt }
 {
-    for dim in 0..n {
-        if is_bad(dim as usize) {
-            return Err(Fault { status, dim });
-        }
+    let found = (0..n).find(
+        |d: &u8|
+            requires { F.pre is_bad d.now }
+        { is_bad(*d as usize) },
+    );
+    match found {
+        Some(dim) => Err(Fault { status, dim }),
+        None => Ok(()),
     }
-    Ok(())
 }
 
 // 3
