@@ -259,15 +259,3 @@ module _ (p : ℕ → Bool) where
       by_test : (b : Bool) → every n p ≡ b → (every n p ≡ false → (k : ℕ) × (k < n) × (p k ≡ false)) → (k : ℕ) × (k < suc n) × (p k ≡ false)
       by_test true w f = (n, omega arith, rw w at e)
       by_test false w f = let r = f w in (r.0, omega arith, r.2)
-
-  -- a loop that looks for one that fails
-  pub every_start : every 0 p ≡ true
-  unfolding every
-  every_start = refl
-
-  pub every_more : (n : ℕ) → every n p ≡ true → p n ≡ true → every (n + 1) p ≡ true
-  unfolding every
-  every_more n e b = ap (λ (k : ℕ). every k p) (add-one n) ∙ simp (e, b)
-
-  pub every_end : (n j : ℕ) → every j p ≡ true → j ≤ n → n ≤ j → every n p ≡ true
-  every_end n j e h l = let q : j ≡ n = omega arith in subst (λ (k : ℕ). every k p ≡ true) q e

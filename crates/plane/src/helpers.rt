@@ -20,12 +20,7 @@ fn product_from(n: u8, shape: [u32; 4], start: u8) -> u64
     requires { (n ≤ 4) × ((d : ℕ) → d < n → at shape d ≤ 65535) }
     ensures { result ≡ product (n - start) (λ k. at shape (start + k)) }
 {
-    let mut count: u64 = 1;
-    for d in start..n {
-        let s = shape[d as usize] as u64;
-        count *= s;
-    }
-    count
+    (start..n).map(|d| shape[d as usize] as u64).product()
 }
 
 // The count, or 1, 3 or 16.

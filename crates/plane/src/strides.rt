@@ -51,12 +51,7 @@ pub(crate) fn distance(n: u8, count: [u32; 4], stride: [u32; 4]) -> u64
     requires { (n ≤ 4) × ((d : ℕ) → d < n → at count d ≤ 131072) }
     ensures { (result ≡ sum n (λ d. at count d * at stride d)) × (result ≤ 4 * (131072 * 4294967295)) }
 {
-    let mut total: u64 = 0;
-    for d in 0..n {
-        let k = d as usize;
-        total += times(count[k], stride[k]);
-    }
-    total
+    (0..n as usize).map(|d| times(count[d], stride[d])).sum()
 }
 
 // The last coordinates of a box of these extents that starts at these offsets.

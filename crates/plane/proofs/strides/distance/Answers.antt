@@ -1,29 +1,37 @@
-use Prim.Native.Nat.{ℕ, ◌*◌, ◌≤◌}
+-- `plane::strides::distance` meets its contract. Assumes nothing.
+use Prim.Native.Nat.{ℕ, ◌+◌, ◌*◌, ◌≤◌, ◌<◌}
+use native.Mathlib.Nat.{mul-le-mul}
 use native.Mathlib.Omega.{arith}
-use Rattle.plane.proofs.Arrays.{summed_start, summed_more, summed_end}
+use borrow.Author.Rules.{rules}
+use mathlib.Core.Path.{◌≡◌, ap, ◌∙◌}
+use Rattle.std.proofs.lemmas.Iterator.{YieldsList-from_range, YieldsList-from_map}
+use Rattle.plane.specs.Arrays.{at, sum}
+use Rattle.plane.proofs.Arrays.{sum_same}
+use Rattle.plane.proofs.Bounds.{sum_most}
+use Rattle.plane.proofs.Ranges.{sum_fits, sum_is}
 use Rattle.plane.proofs.strides.distance.Goals as goal
-use Rattle.plane.proofs.strides.distance.Goals.{After-times-total}
 
--- a term is at most this
-abbrev most : ℕ
-most = 131072 * 4294967295
-
-small : (c : After-times-total) → c.times-total.result ≤ most
-small c =
-    omega (arith, c.requires.1 c.loop-d.d c.loop-d-test.true, c.times-total.ensures.1)
-
-pub overflow_add-total : goal.overflow_add-total
-overflow_add-total c =
-    omega (arith, small c, c.loop-d.invariant.most, c.loop-d.invariant.within, c.requires.0)
-
-pub loop-d-preserved : goal.loop-d-preserved
-loop-d-preserved c = summed_more c.loop-d.invariant c.loop-d-test.true c.times-total.ensures.0 (small c)
+pub sum-requires-clause-fits : goal.sum-requires-clause-fits
+sum-requires-clause-fits c =
+    let a = c.args in
+    let m : (d : ℕ) → d < 4 → at a.stride d ≤ 4294967295 = search rules in
+    sum_fits (λ d. at a.count d * at a.stride d) 0 a.n
+    (YieldsList-from_map _ _ (YieldsList-from_range 0 a.n a.n c.map.ensures.source (omega arith)) c.map.ensures.closure (λ x r q k. search rules))
+    _
+    (λ k l.
+    let s = c.requires.0 in
+    let w = sum_most k (λ j. at a.count (0 + j) * at a.stride (0 + j)) (131072 * 4294967295) (λ j h. mul-le-mul (c.requires.1 (0 + j) (omega arith)) (m (0 + j) (omega arith))) in
+    omega arith)
 
 pub returns : goal.returns
 returns c =
-    let e = summed_end c.loop-d.invariant c.loop-d-test.false in
+    let a = c.args in
+    let m : (d : ℕ) → d < 4 → at a.stride d ≤ 4294967295 = search rules in
     let s = c.requires.0 in
-    (e.0, omega (arith, e.1))
-
-pub loop-d-init : goal.loop-d-init
-loop-d-init c = summed_start
+    let e = sum_is (λ d. at a.count d * at a.stride d) 0 a.n
+    (YieldsList-from_map _ _ (YieldsList-from_range 0 a.n a.n c.map.ensures.source (omega arith)) c.map.ensures.closure (λ x r q k. search rules))
+    c.sum.ensures.ran in
+    let f : c.sum.result ≡ sum a.n (λ d. at a.count d * at a.stride d) =
+    e ∙ sum_same a.n _ _ (λ k q. let z : 0 + k ≡ k = omega arith in ap (λ (d : ℕ). at a.count d * at a.stride d) z) in
+    let w = sum_most a.n (λ d. at a.count d * at a.stride d) (131072 * 4294967295) (λ d h. mul-le-mul (c.requires.1 d h) (m d (omega arith))) in
+    (f, omega arith)
