@@ -44,30 +44,35 @@ module _ (h : ℕ → ℕ → ℕ) (of : ℕ → ℕ) (f : ℕ → ℕ) (a : ℕ
     its_total : {r : ℕ} → ((xs : List ℕ) × (⊤ → Drains steps s xs) × (r ≡ fold h (of 0) xs)) → r ≡ of n
     its_total {r} ran = total_from_yields_List h (of 0) r ran road ∙ folded n
 
-module _ {S : Type 0} {steps : S → Option ℕ → S → Type 0} {s : S} (f : ℕ → ℕ) (a n : ℕ) (road : YieldsList steps (λ x. x) s (map f (range_with_len a n))) where
-  abbrev first : ℕ → ℕ
-  first k = f (a + k)
+-- the numbers from 0 on
+pub from_0 : (f : ℕ → ℕ) (k : ℕ) → f (0 + k) ≡ f k
+from_0 f k = let e : 0 + k ≡ k = omega arith in ap f e
 
-  one_added : (k : ℕ) → sum (k + 1) first ≡ sum k first + f (a + k)
+-- a chain that gives f a, f (a + 1), .., n in all; g 0, g 1, .. are these
+module _ {S : Type 0} {steps : S → Option ℕ → S → Type 0} {s : S} (f : ℕ → ℕ) (a n : ℕ) (road : YieldsList steps (λ x. x) s (map f (range_with_len a n))) (g : ℕ → ℕ) (same : (k : ℕ) → f (a + k) ≡ g k) where
+  one_added : (k : ℕ) → sum (k + 1) g ≡ sum k g + f (a + k)
   unfolding sum
-  one_added k = ap (λ (j : ℕ). sum j first) (add-one k)
+  one_added k = ap (λ (j : ℕ). sum j g) (add-one k) ∙ ap (λ (v : ℕ). sum k g + v) (sym (same k))
 
-  one_multiplied : (k : ℕ) → product (k + 1) first ≡ product k first * f (a + k)
+  one_multiplied : (k : ℕ) → product (k + 1) g ≡ product k g * f (a + k)
   unfolding product
-  one_multiplied k = ap (λ (j : ℕ). product j first) (add-one k)
+  one_multiplied k = ap (λ (j : ℕ). product j g) (add-one k) ∙ ap (λ (v : ℕ). product k g * v) (sym (same k))
 
-  pub sum_fits : (top : ℕ) → ((k : ℕ) → k ≤ n → sum k first < top) → EachRunFrom steps s (λ p. fold (λ t x. t + x) 0 p.items < top)
+  -- what `sum` requires: the sum of the first k fits
+  pub sum_fits : (top : ℕ) → ((k : ℕ) → k ≤ n → sum k g < top) → EachRunFrom steps s (λ p. fold (λ t x. t + x) 0 p.items < top)
   unfolding sum
-  sum_fits top b = its_fits ◌+◌ (λ k. sum k first) f a one_added road top b
+  sum_fits top b = its_fits ◌+◌ (λ k. sum k g) f a one_added road top b
 
-  pub sum_is : {r : ℕ} → ((xs : List ℕ) × (⊤ → Drains steps s xs) × (r ≡ fold (λ t x. t + x) 0 xs)) → r ≡ sum n first
+  -- what it gives
+  pub sum_is : {r : ℕ} → ((xs : List ℕ) × (⊤ → Drains steps s xs) × (r ≡ fold (λ t x. t + x) 0 xs)) → r ≡ sum n g
   unfolding sum
-  sum_is ran = its_total ◌+◌ (λ k. sum k first) f a one_added road ran
+  sum_is ran = its_total ◌+◌ (λ k. sum k g) f a one_added road ran
 
-  pub product_fits : (top : ℕ) → ((k : ℕ) → k ≤ n → product k first < top) → EachRunFrom steps s (λ p. fold (λ t x. t * x) 1 p.items < top)
+  -- the same of `product`
+  pub product_fits : (top : ℕ) → ((k : ℕ) → k ≤ n → product k g < top) → EachRunFrom steps s (λ p. fold (λ t x. t * x) 1 p.items < top)
   unfolding product
-  product_fits top b = its_fits ◌*◌ (λ k. product k first) f a one_multiplied road top b
+  product_fits top b = its_fits ◌*◌ (λ k. product k g) f a one_multiplied road top b
 
-  pub product_is : {r : ℕ} → ((xs : List ℕ) × (⊤ → Drains steps s xs) × (r ≡ fold (λ t x. t * x) 1 xs)) → r ≡ product n first
+  pub product_is : {r : ℕ} → ((xs : List ℕ) × (⊤ → Drains steps s xs) × (r ≡ fold (λ t x. t * x) 1 xs)) → r ≡ product n g
   unfolding product
-  product_is ran = its_total ◌*◌ (λ k. product k first) f a one_multiplied road ran
+  product_is ran = its_total ◌*◌ (λ k. product k g) f a one_multiplied road ran

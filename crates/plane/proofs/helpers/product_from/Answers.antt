@@ -14,7 +14,7 @@ product-requires-clause-fits c =
     let a = c.args in
     product_fits (at a.shape) a.start (a.n - a.start)
     (YieldsList-from_map _ _ (YieldsList-from_range a.start a.n (a.n - a.start) c.map.ensures.source refl) c.map.ensures.closure (λ x r q k. search rules))
-    _
+    (λ k. at a.shape (a.start + k)) (λ k. refl) _
     (λ k l.
     let s = c.requires.0 in
     let w = product_most k _ (omega arith) (λ j h. c.requires.1 (a.start + j) (omega arith)) in
@@ -25,4 +25,4 @@ returns c =
     let a = c.args in
     product_is (at a.shape) a.start (a.n - a.start)
     (YieldsList-from_map _ _ (YieldsList-from_range a.start a.n (a.n - a.start) c.map.ensures.source refl) c.map.ensures.closure (λ x r q k. search rules))
-    c.product.ensures.ran
+    (λ k. at a.shape (a.start + k)) (λ k. refl) c.product.ensures.ran
