@@ -8,7 +8,7 @@ ghost use Rattle.plane.specs.Helpers.{count_fault, count_of, elements};
 use crate::refusals::{check_shape, rank_is_bad};
 use crate::{Count, Fault, Tensor};
 
-// The element size in bytes, 1 to 4, and 0 for one that is not taken.
+// The element size in bytes, 1 to 4, and 0 for one that is not taken. No Option: the 0 is promised to callers outside.
 pub fn element_size(size: u8) -> u8
     ensures { result ≡ element_size size }
 {

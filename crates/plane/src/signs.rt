@@ -12,7 +12,7 @@ pub(crate) fn is_down(s: i32) -> bool
     s < 0
 }
 
-// The number of this size, with the sign of s.
+// The number of this size, with the sign of s. By hand, since std has no such method for integers.
 fn with_sign(s: i32, size: u32) -> i32
     requires { size ≤ 2147483647 }
     ensures { result ≡ signed (is_down s) size }
