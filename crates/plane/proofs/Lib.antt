@@ -18,5 +18,6 @@ pub mod Falling
 pub mod Rules
 pub mod CountAnswers
 pub mod Products
+pub mod Ranges
 pub mod Staying
 pub mod SubAnswers

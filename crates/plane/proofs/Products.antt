@@ -1,8 +1,8 @@
--- The loops that multiply shapes or extents: what they come to, and that 64 bits hold it. Assumes nothing.
-use Prim.Native.Nat.{ℕ, ◌+◌, ◌-◌, ◌*◌, ◌^◌, ◌≤◌, ◌<◌}
+-- A loop that multiplies factors: what it comes to, and that 64 bits hold it. Assumes nothing.
+use Prim.Native.Nat.{ℕ, ◌+◌, ◌*◌, ◌^◌, ◌≤◌, ◌<◌}
 use native.Mathlib.Numerals.{add-one}
 use native.Mathlib.Omega.{arith}
-use mathlib.Core.Path.{◌≡◌, refl, sym, ap, ap₂, subst, ◌∙◌}
+use mathlib.Core.Path.{◌≡◌, refl, sym, ap, ap₂, ◌∙◌}
 use Rattle.plane.specs.Arrays.{product}
 use Rattle.plane.proofs.Bounds.{product_most}
 
@@ -35,33 +35,3 @@ module _ {n : ℕ} {f : ℕ → ℕ} where
       let l = m.within in
       let q : i ≡ n = omega arith in
       m.is ∙ ap (λ (k : ℕ). product k f) q
-
--- the same from start on, where the loop stands at d
-pub record MultipliedFrom (start n : ℕ) (f : ℕ → ℕ) (total d : ℕ) : Type 0 where
-  pub past : start ≤ d
-  pub sofar : Multiplied (n - start) (λ k. f (start + k)) total (d - start)
-
-module _ {start n : ℕ} {f : ℕ → ℕ} where
-  pub from_start : MultipliedFrom start n f 1 start
-  from_start = let e : 0 ≡ start - start = omega arith in record {
-    past = omega arith;
-    sofar = subst (λ (i : ℕ). Multiplied (n - start) (λ k. f (start + k)) 1 i) e multiplied_start;
-  }
-
-  module _ {total d : ℕ} (m : MultipliedFrom start n f total d) (h : d < n) where
-    factor : f d ≡ f (start + (d - start))
-    factor = let p = m.past in ap f (omega arith)
-
-    pub from_more : MultipliedFrom start n f (total * f d) (d + 1)
-    from_more = let p = m.past in let e : d - start + 1 ≡ d + 1 - start = omega arith in record {
-      past = omega arith;
-      sofar = subst (λ (i : ℕ). Multiplied (n - start) (λ k. f (start + k)) (total * f d) i) e (multiplied_more m.sofar (omega arith) factor);
-    }
-
-    pub from_fits : n ≤ 4 → ((k : ℕ) → k < n → f k ≤ 65535) → total * f d < 2 ^ 64
-    from_fits l b =
-        let p = m.past in
-        multiplied_fits m.sofar (omega arith) factor (omega arith) (λ k q. b (start + k) (omega arith))
-
-  pub from_end : {total d : ℕ} → MultipliedFrom start n f total d → n ≤ d → total ≡ product (n - start) (λ k. f (start + k))
-  from_end m h = let p = m.past in multiplied_end m.sofar (omega arith)

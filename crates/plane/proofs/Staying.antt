@@ -19,6 +19,7 @@ use Rattle.plane.specs.Signs.{zeros_z}
 use Rattle.plane.specs.Helpers.{is_unit, removed, staying}
 use Rattle.plane.specs.Private.{staying_of}
 use Rattle.faults.proofs.Bools.{both_first, both_second}
+use Rattle.plane.proofs.Good.{positive}
 use Rattle.plane.proofs.Arrays.{Filled, filled_start, filled_more, filled_end, filled_same, sum_same}
 
 -- ---- what becomes of one dimension
@@ -219,13 +220,26 @@ module _ (n : ℕ) (size : ℕ → ℕ) (stride : ℕ → ℤ) (excess : ℕ) wh
           strides = one_more stride out four g w.strides;
         })
 
-  pub shrunk_end : {shape : List ℕ} {out : List ℤ} {lacking k d : ℕ} → Shrunk shape out lacking k d → n ≤ d → ◌≡◌ {A = Staying} (record { lacking = lacking; shape = shape; stride = out }) (staying_of n size stride excess)
-  unfolding staying_of
-  shrunk_end {shape} {out} {lacking} {k} {d} w h =
-      let l = w.within in
-      let e : d ≡ n = omega arith in
-      subst (λ (m : ℕ). ◌≡◌ {A = Staying} (record { lacking = lacking; shape = shape; stride = out }) (staying_of m size stride excess)) e
-      (λ i. record { lacking = w.left i; shape = full size shape w.shapes i; stride = full stride out w.strides i })
-    where
-      full : {A : Type 0} {z : A} (f : ℕ → A) (a : List A) → Filled z 4 (λ j. f (at (staying size excess d) j)) a k → a ≡ firsts_or z (length (staying size excess d)) (λ i. f (at (staying size excess d) i))
-      full f a v = filled_end (record { within = omega (arith, w.count); long = v.long; entries = rw w.count at v.entries }) (omega (arith, w.count))
+  module _ {shape : List ℕ} {out : List ℤ} {lacking k d : ℕ} (w : Shrunk shape out lacking k d) (h : n ≤ d) where
+    whole : d ≡ n
+    whole = let l = w.within in omega arith
+
+    its_lacking : lacking ≡ lacking_at size excess n
+    its_lacking = w.left ∙ ap (lacking_at size excess) whole
+
+    -- some that should go are not there
+    pub shrunk_short : (lacking ≡ 0 → ⊥) → ltb (how_many n (is_unit size)) excess ≡ true
+    shrunk_short z = lt-ltb (how_many n (is_unit size)) excess (omega (arith, its_lacking, positive lacking z))
+
+    -- all are
+    pub shrunk_enough : lacking ≡ 0 → ltb (how_many n (is_unit size)) excess ≡ false
+    shrunk_enough z = le-ltb (how_many n (is_unit size)) excess (omega (arith, its_lacking))
+
+    full : {A : Type 0} {z : A} (f : ℕ → A) (a : List A) → Filled z 4 (λ j. f (at (staying size excess d) j)) a k → a ≡ firsts_or z (length (staying size excess n)) (λ i. f (at (staying size excess n) i))
+    full {z = z} f a v =
+        let e = filled_end (record { within = omega (arith, w.count); long = v.long; entries = rw w.count at v.entries }) (omega (arith, w.count)) in
+        subst (λ (m : ℕ). a ≡ firsts_or z (length (staying size excess m)) (λ i. f (at (staying size excess m) i))) whole e
+
+    pub shrunk_end : ◌≡◌ {A = Staying} (record { shape = shape; stride = out }) (staying_of n size stride excess)
+    unfolding staying_of
+    shrunk_end = λ i. record { shape = full size shape w.shapes i; stride = full stride out w.strides i }

@@ -1,11 +1,11 @@
 -- From what the checks of `sub_tensor` answer, in their order, to the definition of its answer. Assumes nothing.
-use Prim.Native.Nat.{ℕ, ◌+◌, ◌-◌, ◌*◌, ◌≤◌, ◌<◌}
+use Prim.Native.Nat.{ℕ, ◌+◌, ◌*◌, ◌≤◌, ◌<◌}
 use native.Mathlib.Decide.{ℕ_discrete, dec_lt}
 use native.Mathlib.Omega.{arith}
 use mathlib.Core.Path.{◌≡◌, sym, ap, ap₂, ◌∙◌}
 use mathlib.Core.Bool.{Bool, true, false, ◌||◌}
 use mathlib.Core.List.{List}
-use borrow.Author.Tests.{lt-ltb, le-ltb, ltb-false, eqb-false}
+use borrow.Author.Tests.{ltb-false, eqb-false}
 use lib.Dec.{ltb, eqb}
 use lib.IntN.{ℤ, pos}
 use lib.ListN.{length}
@@ -16,12 +16,12 @@ use Rattle.plane.specs.declared.SubTensor.{SubTensor}
 use Rattle.plane.specs.declared.sub.Staying.{Staying}
 use Rattle.plane.specs.Arrays.{at, array, firsts, firsts_or, sum, how_many}
 use Rattle.plane.specs.Signs.{signed, at_z}
-use Rattle.faults.specs.Faults.{none, fault, lowest}
+use Rattle.faults.specs.Faults.{lowest}
 use Rattle.plane.specs.Planes.{shape_at, stride_at, down_at, up, resolved, src_strides}
-use Rattle.plane.specs.Helpers.{bad_sub_size, is_unit, staying, excess, sub_dim, rank_fault, resolved_at, lowest_in, sub_of, sub_byte, no_sub, sub_answer}
-use Rattle.plane.specs.Private.{IsPart, staying_of, sub_accepted}
+use Rattle.plane.specs.Helpers.{bad_sub_size, is_unit, staying, excess, sub_dim, resolved_at, lowest_in, sub_of, sub_byte, no_sub, sub_answer}
+use Rattle.plane.specs.Private.{IsPart, units_fault, staying_of, sub_accepted}
 use Rattle.faults.proofs.Bools.{either_clear}
-use Rattle.faults.proofs.Faults.{spared, when_bad, when_good, if_fault_lem, if_none, lowest_clear}
+use Rattle.faults.proofs.Faults.{when_clear, if_fault_lem, if_none, lowest_clear}
 use Rattle.plane.specs.Good.{GoodSource}
 use Rattle.plane.proofs.Good.{positive}
 use Rattle.plane.proofs.Arrays.{array_at, firsts_at, firsts_past, firsts_same, sum_same}
@@ -67,30 +67,17 @@ strides_most {t} g d l = elim (dec_lt d t.rank) [
   | no h ↦ omega (arith, firsts_past 0 t.rank (resolved t.rank (shape_at t) (stride_at t)) d l (omega arith))
 ]
 
--- ---- 14 and 15: z are the sizes of the resolved strides, l the strides with their signs, and p is what is left without unit dimensions
+-- ---- where 14 and 15 passed: z are the sizes of the resolved strides, l the strides with their signs, and p is what is left without unit
+-- dimensions
 
 module _ (t : Tensor) (s : SubConfig) (r : (eqb s.rank 0 || ltb t.rank s.rank) ≡ false) where
   pub rank_fits : s.rank ≤ t.rank
   rank_fits = ltb-false _ _ (either_clear (eqb s.rank 0) _ r).1
 
   module _ {z : List ℕ} {l : List ℤ} {p : Staying} (ez : z ≡ src_strides t) (el : l ≡ array (λ d. signed (down_at t d) (at z d))) (ep : p ≡ staying_of t.rank (at s.size) (at_z l) (excess t s)) where
-    its_lacking : p.lacking ≡ excess t s - how_many t.rank (is_unit (at s.size))
-    unfolding staying_of
-    its_lacking = ap (λ (x : Staying). x.lacking) ep
-
-    pub rank_lacking : (p.lacking ≡ 0 → ⊥) → rank_fault t s ≡ fault 15 0
-    unfolding rank_fault
-    rank_lacking h =
-        let b = positive p.lacking h in
-        spared 14 0 _ _ r ∙ when_bad 15 0 _ (lt-ltb (how_many t.rank (is_unit (at s.size))) (excess t s) (omega (arith, its_lacking)))
-
-    module _ (four : t.rank ≤ 4) (h : p.lacking ≡ 0) where
+    module _ (four : t.rank ≤ 4) (u : (units_fault t.rank (at s.size) (excess t s)).status ≡ 0) where
       enough : excess t s ≤ how_many t.rank (is_unit (at s.size))
-      enough = omega (arith, its_lacking)
-
-      pub rank_none : rank_fault t s ≡ none
-      unfolding rank_fault
-      rank_none = spared 14 0 _ _ r ∙ when_good 15 0 _ (le-ltb _ _ enough)
+      enough = ltb-false _ _ (when_clear 15 0 _ (omega arith) u)
 
       -- as many are left as the rank asks for
       left : length (staying (at s.size) (excess t s) t.rank) ≡ s.rank

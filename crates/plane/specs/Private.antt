@@ -1,5 +1,5 @@
 -- What the contracts of private functions cite. No reader of a public contract needs this file.
-use Rattle.std.specs.Prelude.{ℕ, ◌+◌, ◌-◌, ◌*◌, ◌≤◌, ◌<◌, ◌≡◌, List, ℤ, pos, length}
+use Rattle.std.specs.Prelude.{ℕ, ◌+◌, ◌-◌, ◌*◌, ◌≤◌, ◌<◌, ◌≡◌, List, ℤ, pos, length, ltb}
 use Rattle.plane.specs.declared.Tensor.{Tensor}
 use Rattle.plane.specs.declared.Config.{Config}
 use Rattle.plane.specs.declared.sub.Staying.{Staying}
@@ -10,7 +10,8 @@ use Rattle.plane.specs.declared.SubConfig.{SubConfig}
 use Rattle.plane.specs.declared.SubTensor.{SubTensor}
 use Rattle.plane.specs.declared.Source.{Source}
 use Rattle.plane.specs.declared.RoomAnswer.{RoomAnswer}
-use Rattle.faults.specs.Faults.{none}
+use Rattle.faults.specs.declared.Fault.{Fault}
+use Rattle.faults.specs.Faults.{none, overall, first_fault}
 use Rattle.plane.specs.Helpers.{is_unit, staying, sub_of, sub_byte}
 
 -- ---- what they ask
@@ -47,10 +48,13 @@ pub record IsPart (shape offset size : ℕ) : Type 0 where
 abbrev pub reach : ℕ → (ℕ → ℕ) → (ℕ → ℕ) → (ℕ → ℕ) → ℕ
 reach n offset extent stride = 1 + sum n (λ d. (offset d + extent d - 1) * stride d)
 
--- the sizes and strides of the dimensions that stay, and how many that should go are not there
+-- 15, where fewer than excess dimensions are units
+abbrev pub units_fault : ℕ → (ℕ → ℕ) → ℕ → Fault
+units_fault n size excess = first_fault (overall 15 (ltb (how_many n (is_unit size)) excess))
+
+-- the sizes and strides of the dimensions that stay
 unfoldable pub staying_of : ℕ → (ℕ → ℕ) → (ℕ → ℤ) → ℕ → Staying
 staying_of n size stride excess = record {
-  lacking = excess - how_many n (is_unit size);
   shape = firsts (length (staying size excess n)) (λ i. size (at (staying size excess n) i));
   stride = firsts_or (pos 0) (length (staying size excess n)) (λ i. stride (at (staying size excess n) i));
 }

@@ -8,7 +8,7 @@ ghost use Rattle.plane.specs.Helpers.{count_fault, count_of, elements};
 use crate::refusals::{check_shape, rank_is_bad};
 use crate::{Count, Fault, Tensor};
 
-// The element size in bytes, 1 to 4, and 0 for one that is not taken.
+// The element size in bytes, 1 to 4, and 0 for one that is not taken. No Option: the 0 is promised to callers outside.
 pub fn element_size(size: u8) -> u8
     ensures { result ≡ element_size size }
 {
@@ -20,12 +20,7 @@ fn product_from(n: u8, shape: [u32; 4], start: u8) -> u64
     requires { (n ≤ 4) × ((d : ℕ) → d < n → at shape d ≤ 65535) }
     ensures { result ≡ product (n - start) (λ k. at shape (start + k)) }
 {
-    let mut count: u64 = 1;
-    for d in start..n {
-        let s = shape[d as usize] as u64;
-        count *= s;
-    }
-    count
+    (start..n).map(|d| shape[d as usize] as u64).product()
 }
 
 // The count, or 1, 3 or 16.

@@ -1,4 +1,6 @@
 // The rules that name the lowest dimension at fault, a function each. n is the rank; entries at or past it are not read.
+// Here and in the files beside each function asks for `n ≤ 4` by itself: a rank is a public u8, so a type for a checked one would be made in
+// each public call and unwrapped at each use.
 ghost use Rattle.std.specs.Prelude.{◌≡◌, ℕ, ◌+◌, ◌≤◌, ◌<◌, Bool, eqb};
 ghost use Rattle.plane.specs.Arrays.{at, some};
 ghost use Rattle.faults.specs.Faults.{lowest, outcome};
@@ -9,7 +11,7 @@ ghost use Rattle.plane.specs.Private.{IsExtent, Tells};
 use crate::Fault;
 use crate::strides::times;
 
-// 1: whether a rank is refused.
+// 1: whether a rank is refused. A bool and no Result: so it is promised to callers outside.
 pub fn rank_is_bad(n: u8) -> bool
     ensures { result ≡ bad_rank n }
 {
@@ -22,12 +24,15 @@ pub(crate) fn check_each<F: Fn(usize) -> bool>(status: u8, n: u8, is_bad: F) -> 
     requires callable { (d : ℕ) → d < n → F.pre is_bad d }
     ensures { (bad : ℕ → Bool) → Tells (F.post is_bad) n bad → result ≡ outcome (lowest status n bad) tt }
 {
-    for dim in 0..n {
-        if is_bad(dim as usize) {
-            return Err(Fault { status, dim });
-        }
+    let found = (0..n).find(
+        |d: &u8|
+            requires { F.pre is_bad d.now }
+        { is_bad(*d as usize) },
+    );
+    match found {
+        Some(dim) => Err(Fault { status, dim }),
+        None => Ok(()),
     }
-    Ok(())
 }
 
 // 3

@@ -1,7 +1,9 @@
 // Signed 32-bit numbers: the size and the sign.
 ghost use Rattle.std.specs.Prelude.{◌≡◌, ℕ, ◌≤◌, ◌<◌};
 ghost use Rattle.plane.specs.Arrays.{at, array};
-ghost use Rattle.plane.specs.Signs.{size_of, is_down, signed, at_z, sizes};
+ghost use Rattle.plane.specs.Signs.{is_down, signed, at_z, sizes};
+
+use std::array;
 
 // Whether s is below 0.
 pub(crate) fn is_down(s: i32) -> bool
@@ -10,14 +12,7 @@ pub(crate) fn is_down(s: i32) -> bool
     s < 0
 }
 
-// s without its sign: 2,147,483,648 for the least number.
-fn size_of(s: i32) -> u32
-    ensures { result ≡ size_of s }
-{
-    if s < 0 { (-1 - s) as u32 + 1 } else { s as u32 }
-}
-
-// The number of this size, with the sign of s.
+// The number of this size, with the sign of s. By hand, since std has no such method for integers.
 fn with_sign(s: i32, size: u32) -> i32
     requires { size ≤ 2147483647 }
     ensures { result ≡ signed (is_down s) size }
@@ -29,12 +24,7 @@ fn with_sign(s: i32, size: u32) -> i32
 pub(crate) fn sizes(xs: [i32; 4]) -> [u32; 4]
     ensures { result ≡ sizes xs }
 {
-    [
-        size_of(xs[0]),
-        size_of(xs[1]),
-        size_of(xs[2]),
-        size_of(xs[3]),
-    ]
+    xs.map(i32::unsigned_abs)
 }
 
 // These sizes, with the signs of xs.
@@ -42,10 +32,5 @@ pub(crate) fn with_signs(xs: [i32; 4], size: [u32; 4]) -> [i32; 4]
     requires { (d : ℕ) → d < 4 → at size d ≤ 2147483647 }
     ensures { result ≡ array (λ d. signed (is_down (at_z xs d)) (at size d)) }
 {
-    [
-        with_sign(xs[0], size[0]),
-        with_sign(xs[1], size[1]),
-        with_sign(xs[2], size[2]),
-        with_sign(xs[3], size[3]),
-    ]
+    array::from_fn(|d| with_sign(xs[d], size[d]))
 }

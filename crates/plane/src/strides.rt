@@ -15,14 +15,15 @@ fn resolved(stride: u32, inner: u64) -> u64
     if stride == 0 { inner } else { stride as u64 }
 }
 
-// The whole product, which 64 bits hold.
+// The whole product, which 64 bits hold. `mover` has one like it: one for both would be a public call.
 pub(crate) fn times(a: u32, b: u32) -> u64
     ensures { (result ≡ a * b) × (result ≤ a * 4294967295) }
 {
     (a as u64) * (b as u64)
 }
 
-// From the last dimension outward; refuses with that number, 4 for a source and 11 for a destination, the first that is met.
+// From the last dimension outward; refuses with that number, 4 for a source and 11 for a destination, the first that is met. A loop, since
+// it takes two values from a turn to the next: the strides so far and the inner product.
 pub(crate) fn resolve(
     status: u8,
     n: u8,
@@ -51,12 +52,7 @@ pub(crate) fn distance(n: u8, count: [u32; 4], stride: [u32; 4]) -> u64
     requires { (n ≤ 4) × ((d : ℕ) → d < n → at count d ≤ 131072) }
     ensures { (result ≡ sum n (λ d. at count d * at stride d)) × (result ≤ 4 * (131072 * 4294967295)) }
 {
-    let mut total: u64 = 0;
-    for d in 0..n {
-        let k = d as usize;
-        total += times(count[k], stride[k]);
-    }
-    total
+    (0..n as usize).map(|d| times(count[d], stride[d])).sum()
 }
 
 // The last coordinates of a box of these extents that starts at these offsets.

@@ -6,7 +6,7 @@ ghost use Rattle.faults.specs.Faults.{lowest, outcome};
 ghost use Rattle.plane.specs.Planes.{shape_at, up, src_strides};
 ghost use Rattle.plane.specs.Helpers.{bad_sub_size, rank_fault, sub_fault, lowest_in, sub_tensor_of};
 ghost use Rattle.plane.specs.Good.{GoodSource};
-ghost use Rattle.plane.specs.Private.{IsPart, staying_of, sub_accepted};
+ghost use Rattle.plane.specs.Private.{IsPart, units_fault, staying_of, sub_accepted};
 
 use crate::entries::firsts;
 use crate::refusals::{check_each, check_offset, size_is_bad};
@@ -27,18 +27,18 @@ fn check_sub_size(n: u8, shape: [u32; 4], offset: [u32; 4], size: [u32; 4]) -> R
     )
 }
 
-// The dimensions that stay, and how many of those that should go are lacking.
+// The dimensions that stay.
 #[derive(Clone, Copy)]
 pub(crate) struct Staying {
-    pub(crate) lacking: u8,
     pub(crate) shape: [u32; 4],
     pub(crate) stride: [i32; 4],
 }
 
-// Takes unit dimensions out, with their strides, from the first on, until excess of them are gone.
-fn without_units(n: u8, size: [u32; 4], stride: [i32; 4], excess: u8) -> Staying
+// 15, or what stays where unit dimensions are taken out, with their strides, from the first on, until excess of them are gone. A loop,
+// since it fills two arrays and counts those that go.
+fn without_units(n: u8, size: [u32; 4], stride: [i32; 4], excess: u8) -> Result<Staying, Fault>
     requires { n ≤ 4 }
-    ensures { result ≡ staying_of n (at size) (at_z stride) excess }
+    ensures { result ≡ outcome (units_fault n (at size) excess) (staying_of n (at size) (at_z stride) excess) }
 {
     let mut shape = [0u32; 4];
     let mut out = [0i32; 4];
@@ -54,11 +54,10 @@ fn without_units(n: u8, size: [u32; 4], stride: [i32; 4], excess: u8) -> Staying
             k += 1;
         }
     }
-    Staying {
-        lacking,
-        shape,
-        stride: out,
+    if lacking != 0 {
+        return Err(Fault { status: 15, dim: 0 });
     }
+    Ok(Staying { shape, stride: out })
 }
 
 // How many strides up from the lowest element of a dimension the lowest of a part of it lies.
@@ -86,18 +85,13 @@ fn shrink(t: Tensor, s: SubConfig, sizes: [u32; 4]) -> Result<SubTensor, Fault>
     if (rank == 0) | ((t.rank as u32) < rank) {
         return Err(Fault { status: 14, dim: 0 });
     }
-    let part = without_units(
+    let Staying { shape, stride } = without_units(
         t.rank,
         s.size,
         with_signs(t.stride, sizes),
         t.rank - (rank as u8),
-    );
-    if part.lacking != 0 {
-        return Err(Fault { status: 15, dim: 0 });
-    }
+    )?;
     let lowest = lows(t.rank, t.stride, t.shape, s.offset, s.size);
-    let shape = part.shape;
-    let stride = part.stride;
     Ok(SubTensor {
         status: 0,
         dim: 0,

@@ -7,6 +7,7 @@ ghost use Rattle.plane.specs.Moves.{refused};
 
 use crate::{Answer, Config, Fault, Tensor};
 
+// No fault, for the public answers that hold one also where nothing is refused (`Source`).
 pub(crate) fn no_fault() -> Fault
     ensures { result ≡ none }
 {

@@ -1,12 +1,18 @@
-use Rattle.plane.proofs.Arrays.{filled_start, filled_more, filled_end}
+-- `plane::entries::firsts` meets its contract. Assumes nothing.
+use native.Mathlib.Decide.{dec_lt}
+use native.Mathlib.Omega.{arith}
+use mathlib.Core.Path.{◌≡◌, sym, ◌∙◌}
+use Rattle.std.proofs.Common.{rules}
+use Rattle.plane.specs.Arrays.{below, firsts_or}
+use Rattle.plane.proofs.Arrays.{below_lt, below_past, made_array}
 use Rattle.plane.proofs.entries.firsts.Goals as goal
 
-pub loop-d-init : goal.loop-d-init
-loop-d-init g c = λ f t. filled_start
-
-pub loop-d-preserved : goal.loop-d-preserved
-loop-d-preserved g c =
-    λ f t. filled_more c.requires.n_bound (c.loop-d.invariant f t) c.loop-d-test.true (t _ _ c.loop-d-test.true c.entry.ensures)
-
 pub returns : goal.returns
-returns g c = λ f t. filled_end (c.loop-d.invariant f t) c.loop-d-test.false
+unfolding firsts_or
+returns g c = λ f t.
+    made_array 0 _ _ _ (λ d. below 0 c.args.n d (f d))
+    (λ d y q h k. elim (dec_lt d c.args.n) [
+      | yes l ↦ (search rules, t d y l (search rules) ∙ sym (below_lt 0 c.args.n d (f d) l))
+      | no l ↦ (search rules, let e : y ≡ 0 = search rules in e ∙ sym (below_past 0 c.args.n d (f d) (omega arith)))
+    ])
+    c.from_fn.ensures.items

@@ -1,16 +1,28 @@
+-- `plane::helpers::product_from` meets its contract. Assumes nothing.
+use Prim.Native.Nat.{◌+◌, ◌-◌}
 use native.Mathlib.Omega.{arith}
-use Rattle.plane.proofs.Products.{from_start, from_more, from_fits, from_end}
+use borrow.Author.Rules.{rules}
+use mathlib.Core.Path.{refl}
+use Rattle.std.proofs.lemmas.Iterator.{YieldsList-from_range, YieldsList-from_map}
+use Rattle.plane.specs.Arrays.{at}
+use Rattle.plane.proofs.Bounds.{product_most}
+use Rattle.plane.proofs.Ranges.{product_fits, product_is}
 use Rattle.plane.proofs.helpers.product_from.Goals as goal
 
-pub overflow_mul-count : goal.overflow_mul-count
-overflow_mul-count c =
-    omega (arith, from_fits c.loop-d.invariant c.loop-d-test.true c.requires.0 c.requires.1)
-
-pub loop-d-preserved : goal.loop-d-preserved
-loop-d-preserved c = from_more c.loop-d.invariant c.loop-d-test.true
-
-pub loop-d-init : goal.loop-d-init
-loop-d-init c = from_start
+pub product-requires-clause-fits : goal.product-requires-clause-fits
+product-requires-clause-fits c =
+    let a = c.args in
+    product_fits (at a.shape) a.start (a.n - a.start)
+    (YieldsList-from_map _ _ (YieldsList-from_range a.start a.n (a.n - a.start) c.map.ensures.source refl) c.map.ensures.closure (λ x r q k. search rules))
+    (λ k. at a.shape (a.start + k)) (λ k. refl) _
+    (λ k l.
+    let s = c.requires.0 in
+    let w = product_most k _ (omega arith) (λ j h. c.requires.1 (a.start + j) (omega arith)) in
+    omega arith)
 
 pub returns : goal.returns
-returns c = from_end c.loop-d.invariant c.loop-d-test.false
+returns c =
+    let a = c.args in
+    product_is (at a.shape) a.start (a.n - a.start)
+    (YieldsList-from_map _ _ (YieldsList-from_range a.start a.n (a.n - a.start) c.map.ensures.source refl) c.map.ensures.closure (λ x r q k. search rules))
+    (λ k. at a.shape (a.start + k)) (λ k. refl) c.product.ensures.ran

@@ -1,25 +1,22 @@
-use mathlib.Core.Path.{refl, sym, ◌∙◌}
-use native.Mathlib.Omega.{arith}
-use Rattle.faults.proofs.Faults.{status, searched_start, searched_more, searched_found, searched_end}
-use Rattle.faults.proofs.Outcomes.{passes, refuses}
+-- `plane::refusals::check_each` refuses the lowest dimension that is bad. Assumes nothing.
+use mathlib.Core.Path.{◌≡◌, sym}
+use mathlib.Core.Bool.{true, false}
+use Rattle.std.proofs.Common.{◌<◌, rules, arith}
+use Rattle.std.proofs.lemmas.Iterator.{first_from_Range}
+use Rattle.faults.proofs.Outcomes.{lowest_found, lowest_none}
 use Rattle.plane.proofs.refusals.check_each.Goals as goal
 
-pub loop-dim-init : goal.loop-dim-init
-loop-dim-init g c = λ bad t. searched_start
-
-pub returns-then-is_bad : goal.returns-then-is_bad
-returns-then-is_bad g c =
-    λ bad t.
-    let h = c.loop-dim-test.true in
-    let b = sym (t _ _ h c.is_bad.ensures) ∙ c.if-is_bad.true in
-    refuses tt (sym (searched_found (c.loop-dim.invariant bad t) c.requires.positive h b)) (λ z. omega arith)
-
-pub loop-dim-preserved : goal.loop-dim-preserved
-loop-dim-preserved g c =
-    λ bad t.
-    let h = c.loop-dim-test.true in
-    searched_more (c.loop-dim.invariant bad t) h (sym (t _ _ h c.is_bad.ensures) ∙ c.if-is_bad.false)
+pub returns-in-Some : goal.returns-in-Some
+returns-in-Some g c = λ bad t.
+    let first = first_from_Range _ _ _ c.find-found.result (λ i. i < c.args.n → bad i ≡ true) (λ i. i < c.args.n → bad i ≡ false) c.find-found.ensures.ran
+    (λ x q k l. sym (t x true l (search rules))) (λ x q k. (search rules, λ l. sym (t x false l (search rules)))) in
+    let w = rw c.in-Some.is at first in
+    let h : c.in-Some.dim < c.args.n = w.1 in
+    lowest_found tt c.args.status c.args.n bad c.requires.positive h (w.2 h) (λ k l. w.3 k (omega arith) l (omega arith))
 
 pub returns : goal.returns
-returns g c =
-    λ bad t. passes _ tt (sym (status (searched_end (c.loop-dim.invariant bad t) c.loop-dim-test.false refl)))
+returns g c = λ bad t.
+    let first = first_from_Range _ _ _ c.find-found.result (λ i. i < c.args.n → bad i ≡ true) (λ i. i < c.args.n → bad i ≡ false) c.find-found.ensures.ran
+    (λ x q k l. sym (t x true l (search rules))) (λ x q k. (search rules, λ l. sym (t x false l (search rules)))) in
+    let w = rw c.in-None.is at first in
+    lowest_none tt c.args.status c.args.n bad (λ k l. w k (omega arith) l l)

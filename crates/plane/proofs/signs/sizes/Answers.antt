@@ -1,23 +1,16 @@
 -- `plane::signs::sizes` meets its contract. Assumes nothing.
-use mathlib.Core.Path.{◌≡◌}
+use mathlib.Core.Path.{◌≡◌, ◌∙◌}
 use borrow.Author.Rules.{rules}
+use lib.IntN.{pos}
 use lib.ListN.{length}
-use Rattle.plane.specs.Signs.{at_z}
-use Rattle.plane.proofs.Signed.{read_back, sizes_array}
+use Rattle.plane.specs.Signs.{size_of, at_z}
+use Rattle.plane.proofs.Arrays.{is_array}
+use Rattle.plane.proofs.Signed.{sizes_array}
 use Rattle.plane.proofs.signs.sizes.Goals as goal
 
 pub returns : goal.returns
 returns c =
-    let x = c.args.xs in
-    let l : length x ≡ 4 = search rules in
-    rw (
-      c.size_of-4.ensures,
-      read_back (at_z x 3) c.size_of-arg-4-1.given,
-      c.size_of-3.ensures,
-      read_back (at_z x 2) c.size_of-arg-3-1.given,
-      c.size_of-2.ensures,
-      read_back (at_z x 1) c.size_of-arg-2-1.given,
-      c.size_of.ensures,
-      read_back (at_z x 0) c.size_of-arg-1.given,
-    )
-    (sizes_array x l)
+    let l : length c.args.xs ≡ 4 = search rules in
+    let items = c.map.ensures.items in
+    is_array 0 c.map.result (λ d. size_of (at_z c.args.xs d)) items.long (λ d h. let m = items.at d (pos 0) 0 h in search rules) ∙
+    sizes_array c.args.xs l

@@ -1,29 +1,40 @@
-use Prim.Native.Nat.{ℕ, ◌*◌, ◌≤◌}
+-- `plane::strides::distance` meets its contract. Assumes nothing.
+use Prim.Native.Nat.{ℕ, ◌*◌, ◌≤◌, ◌<◌}
+use native.Mathlib.Nat.{mul-le-mul}
 use native.Mathlib.Omega.{arith}
-use Rattle.plane.proofs.Arrays.{summed_start, summed_more, summed_end}
+use borrow.Author.Rules.{rules}
+use Rattle.std.proofs.lemmas.Iterator.{YieldsList-from_range, YieldsList-from_map}
+use Rattle.plane.specs.Arrays.{at, sum}
+use Rattle.plane.proofs.Bounds.{sum_most}
+use Rattle.plane.proofs.Ranges.{from_0, sum_fits, sum_is}
 use Rattle.plane.proofs.strides.distance.Goals as goal
-use Rattle.plane.proofs.strides.distance.Goals.{After-times-total}
+use Rattle.plane.proofs.strides.distance.Goals.{After-map}
 
--- a term is at most this
-abbrev most : ℕ
-most = 131072 * 4294967295
+-- a term
+abbrev term : After-map → ℕ → ℕ
+term c d = at c.args.count d * at c.args.stride d
 
-small : (c : After-times-total) → c.times-total.result ≤ most
-small c =
-    omega (arith, c.requires.1 c.loop-d.d c.loop-d-test.true, c.times-total.ensures.1)
+-- so many of them
+few : (c : After-map) (k : ℕ) → k ≤ c.args.n → sum k (term c) ≤ k * (131072 * 4294967295)
+few c k h =
+    let m : (d : ℕ) → d < 4 → at c.args.stride d ≤ 4294967295 = search rules in
+    let s = c.requires.0 in
+    sum_most k (term c) (131072 * 4294967295) (λ d l. mul-le-mul (c.requires.1 d (omega arith)) (m d (omega arith)))
 
-pub overflow_add-total : goal.overflow_add-total
-overflow_add-total c =
-    omega (arith, small c, c.loop-d.invariant.most, c.loop-d.invariant.within, c.requires.0)
-
-pub loop-d-preserved : goal.loop-d-preserved
-loop-d-preserved c = summed_more c.loop-d.invariant c.loop-d-test.true c.times-total.ensures.0 (small c)
+pub sum-requires-clause-fits : goal.sum-requires-clause-fits
+sum-requires-clause-fits c =
+    let n = c.args.n in
+    sum_fits (term c) 0 n
+    (YieldsList-from_map _ _ (YieldsList-from_range 0 n n c.map.ensures.source (omega arith)) c.map.ensures.closure (λ x r q k. search rules))
+    (term c) (from_0 (term c)) _
+    (λ k l. let s = c.requires.0 in let w = few c k l in omega arith)
 
 pub returns : goal.returns
 returns c =
-    let e = summed_end c.loop-d.invariant c.loop-d-test.false in
+    let n = c.args.n in
+    let e = sum_is (term c.before) 0 n
+    (YieldsList-from_map _ _ (YieldsList-from_range 0 n n c.map.ensures.source (omega arith)) c.map.ensures.closure (λ x r q k. search rules))
+    (term c.before) (from_0 (term c.before)) c.sum.ensures.ran in
     let s = c.requires.0 in
-    (e.0, omega (arith, e.1))
-
-pub loop-d-init : goal.loop-d-init
-loop-d-init c = summed_start
+    let w = few c.before n (omega arith) in
+    (e, omega arith)

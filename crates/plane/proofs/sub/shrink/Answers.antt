@@ -3,12 +3,12 @@ use Prim.Native.Nat.{ℕ, ◌≤◌}
 use mathlib.Core.Path.{sym, ap, subst⁻¹, ◌∙◌}
 use mathlib.Core.List.{List}
 use native.Mathlib.Omega.{arith}
+use Rattle.std.proofs.Common.{rules}
 use Rattle.std.specs.Prelude.{Ok}
 use Rattle.plane.specs.Arrays.{at}
 use Rattle.plane.specs.Helpers.{rank_fault}
-use Rattle.faults.proofs.Outcomes.{passes, refuses, halts_if}
-use Rattle.faults.proofs.Faults.{status}
-use Rattle.plane.proofs.SubAnswers.{rank_lacking, rank_none, sub_given, strides_most, low_small}
+use Rattle.faults.proofs.Outcomes.{outcome_ok, clear, passed_value, ends, stops, goes_if, halts_if}
+use Rattle.plane.proofs.SubAnswers.{sub_given, strides_most, low_small}
 use Rattle.plane.proofs.sub.shrink.Goals as goal
 
 pub returns-then-rank-t : goal.returns-then-rank-t
@@ -19,20 +19,20 @@ pub with_signs-requires : goal.with_signs-requires
 with_signs-requires c =
     λ d h. subst⁻¹ (λ (l : List ℕ). at l d ≤ 2147483647) c.requires.1 (strides_most c.requires.0 d h)
 
-pub returns-then-part-ne0 : goal.returns-then-part-ne0
-returns-then-part-ne0 c =
-    refuses _
-    (rank_lacking _ _ c.if-rank-t.false c.requires.1 c.with_signs.ensures c.without_units-part.ensures c.if-part-ne0.true)
-    (λ z. omega arith)
+pub returns-in_err-shape : goal.returns-in_err-shape
+unfolding rank_fault
+returns-in_err-shape c =
+    stops (goes_if 14 _ _ _ c.if-rank-t.false ∙ ends _ _ _ c.without_units.ensures c.in_err-shape.was) (search rules)
 
 pub distance-requires : goal.distance-requires
 distance-requires c =
     (c.requires.0.rank.1, low_small c.args.t c.args.s c.requires.0.rank.1 c.requires.2 c.lows-lowest.ensures)
 
 pub returns : goal.returns
+unfolding rank_fault
 returns c =
+    let z = clear _ _ c.without_units.ensures c.in_ok-shape.was in
     ap Ok
-    (sub_given _ _ c.if-rank-t.false c.requires.1 c.with_signs.ensures c.without_units-part.ensures c.requires.0.rank.1 c.if-part-ne0.false
-    c.lows-lowest.ensures c.distance.ensures.0) ∙
-    passes _ _
-    (status (rank_none _ _ c.if-rank-t.false c.requires.1 c.with_signs.ensures c.without_units-part.ensures c.requires.0.rank.1 c.if-part-ne0.false))
+    (sub_given _ _ c.if-rank-t.false c.requires.1 c.with_signs.ensures (passed_value _ _ c.without_units.ensures c.in_ok-shape.was)
+    c.requires.0.rank.1 z c.lows-lowest.ensures c.distance.ensures.0) ∙
+    sym (goes_if 14 _ _ _ c.if-rank-t.false ∙ outcome_ok _ _ z)
