@@ -7,6 +7,7 @@ ghost use Rattle.keeper.specs.Calls.{request_fault, request_of};
 use crate::Granted;
 use crate::refusals::{NO_FREE_RUN, NO_RUN};
 use crate::runs::{Run, count_is_bad};
+use crate::words::is_free;
 use faults::Fault;
 
 // 31, 32: the lowest run of n free neighbours.
@@ -17,14 +18,10 @@ fn lowest_run(word: u64, n: u32) -> Result<Run, Fault>
     if count_is_bad(n) {
         return Err(NO_RUN);
     }
-    // a loop and no find: that none of the runs which find passes over is free was not proved of a range
-    for first in 0..65 - n {
-        let run = Run { first, n };
-        if run.is_free(word) {
-            return Ok(run);
-        }
+    match (0..65 - n).find(|&first| is_free(word, first, n)) {
+        Some(first) => Ok(Run { first, n }),
+        None => Err(NO_FREE_RUN),
     }
-    Err(NO_FREE_RUN)
 }
 
 // Takes the lowest run of n free neighbours.

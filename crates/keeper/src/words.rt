@@ -1,5 +1,5 @@
 // The word: how many blocks are free, and runs of blocks as bits. Block 0 is the lowest bit, and 1 is taken.
-ghost use Rattle.std.specs.Prelude.{◌≡◌, ◌-◌, ◌^◌, ◌≤◌};
+ghost use Rattle.std.specs.Prelude.{◌≡◌, ◌+◌, ◌-◌, ◌^◌, ◌≤◌};
 ghost use Rattle.keeper.specs.Blocks.{free_blocks, free_before_first_taken, all_free, all_taken, with_run, without_run};
 
 use crate::runs::Run;
@@ -26,15 +26,16 @@ fn ones(n: u32) -> u64
     0xffff_ffff_ffff_ffff >> (64 - n)
 }
 
-impl Run {
-    // Whether each of its blocks is free.
-    pub(crate) fn is_free(self, word: u64) -> bool
-        ensures { result ≡ all_free word self.first self.n }
-    {
-        (word >> self.first) & ones(self.n) == 0
-    }
+// Whether each of the n blocks from first on is free. It takes numbers and no run, since it is asked of each place where one may be.
+pub(crate) fn is_free(word: u64, first: u32, n: u32) -> bool
+    requires { (1 ≤ n) × (first + n ≤ 64) }
+    ensures { result ≡ all_free word first n }
+{
+    (word >> first) & ones(n) == 0
+}
 
-    // Whether each of them is taken.
+impl Run {
+    // Whether each of its blocks is taken.
     pub(crate) fn is_taken(self, word: u64) -> bool
         ensures { result ≡ all_taken word self.first self.n }
     {

@@ -9,6 +9,7 @@ use borrow.Author.Tests.{eq-eqb, ne_eqb, eqb-true, not-false}
 use lib.Dec.{eqb}
 use lib.ListN.{length}
 use lib.Seq.{sets}
+use mir.Syntax.{w16}
 use Rattle.std.specs.Prelude.{Result}
 use Rattle.plane.specs.declared.Tensor.{Tensor}
 use Rattle.plane.specs.declared.Config.{Config}
@@ -17,12 +18,13 @@ use Rattle.faults.specs.Faults.{fault, outcome}
 use Rattle.faults.proofs.Faults.{status, given, spared, if_fault_lem, if_none, when_clear, or_clear}
 use Rattle.record.specs.declared.Reading.{Reading}
 use Rattle.plane.specs.Numbers.{little}
+use Rattle.std.specs.Int.{from_le_bytes}
 use Rattle.std.specs.List.{starts_with}
-use Rattle.record.specs.Layout.{mark, version_in, record_length, fill_width, length_of, version_by_length, version_for}
+use Rattle.record.specs.Layout.{part, mark, version_in, record_length, fill_width, length_of, version_by_length, version_for}
 use Rattle.record.specs.Records.{tensor_in, config_in, record_bytes, bad_length, bad_room, bad_mark, bad_version, fields_fault, read_fault, write_rules, write_fault, no_reading, reading, read_of, written_room}
 use Rattle.record.specs.Private.{fault_in, tensor_bytes, config_at, config_bytes}
 use Rattle.record.proofs.Lengths.{fill_none, long_enough}
-use Rattle.record.proofs.Digits.{mark_told}
+use Rattle.record.proofs.Digits.{mark_told, half_is}
 use Rattle.record.proofs.Fields.{fault_back}
 use Rattle.record.proofs.Laying.{record_laid}
 
@@ -74,12 +76,15 @@ module _ (bs : List ℕ) where
   pub marked : bad_length (length bs) ≡ false → {b d : Bool} → b ≡ starts_with eqb bs mark → b ≡ d → bad_mark bs ≡ not d
   marked l e h = let n = long_enough (length bs) l in mark_told 82 77 86 bs (omega arith) e h
 
-  module _ {m n : ℕ} (me : m ≡ version_in bs) (ne : n ≡ version_by_length (length bs)) where
+  module _ {xs : List ℕ} {m n : ℕ} (l : bad_length (length bs) ≡ false) (xe : xs ≡ part 3 2 bs) (me : m ≡ from_le_bytes w16 xs) (ne : n ≡ version_by_length (length bs)) where
+    read-version : m ≡ version_in bs
+    read-version = let h = long_enough (length bs) l in half_is 3 bs (omega arith) xe me
+
     pub version-other : (m ≡ n → ⊥) → bad_version bs ≡ true
-    version-other h = ap not (ne_eqb _ _ (λ e. h (me ∙ e ∙ sym ne)))
+    version-other h = ap not (ne_eqb _ _ (λ e. h (read-version ∙ e ∙ sym ne)))
 
     pub version-same : m ≡ n → bad_version bs ≡ false
-    version-same h = ap not (eq-eqb _ _ (sym me ∙ h ∙ ne))
+    version-same h = ap not (eq-eqb _ _ (sym read-version ∙ h ∙ ne))
 
   -- as the code comes to it: the fields read, and then judged
   module _ {t : Tensor} {c : Config} {v : ℕ} {f : Fault} (te : t ≡ tensor_in bs) (ce : c ≡ config_in bs) (ve : v ≡ version_by_length (length bs)) (fe : f ≡ fields_fault v t c) (l : bad_length (length bs) ≡ false) (m : bad_mark bs ≡ false) (w : bad_version bs ≡ false) where

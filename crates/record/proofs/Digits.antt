@@ -71,15 +71,15 @@ unfolding number
 number_two p bs h =
     ap number (part_cons p 1 bs (omega arith)) ∙ ap (λ (m : ℕ). at bs p + 256 * m) (number_one (p + 1) bs (omega arith))
 
--- what the library makes of two bytes and of four, and the bytes that it makes of a number
-pub two_bytes : (bs : List ℕ) → length bs ≡ 2 → from_le_bytes w16 bs ≡ number bs
+-- what the library makes of two bytes and of four
+two_bytes : (bs : List ℕ) → length bs ≡ 2 → from_le_bytes w16 bs ≡ number bs
 unfolding number
 two_bytes (a ∷ b ∷ []) h = omega arith
 two_bytes [] h = omega arith
 two_bytes (a ∷ []) h = omega arith
 two_bytes (a ∷ b ∷ c ∷ bs) h = omega arith
 
-pub four_bytes_are : (bs : List ℕ) → length bs ≡ 4 → from_le_bytes w32 bs ≡ number bs
+four_bytes_are : (bs : List ℕ) → length bs ≡ 4 → from_le_bytes w32 bs ≡ number bs
 unfolding number
 four_bytes_are (a ∷ b ∷ c ∷ d ∷ []) h = omega arith
 four_bytes_are [] h = omega arith
@@ -88,6 +88,14 @@ four_bytes_are (a ∷ b ∷ []) h = omega arith
 four_bytes_are (a ∷ b ∷ c ∷ []) h = omega arith
 four_bytes_are (a ∷ b ∷ c ∷ d ∷ e ∷ bs) h = omega arith
 
+-- so of those from byte p on
+pub half_is : (p : ℕ) (bs : List ℕ) → p + 2 ≤ length bs → {xs : List ℕ} {n : ℕ} → xs ≡ part p 2 bs → n ≡ from_le_bytes w16 xs → n ≡ number (part p 2 bs)
+half_is p bs h e q = q ∙ ap (from_le_bytes w16) e ∙ two_bytes (part p 2 bs) (length_part p 2 bs h)
+
+pub word_is : (p : ℕ) (bs : List ℕ) → p + 4 ≤ length bs → {xs : List ℕ} {n : ℕ} → xs ≡ part p 4 bs → n ≡ from_le_bytes w32 xs → n ≡ number (part p 4 bs)
+word_is p bs h e q = q ∙ ap (from_le_bytes w32) e ∙ four_bytes_are (part p 4 bs) (length_part p 4 bs h)
+
+-- and the bytes that it makes of a number
 pub half_bytes : (x : ℕ) → to_le_bytes w16 x ≡ little 2 x
 unfolding little
 half_bytes x = refl

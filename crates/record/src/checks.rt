@@ -33,12 +33,10 @@ fn check_stray(t: Tensor, c: Config) -> Result<(), Fault>
     ensures { result ≡ outcome (lowest 28 4 (stray t c)) tt }
 {
     let n = t.rank;
-    for d in n..4 {
-        if has_entry(t, c, d as usize) {
-            return Err(Fault { status: 28, dim: d });
-        }
+    match (n..4).find(|&d| has_entry(t, c, d as usize)) {
+        Some(dim) => Err(Fault { status: 28, dim }),
+        None => Ok(()),
     }
-    Ok(())
 }
 
 // 28 of version 2: a fill of 0, or one with a byte past the element size that is not 0.

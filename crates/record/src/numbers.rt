@@ -1,33 +1,16 @@
 // Numbers as bytes, the lowest byte first, and groups of four of them; signed numbers as words, in two's complement.
 ghost use Rattle.std.specs.Prelude.{◌≡◌, ◌+◌, ◌≤◌, length};
 ghost use Rattle.std.proofs.lemmas.List.Edits.{sets};
-ghost use Rattle.plane.specs.Numbers.{little, number};
 ghost use Rattle.record.specs.Layout.{part, twos_words, twos_numbers, four_in, four_bytes};
 
 use std::array;
 
 // The N bytes from byte p on.
-fn part<const N: usize>(bytes: &[u8], p: usize) -> [u8; N]
+pub(crate) fn part<const N: usize>(bytes: &[u8], p: usize) -> [u8; N]
     requires { p + N ≤ length bytes.now }
     ensures { result ≡ part p N bytes.now }
 {
     *bytes[p..].first_chunk::<N>().unwrap()
-}
-
-// The number of the two bytes from byte p on.
-pub(crate) fn half(bytes: &[u8], p: usize) -> u16
-    requires { p + 2 ≤ length bytes.now }
-    ensures { result ≡ number (part p 2 bytes.now) }
-{
-    u16::from_le_bytes(part(bytes, p))
-}
-
-// The number of the four bytes from byte p on.
-pub(crate) fn word(bytes: &[u8], p: usize) -> u32
-    requires { p + 4 ≤ length bytes.now }
-    ensures { result ≡ number (part p 4 bytes.now) }
-{
-    u32::from_le_bytes(part(bytes, p))
 }
 
 // The group of four-byte numbers from byte p on.
@@ -35,7 +18,7 @@ pub(crate) fn words(bytes: &[u8], p: usize) -> [u32; 4]
     requires { p + 16 ≤ length bytes.now }
     ensures { result ≡ four_in p 4 bytes.now }
 {
-    array::from_fn(|d| word(bytes, p + 4 * d))
+    array::from_fn(|d| u32::from_le_bytes(part(bytes, p + 4 * d)))
 }
 
 // The group of single bytes from byte p on.
@@ -53,22 +36,6 @@ pub(crate) fn put(room: &mut [u8], p: usize, bytes: &[u8])
 {
     let end = p + bytes.len();
     room[p..end].copy_from_slice(bytes);
-}
-
-// Sets the two bytes from byte p on to those of x.
-pub(crate) fn put_half(room: &mut [u8], p: usize, x: u16)
-    requires { p + 2 ≤ length room.old }
-    ensures { room.new ≡ sets room.old p (little 2 x) }
-{
-    put(room, p, &x.to_le_bytes());
-}
-
-// Sets the four bytes from byte p on to those of x.
-pub(crate) fn put_word(room: &mut [u8], p: usize, x: u32)
-    requires { p + 4 ≤ length room.old }
-    ensures { room.new ≡ sets room.old p (little 4 x) }
-{
-    put(room, p, &x.to_le_bytes());
 }
 
 // Sets the bytes from byte p on to those of a group of four-byte numbers.

@@ -5,7 +5,7 @@ ghost use Rattle.faults.specs.Faults.{outcome};
 ghost use Rattle.record.specs.Records.{bad_length, tensor_in, config_in, read_fault, read_of};
 
 use crate::checks::check_fields;
-use crate::numbers::{half, of_words, singles, word, words};
+use crate::numbers::{of_words, part, singles, words};
 use crate::versions::version_by_length;
 use crate::{Reading, layout};
 use plane::{Config, Fault, Tensor};
@@ -31,7 +31,7 @@ fn fill_in(bytes: &[u8]) -> u32
     if bytes.len() == layout::LENGTH {
         return 0;
     }
-    word(bytes, layout::FILL)
+    u32::from_le_bytes(part(bytes, layout::FILL))
 }
 
 // The configuration, unjudged.
@@ -64,7 +64,7 @@ fn fields_in(bytes: &[u8]) -> Result<(Tensor, Config), Fault>
         return Err(Fault { status: 26, dim: 0 });
     }
     let version = version_by_length(bytes.len());
-    if half(bytes, layout::VERSION_AT) != version {
+    if u16::from_le_bytes(part(bytes, layout::VERSION_AT)) != version {
         return Err(Fault { status: 27, dim: 0 });
     }
     let tensor = tensor_in(bytes);

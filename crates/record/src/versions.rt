@@ -5,7 +5,7 @@ ghost use Rattle.record.specs.Layout.{length_of, version_by_length, version_for}
 ghost use Rattle.record.specs.Records.{length_in};
 
 use crate::layout;
-use crate::numbers::half;
+use crate::numbers::part;
 use plane::Config;
 
 // The bytes of a record of that version; any version but 2 counts as 1.
@@ -46,7 +46,7 @@ pub fn length_in(bytes: &[u8]) -> usize
     if bytes.len() < layout::VERSION_END {
         return layout::LENGTH;
     }
-    length_of(half(bytes, layout::VERSION_AT))
+    length_of(u16::from_le_bytes(part(bytes, layout::VERSION_AT)))
 }
 
 // How long the record of a configuration is: the room that a write asks for.

@@ -9,7 +9,7 @@ ghost use Rattle.record.specs.Private.{tensor_bytes, config_at, config_bytes};
 
 use crate::checks::{check_fields, fault_of};
 use crate::layout;
-use crate::numbers::{put, put_half, put_singles, put_word, put_words, words_of};
+use crate::numbers::{put, put_singles, put_words, words_of};
 use crate::versions::{length_for, version_for};
 use plane::{Config, Fault, Tensor};
 
@@ -19,7 +19,7 @@ fn put_head(room: &mut [u8], version: u16, rank: u8, size: u8)
     ensures { room.new ≡ sets room.old 0 (head_bytes version rank size) }
 {
     put(room, 0, &layout::MARK);
-    put_half(room, layout::VERSION_AT, version);
+    put(room, layout::VERSION_AT, &version.to_le_bytes());
     put(room, layout::RANK, &[rank, size]);
 }
 
@@ -56,7 +56,7 @@ fn put_fill(room: &mut [u8], c: Config)
     if c.fill == 0 {
         return;
     }
-    put_word(room, layout::FILL, c.fill);
+    put(room, layout::FILL, &c.fill.to_le_bytes());
 }
 
 // 25, 1, 2 or 28, for a room of n bytes.

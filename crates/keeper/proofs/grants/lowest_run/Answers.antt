@@ -1,13 +1,17 @@
-use Prim.Native.Nat.{ℕ, ◌≤◌}
-use native.Mathlib.Omega.{arith}
+-- `keeper::grants::lowest_run` finds the lowest free run. Assumes nothing.
+use Prim.Native.Nat.{ℕ, ◌≤◌, ◌<◌}
 use mathlib.Core.Path.{◌≡◌, refl, sym, ◌∙◌}
-use mathlib.Core.Bool.{false}
+use mathlib.Core.Bool.{true, false}
+use native.Mathlib.Omega.{arith}
+use borrow.Author.Rules.{rules}
+use Rattle.std.specs.Option.{MatchOption}
+use Rattle.std.proofs.lemmas.Iterator.{first_from_Range}
 use Rattle.faults.proofs.Bools.{in_range}
-use Rattle.plane.proofs.Arrays.{some_start, some_more, some_end}
+use Rattle.plane.proofs.Arrays.{some_none}
 use Rattle.keeper.specs.Blocks.{bad_block_count, all_free, starts}
 use Rattle.keeper.proofs.Answers.{granted-31, granted-32, granted-0}
 use Rattle.keeper.proofs.grants.lowest_run.Goals as goal
-use Rattle.keeper.proofs.grants.lowest_run.Goals.{Else-count_is_bad}
+use Rattle.keeper.proofs.grants.lowest_run.Goals.{Else-count_is_bad, After-find}
 
 pub returns-then-count_is_bad-clause-refused : goal.returns-then-count_is_bad-clause-refused
 returns-then-count_is_bad-clause-refused c =
@@ -17,29 +21,34 @@ returns-then-count_is_bad-clause-refused c =
 fair : (c : Else-count_is_bad) → bad_block_count c.args.n ≡ false
 fair c = sym c.count_is_bad.ensures ∙ c.if-count_is_bad.false
 
-range : (c : Else-count_is_bad) → let n = c.args.n in (1 ≤ n) × (n ≤ 64)
-range c = in_range c.args.n 1 64 (fair c)
+-- what is found is free, and nothing before it
+found : (c : After-find)
+    → let free = λ (b : ℕ). all_free c.args.word b c.args.n in
+    MatchOption c.find.result ((b : ℕ) → 0 ≤ b → b < starts c.args.n → free b ≡ false)
+    (λ i. (0 ≤ i) × (i < starts c.args.n) × (free i ≡ true) × ((b : ℕ) → 0 ≤ b → b < i → free b ≡ false))
+found c =
+    let free = λ (b : ℕ). all_free c.args.word b c.args.n in
+    first_from_Range _ _ _ c.find.result (λ b. free b ≡ true) (λ b. free b ≡ false) c.find.ensures.ran (λ b q k. search rules) (λ b q k. search rules)
 
-pub overflow_sub-first-end : goal.overflow_sub-first-end
-overflow_sub-first-end c = omega (arith, (range c).1)
+pub invariant_of-result : goal.invariant_of-result
+invariant_of-result c =
+    let at = goal.at-invariant_of-result c in
+    let w = rw c.in-Some.is at (found at.After-find) in
+    let r = in_range c.args.n 1 64 (fair at.Else-count_is_bad) in
+    record { some = omega arith; inside = omega arith }
 
-pub loop-first-init : goal.loop-first-init
-loop-first-init c = (omega (arith, (range c).1), some_start _)
-
-pub returns-then-is_free-clause-granted : goal.returns-then-is_free-clause-granted
-returns-then-is_free-clause-granted c =
-    let at = goal.at-returns-then-is_free-clause-granted c in
-    let r = range at.Else-count_is_bad in (
-      granted-0 c.args.word c.args.n (fair at.Else-count_is_bad) c.loop-first.first (omega (arith, r.1, c.loop-first-test.true))
-          (sym c.is_free.ensures ∙ c.if-is_free.true) c.loop-first.invariant.1,
+pub returns-in-Some-clause-granted : goal.returns-in-Some-clause-granted
+returns-in-Some-clause-granted c =
+    let at = goal.at-returns-in-Some-clause-granted c in
+    let w = rw c.in-Some.is at (found at.After-find) in
+    let i = c.in-Some.first in (
+      granted-0 c.args.word c.args.n (fair at.Else-count_is_bad) i w.1 w.2 (some_none i (λ (b : ℕ). all_free c.args.word b c.args.n) (λ b l. w.3 b (omega arith) l)),
       refl,
     )
 
-pub loop-first-preserved : goal.loop-first-preserved
-loop-first-preserved c =
-    (omega (arith, c.loop-first-test.true), some_more _ _ c.loop-first.invariant.1 (sym c.is_free.ensures ∙ c.if-is_free.false))
-
-pub returns-clause-refused : goal.returns-clause-refused
-returns-clause-refused c =
-    granted-32 c.args.word c.args.n (fair (goal.at-returns-clause-refused c).Else-count_is_bad)
-    (sym (some_end (starts c.args.n) c.loop-first.first (λ (b : ℕ). all_free c.args.word b c.args.n) c.loop-first.invariant.1 c.loop-first.invariant.0 (omega (arith, c.loop-first-test.false))))
+pub returns-in-None-clause-refused : goal.returns-in-None-clause-refused
+returns-in-None-clause-refused c =
+    let at = goal.at-returns-in-None-clause-refused c in
+    let w = rw c.in-None.is at (found at.After-find) in
+    granted-32 c.args.word c.args.n (fair at.Else-count_is_bad)
+    (some_none (starts c.args.n) (λ (b : ℕ). all_free c.args.word b c.args.n) (λ b l. w b (omega arith) l))

@@ -1,28 +1,26 @@
-use mathlib.Core.Path.{refl, sym, ◌∙◌}
+-- `record::checks::check_stray` refuses the lowest dimension at or past the rank that has an entry. Assumes nothing.
+use mathlib.Core.Path.{◌≡◌, ◌∙◌}
+use mathlib.Core.Bool.{true, false}
 use native.Mathlib.Omega.{arith}
-use Rattle.faults.proofs.Faults.{status, searched_more, searched_found, searched_end}
-use Rattle.faults.proofs.Outcomes.{passes, refuses}
-use Rattle.record.proofs.Strays.{strays_from, stray_is}
+use borrow.Author.Rules.{rules}
+use Rattle.std.proofs.lemmas.Iterator.{first_from_Range}
+use Rattle.faults.proofs.Outcomes.{lowest_found, lowest_none}
+use Rattle.record.specs.Records.{stray}
+use Rattle.record.proofs.Strays.{has, stray_is, none_stray}
 use Rattle.record.proofs.checks.check_stray.Goals as goal
 
-pub loop-d-init : goal.loop-d-init
-loop-d-init c = (omega arith, strays_from c.args.t c.args.c c.requires)
+pub returns-in-Some : goal.returns-in-Some
+returns-in-Some c =
+    let t = c.args.t in
+    let x = c.args.c in
+    let first = first_from_Range _ _ _ c.find.result (λ d. has t x d ≡ true) (λ d. has t x d ≡ false) c.find.ensures.ran (λ d q k. search rules) (λ d q k. search rules) in
+    let w = rw c.in-Some.is at first in
+    lowest_found tt 28 4 (stray t x) (omega arith) w.1 (stray_is t x c.in-Some.dim w.0 ∙ w.2) (none_stray t x c.in-Some.dim w.3)
 
-pub returns-then-has_entry : goal.returns-then-has_entry
-returns-then-has_entry c =
-    let l = c.loop-d in
-    refuses tt
-    (sym (searched_found l.invariant.1 (omega arith) (omega arith)
-    (stray_is c.args.t c.args.c l.d l.invariant.0 ∙ sym c.has_entry.ensures ∙ c.if-has_entry.true)))
-    (λ z. omega arith)
-
-pub loop-d-preserved : goal.loop-d-preserved
-loop-d-preserved c =
-    let l = c.loop-d in (
-      omega arith,
-      searched_more l.invariant.1 (omega arith)
-          (stray_is c.args.t c.args.c l.d l.invariant.0 ∙ sym c.has_entry.ensures ∙ c.if-has_entry.false),
-    )
-
-pub returns : goal.returns
-returns c = passes _ tt (sym (status (searched_end c.loop-d.invariant.1 (omega arith) refl)))
+pub returns-in-None : goal.returns-in-None
+returns-in-None c =
+    let t = c.args.t in
+    let x = c.args.c in
+    let first = first_from_Range _ _ _ c.find.result (λ d. has t x d ≡ true) (λ d. has t x d ≡ false) c.find.ensures.ran (λ d q k. search rules) (λ d q k. search rules) in
+    let w = rw c.in-None.is at first in
+    lowest_none tt 28 4 (stray t x) (none_stray t x 4 w)
