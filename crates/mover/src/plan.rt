@@ -96,9 +96,9 @@ struct Accepted {
 
 impl Accepted {
     // How far above the lowest element of its dimension the first kept coordinate of destination dimension i lies, in elements.
-    fn above(self, i: usize) -> usize
-        requires { i < self.answer.rank }
-        ensures { result ≡ above_made self.tensor self.config self.sizes i }
+    fn above(&self, i: usize) -> usize
+        requires { i < self.now.answer.rank }
+        ensures { result ≡ above_made self.now.tensor self.now.config self.now.sizes i }
     {
         let t = self.tensor;
         let c = self.config;
