@@ -121,7 +121,7 @@ row_end p h = omega arith
 
 module _ {o : Origin} {p : Plan} {d₀ : List ℕ} {from budget : ℕ} {d : List ℕ} {c0 c1 c2 c3 left : ℕ} {u : Spots} (a : At o p d₀ from budget d c0 c1 c2 c3 left u)
     (r : Ready o p d) (f : length d < 2 ^ 63) (h0 : c0 < p.d0.extent) (h1 : c1 < p.d1.extent)
-    {outer : Bool} (q : outer ≡ (axis_kept p.d0 c0 && axis_kept p.d1 c1)) (z : c3 ≡ 0) {b : Band} (l : BandAt p.d2 p.d3.extent outer c2 left b) (some : 0 < b.rows) where
+    {outer : Bool} (q : outer ≡ (axis_kept p.d0 c0 && axis_kept p.d1 c1)) (z : c3 ≡ 0) {b : Band} (l : BandAt p.d2 p.d3.extent outer c2 left b) where
   its_within : (i j : ℕ) → i < b.rows → j < p.d3.extent → InExtents p c0 c1 (c2 + i) j
   its_within i j hi hj = record { in0 = h0; in1 = h1; in2 = omega (arith, l.within); in3 = hj }
 
@@ -138,7 +138,7 @@ module _ {o : Origin} {p : Plan} {d₀ : List ℕ} {from budget : ℕ} {d : List
 
   its_home : (i j : ℕ) → i < b.rows → (b.kept && axis_kept p.d3 j) ≡ true → band_home p u.row i j ≡ home_of p c0 c1 (c2 + i) j
   its_home i j hi k =
-      band_home_lem p c0 c1 c2 a.slab a.layer a.row i j (its_kept 0 j some ∙ k) (its_kept i j hi ∙ k)
+      band_home_lem p c0 c1 c2 a.slab a.layer a.row i j (its_kept 0 j l.some ∙ k) (its_kept i j hi ∙ k)
 
   -- what it asks
   pub band_asks : Banded o p d u.row b

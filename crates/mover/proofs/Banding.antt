@@ -1,7 +1,7 @@
 -- Where a band begins and ends, and the patches that it has: what is padded in front, what is kept, and what is padded behind.
 -- Assumes nothing.
 use Rattle.std.proofs.Common.{◌≡◌, ℕ, ◌+◌, ◌-◌, ◌*◌, ◌/◌, ◌%◌, ◌^◌, ◌<◌, ◌≤◌, min, Bool, true, false, ◌&&◌, ◌⊎◌, List, length, take, drop, sym, refl, ap, ◌∙◌, inl, inr, ⊎_elim, mul-le-mul_right, div-add-mod', arith, le-ltb, le-leb}
-use native.Mathlib.Nat.{min-le_left, min-le_right}
+use Rattle.std.proofs.lemmas.Nat.{le-div}
 use borrow.Author.Tests.{lt-leb}
 use Rattle.mover.specs.declared.plan.Axis.{Axis}
 use Rattle.mover.specs.declared.plan.Plan.{Plan}
@@ -38,17 +38,15 @@ starts_at a t h e = rw e (sym (along_none a t h))
 -- rows that are paid for
 pub rows_fit : (e left n : ℕ) {rows : ℕ} → rows ≡ min n (left / e) → rows * e ≤ left
 rows_fit e left n {rows} q =
-    let m = min-le_right n (left / e) in
     let l : rows ≤ left / e = omega arith in
     omega (arith, mul-le-mul_right e l, div-add-mod' left e)
 
 module _ (x : Axis) (e : ℕ) (outer : Bool) (c left : ℕ) where
-  pub band_some : {run : Run} {rows : ℕ} (most : ℕ) → Alike x outer c left run → rows ≡ min (min run.n most) (left / e)
+  pub band_some : {run : Run} {rows : ℕ} (most : ℕ) → 0 < e → e ≤ left → 0 < most → Alike x outer c left run → rows ≡ min (min run.n most) (left / e)
       → BandAt x e outer c left (record { kept = run.kept; rows = rows; elements = rows * e })
-  band_some {run} {rows} most a q =
-      let m = min-le_left (min run.n most) (left / e) in
-      let n = min-le_left run.n most in
+  band_some {run} {rows} most z l h a q =
       record {
+        some = let one = le-div 1 left e z (omega arith) in omega (arith, a.some);
         within = omega (arith, a.row);
         same = λ k h. a.same k (omega arith);
         elements = refl;

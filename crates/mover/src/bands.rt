@@ -1,6 +1,6 @@
 // Bands: whole rows of a layer that are moved together. Where a band begins and ends is worked out once for it, by products and a
 // quotient. Functions, not methods, as a loop calls them (layers.rt, scripts/by-adding).
-ghost use Rattle.std.specs.Prelude.{◌≡◌, ◌+◌, ◌-◌, ◌*◌, ◌^◌, ◌<◌, ◌≤◌};
+ghost use Rattle.std.specs.Prelude.{◌≡◌, ◌+◌, ◌-◌, ◌*◌, ◌^◌, ◌<◌, ◌≤◌, MatchOption};
 ghost use Rattle.mover.specs.Private.Plans.{jump_length};
 ghost use Rattle.mover.specs.Private.Ready.{GoodAxis};
 ghost use Rattle.mover.specs.Private.Patches.{patch_of};
@@ -35,6 +35,7 @@ pub(crate) struct Frame {
 // Some thousands of elements, which a processor keeps at hand, or 64 rows.
 fn most_rows(e: usize) -> usize
     requires { 0 < e }
+    ensures { 0 < result }
 {
     if e < 256 { 16384 / e } else { 64 }
 }
@@ -59,22 +60,26 @@ pub(crate) fn frame_of(plan: Plan) -> Frame
     }
 }
 
-// The band from row c on of a dimension x, each row of e elements: as many rows as are alike, and `left` pays for, and `most` at the most.
-// It has no rows where `left` does not pay for one.
-pub(crate) fn band_at(x: Axis, e: usize, most: usize, outer: bool, c: usize, left: usize) -> Band
-    requires count_bound { x.pre + x.count ≤ x.extent }
-    requires c_lt_extent { (c < x.extent) × (0 < e) }
-    requires left_nonzero { 0 < left }
-    ensures { BandAt x e outer c left result }
+// The band from row c on of a layer: as many rows as are alike, and `left` pays for, and the frame allows. None where `left` does not pay
+// for one.
+pub(crate) fn band_at(plan: Plan, f: Frame, outer: bool, c: usize, left: usize) -> Option<Band>
+    requires count_bound { plan.d2.pre + plan.d2.count ≤ plan.d2.extent }
+    requires c_lt_extent { c < plan.d2.extent }
+    requires most_nonzero { (0 < plan.d3.extent) × (0 < f.most) }
+    ensures { MatchOption result (left < plan.d3.extent) (λ b. BandAt plan.d2 plan.d3.extent outer c left b) }
 {
-    let run = run_at(x, outer, c, left);
-    let rows = run.n.min(most).min(left / e);
+    let e = plan.d3.extent;
+    if left < e {
+        return None;
+    }
+    let run = run_at(plan.d2, outer, c, left);
+    let rows = run.n.min(f.most).min(left / e);
     let elements = rows * e;
-    Band {
+    Some(Band {
         kept: run.kept,
         rows,
         elements,
-    }
+    })
 }
 
 // Some columns of some rows of a plan; the first element stands at `at` and goes to `to`.

@@ -42,8 +42,7 @@ pub(crate) fn by_bands(
                     break 'all;
                 }
                 if c3 == 0 {
-                    let band = band_at(plan.d2, plan.d3.extent, frame.most, kept1, c2, left);
-                    if 0 < band.rows {
+                    if let Some(band) = band_at(plan, frame, kept1, c2, left) {
                         move_band(origin, dst, plan, frame, spots.row, band);
                         c2 += band.rows;
                         left -= band.elements;

@@ -29,13 +29,16 @@ abbrev pub band_moved : Origin → Plan → List ℕ → Spot → Band → List 
 band_moved o p d u b =
     rows_stored (band_bytes p (source_bytes o d) u b.kept) u.to p.d2.stride p.d3.stride p.d3.extent b.rows d
 
--- where what is kept of a row begins, and where padding goes on behind it, if there is any, in bytes from the row's start
+-- a band may have some rows; where what is kept of a row begins, and where padding goes on behind it, if there is any, in bytes from the
+-- row's start
 pub record Framed (x : Axis) (f : Frame) : Type 0 where
+  pub most : 0 < f.most
   pub front : f.front ≡ x.pre * x.stride
   pub rear : MatchOption f.rear (x.extent ≤ x.pre + x.count) (λ r. r ≡ (x.pre + x.count) * x.stride)
 
--- b is a band from coordinate c on, each row of e elements, or has no rows; `outer` tells whether the coordinates outside of it are kept
+-- b is a band from coordinate c on, each row of e elements; `outer` tells whether the coordinates outside of it are kept
 pub record BandAt (x : Axis) (e : ℕ) (outer : Bool) (c left : ℕ) (b : Band) : Type 0 where
+  pub some : 0 < b.rows
   pub within : c + b.rows ≤ x.extent
   pub same : (k : ℕ) → k < b.rows → (outer && axis_kept x (c + k)) ≡ b.kept
   pub elements : b.elements ≡ b.rows * e

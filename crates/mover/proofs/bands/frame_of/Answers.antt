@@ -6,6 +6,7 @@ use Rattle.mover.proofs.bands.frame_of.Goals.{then-end-x, else-end-x}
 pub returns : goal.returns
 returns c =
     record {
+      most = c.most_rows.ensures;
       front = refl;
       rear = elim c.if-end-x.branch [
         | then-end-x w ↦ rw w.rear-is refl

@@ -2,11 +2,12 @@ use Rattle.std.proofs.Common.{◌≡◌, ℕ, ◌+◌, ◌-◌, ◌^◌, ◌<◌
 use Rattle.mover.specs.Private.Elements.{axis_kept}
 use Rattle.mover.specs.Private.Adding.{after_run}
 use Rattle.mover.specs.Private.Ready.{reach_of, place_end, Ready, InExtents}
+use Rattle.mover.specs.Private.Bands.{BandAt}
 use Rattle.mover.proofs.Places.{axis_some}
 use Rattle.mover.proofs.Turns.{At, Over, Cut, cut_row, start, start_row, row_turn, next_row_lem, next_layer_lem, next_slab_lem, at_below, at_spent, at_end, at_length, at_ready}
 use Rattle.mover.proofs.Banded.{row_end, band_asks, band_behind, band_turn}
 use Rattle.mover.proofs.layers.by_bands.Goals as goal
-use Rattle.mover.proofs.layers.by_bands.Goals.{After-min-n, After-slice_known-in-loop-c2-1, At-all, At-loop-c1, At-loop-c2, Else-left-eq0, Left-all, Start, else-all-test, then-all-test+then-loop-c1-test+then-loop-c2-test+else-left-eq0+then-left-eq0-2, then-all-test+then-loop-c1-test+then-loop-c2-test+then-left-eq0}
+use Rattle.mover.proofs.layers.by_bands.Goals.{After-min-n, After-slice_known-in-loop-c2-1, At-all, At-loop-c1, At-loop-c2, Else-left-eq0, In-Some, Left-all, Start, else-all-test, then-all-test+then-loop-c1-test+then-loop-c2-test+else-left-eq0+then-left-eq0-2, then-all-test+then-loop-c1-test+then-loop-c2-test+then-left-eq0}
 
 -- where the innermost loop stands, from the destination that the function began with
 at-loop2 : (c : At-loop-c2) → let a = c.loop-c2 in
@@ -53,41 +54,46 @@ frame_of-frame-requires c =
       stride_bound = row_end c.args.plan (ends (goal.at-frame_of-frame-requires c).Start).1;
     }
 
-pub band_at-band-requires : goal.band_at-band-requires
-band_at-band-requires c =
-    let r = ready (goal.at-band_at-band-requires c).At-loop-c2 in record {
+pub band_at-requires : goal.band_at-requires
+band_at-requires c =
+    let r = ready (goal.at-band_at-requires c).At-loop-c2 in record {
       count_bound = r.axes.in2.within;
-      c_lt_extent = (c.loop-c2-test.true, axis_some r.axes.in3);
-      left_nonzero = pos_of_ne-zero c.if-left-eq0.false;
+      c_lt_extent = c.loop-c2-test.true;
+      most_nonzero = (axis_some r.axes.in3, c.frame_of-frame.ensures.most);
     }
+
+-- the band that there is
+band : (c : In-Some) → BandAt c.args.plan.d2 c.args.plan.d3.extent c.kept-kept1.result c.loop-c2.c2 c.loop-c2.left c.in-Some.band
+band c = rw c.in-Some.is at c.band_at.ensures
 
 pub move_band-requires : goal.move_band-requires
 move_band-requires c =
     record {
       framed = c.frame_of-frame.ensures;
-      banded = band_asks (at-loop2 (goal.at-move_band-requires c).At-loop-c2) (ready (goal.at-move_band-requires c).At-loop-c2) (long (goal.at-move_band-requires c).At-loop-c2) c.all-test.true c.loop-c1-test.true (outer (goal.at-move_band-requires c).At-loop-c2) c.if-c3-eq0.true c.band_at-band.ensures c.if-band-gt0.true;
+      banded = band_asks (at-loop2 (goal.at-move_band-requires c).At-loop-c2) (ready (goal.at-move_band-requires c).At-loop-c2) (long (goal.at-move_band-requires c).At-loop-c2) c.all-test.true c.loop-c1-test.true (outer (goal.at-move_band-requires c).At-loop-c2) c.if-c3-eq0.true (band (goal.at-move_band-requires c).In-Some);
     }
 
 pub overflow_add-c2 : goal.overflow_add-c2
 overflow_add-c2 c =
-    omega (arith, c.band_at-band.ensures.within, c.well_formed)
+    omega (arith, (band (goal.at-overflow_add-c2 c).In-Some).within, c.well_formed)
 
 pub behind-spots-requires : goal.behind-spots-requires
 behind-spots-requires c =
-    let told = band_behind (at-loop2 (goal.at-behind-spots-requires c).At-loop-c2) (ready (goal.at-behind-spots-requires c).At-loop-c2) (long (goal.at-behind-spots-requires c).At-loop-c2) c.all-test.true c.loop-c1-test.true (outer (goal.at-behind-spots-requires c).At-loop-c2) c.if-c3-eq0.true c.band_at-band.ensures c.if-band-gt0.true (ends (goal.at-behind-spots-requires c).Start).1 in record {
-      count_nonzero = ((ready (goal.at-behind-spots-requires c).At-loop-c2).axes.in2.some, omega (arith, c.if-band-gt0.true));
+    let told = band_behind (at-loop2 (goal.at-behind-spots-requires c).At-loop-c2) (ready (goal.at-behind-spots-requires c).At-loop-c2) (long (goal.at-behind-spots-requires c).At-loop-c2) c.all-test.true c.loop-c1-test.true (outer (goal.at-behind-spots-requires c).At-loop-c2) c.if-c3-eq0.true (band (goal.at-behind-spots-requires c).In-Some) (ends (goal.at-behind-spots-requires c).Start).1 in record {
+      count_nonzero = ((ready (goal.at-behind-spots-requires c).At-loop-c2).axes.in2.some, omega (arith, (band (goal.at-behind-spots-requires c).In-Some).some));
       stride_bound = told.0;
       jump_bound = told.1;
     }
 
-pub loop-c2-smaller-then-band-gt0 : goal.loop-c2-smaller-then-band-gt0
-loop-c2-smaller-then-band-gt0 c =
-    omega (arith, c.if-band-gt0.true, c.band_at-band.ensures.within)
+pub loop-c2-smaller-in-Some : goal.loop-c2-smaller-in-Some
+loop-c2-smaller-in-Some c =
+    let b = band (goal.at-loop-c2-smaller-in-Some c).In-Some in
+    omega (arith, b.some, b.within)
 
-pub loop-c2-preserved-then-band-gt0 : goal.loop-c2-preserved-then-band-gt0
-loop-c2-preserved-then-band-gt0 c = (
+pub loop-c2-preserved-in-Some : goal.loop-c2-preserved-in-Some
+loop-c2-preserved-in-Some c = (
   λ d₀ a.
-      band_turn (c.loop-c2.invariant.0 d₀ a) (ready (goal.at-loop-c2-preserved-then-band-gt0 c).At-loop-c2) (long (goal.at-loop-c2-preserved-then-band-gt0 c).At-loop-c2) c.all-test.true c.loop-c1-test.true (outer (goal.at-loop-c2-preserved-then-band-gt0 c).At-loop-c2) c.if-c3-eq0.true c.band_at-band.ensures c.if-band-gt0.true
+      band_turn (c.loop-c2.invariant.0 d₀ a) (ready (goal.at-loop-c2-preserved-in-Some c).At-loop-c2) (long (goal.at-loop-c2-preserved-in-Some c).At-loop-c2) c.all-test.true c.loop-c1-test.true (outer (goal.at-loop-c2-preserved-in-Some c).At-loop-c2) c.if-c3-eq0.true (band (goal.at-loop-c2-preserved-in-Some c).In-Some)
       c.move_band.ensures c.behind-spots.ensures,
   c.loop-c2.invariant.1,
 )
@@ -175,7 +181,7 @@ pub loop-c2-init : goal.loop-c2-init
 loop-c2-init c = (λ d a. a, λ h. h)
 
 pub overflow_sub-left : goal.overflow_sub-left
-overflow_sub-left c = c.band_at-band.ensures.paid
+overflow_sub-left c = (band (goal.at-overflow_sub-left c).In-Some).paid
 
 pub overflow_sub-budget : goal.overflow_sub-budget
 overflow_sub-budget c = (at-loop2 (goal.at-overflow_sub-budget c).At-loop-c2).fund
