@@ -65,7 +65,7 @@ fn kept_count(t: Tensor, config: Config, s: usize) -> u32
     let size = config.size[s];
     let rest = t.shape[s] - config.offset[s];
     let taken = if size == 0 { rest } else { size };
-    (taken + (step - 1)) / step
+    taken.div_ceil(step)
 }
 
 // The row at coordinate c of destination dimension i, which is source dimension s = perm[i].
