@@ -186,9 +186,6 @@ module _ (j : Job) (from budget : ℕ) (m : List ℕ) {v : Verdict} (ev : v ≡ 
     advance_end : from + count ≤ total_of j
     advance_end = omega (arith, counted, min-le_right budget (total_of j - from), some)
 
-    pub advance_fits : from + count < 2 ^ 64
-    advance_fits = omega (arith, advance_end, total_most (job_good (length m) j advance_clear))
-
     good : GoodMove j.tensor j.config j.source.length j.destination.length
     good = job_good (length m) j advance_clear
 

@@ -165,13 +165,13 @@ pub fn advance(mem: &mut [u8], job: crate::Job, from: u64, budget: u64) -> crate
     ensures written { mem.new ≡ advance_memory job from budget mem.old }
 {
     let v = crate::judge_job(mem.len(), job);
-    let rest = if from < v.total { v.total - from } else { 0 };
-    let count = if budget < rest { budget } else { rest };
+    let rest = v.total.saturating_sub(from);
+    let count = budget.min(rest);
     if count != 0 {
         let at = job.source.start as usize;
         let place = job.destination.start as usize;
         let row = outermost(job.tensor, job.config, Origin::Inside, at, place);
-        store_row(&[0u8; 0], mem, row, job.tensor.rank, from, from + count);
+        store_row(&[], mem, row, job.tensor.rank, from, from + count);
     }
     crate::Advanced {
         status: v.status,
