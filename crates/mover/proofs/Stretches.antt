@@ -1,13 +1,12 @@
 -- A stretch of elements stored row by row by the plain engine: those numbered from `first` to `last` - 1, as far as the rows have come.
 -- Assumes nothing.
-use Rattle.std.proofs.Common.{◌≡◌, ℕ, zero, suc, ◌+◌, ◌-◌, ◌*◌, ◌^◌, ◌<◌, ◌≤◌, min, Bool, true, false, cond, not, ltb, List, ◌++◌, length, take, drop, sym, refl, ap, ◌∙◌, subst, ap₂, true≢false, append_assoc, add-zero, add_assoc, mul-le-mul_right, mul_assoc, add-mul, one-mul, mul-one, arith, length-drop, length-take-le, ltb-false, ltb-true, le-ltb, lt-ltb}
+use Rattle.std.proofs.Common.{◌≡◌, ℕ, zero, suc, ◌+◌, ◌-◌, ◌*◌, ◌^◌, ◌<◌, ◌≤◌, min, Bool, true, false, cond, not, ltb, Some, None, List, ◌++◌, length, take, drop, sym, refl, ap, ◌∙◌, subst, ap₂, true≢false, append_assoc, add-zero, add_assoc, mul-le-mul_right, mul_assoc, add-mul, one-mul, mul-one, arith, length-drop, length-take-le, ltb-false, ltb-true, le-ltb, lt-ltb}
 use native.Mathlib.Nat.{min-eq_left, min-eq_right, min-le_right}
 use lib.Seq.{sets, sets-eq, length-sets}
 use Rattle.plane.specs.declared.Tensor.{Tensor}
 use Rattle.plane.specs.declared.Config.{Config}
 use Rattle.plane.specs.declared.Answer.{Answer}
 use Rattle.plane.specs.Arrays.{at, product}
-use Rattle.plane.specs.Numbers.{little}
 use Rattle.plane.specs.Moves.{accepted}
 use Rattle.plane.proofs.Arrays.{product_same}
 use Rattle.plane.proofs.Bounds.{product_most}
@@ -21,13 +20,12 @@ use Rattle.mover.specs.Element.{are_kept, source_place, place, padded, element}
 use Rattle.mover.specs.Moved.{extent_at, total, per_step, coord_of, stored, moved}
 use Rattle.mover.specs.Private.Elements.{source_bytes}
 use Rattle.mover.specs.Private.Runs.{BytesApart}
-use Rattle.mover.specs.Private.Rows.{size_of, row_bytes, Storable, inward_of, elements_in, first_of, past_of, RowOf, Passable, Stands, stretch_in, Comes}
-use Rattle.mover.proofs.Bytes.{pick_same}
+use Rattle.mover.specs.Private.Rows.{size_of, row_bytes, Storable, inward_of, elements_in, first_of, past_of, RowOf, Stands, stretch_in, Comes}
 use Rattle.mover.proofs.Laws.{moved_length}
 use Rattle.mover.proofs.Parts.{sets_middle, bytes_within, part_other}
 use Rattle.mover.proofs.Places.{apart_part, still_held}
 use Rattle.mover.proofs.Stored.{length_element}
-use Rattle.mover.proofs.Rows.{its_extent, extent_small, inward_row, to_fits, from_fits}
+use Rattle.mover.proofs.Rows.{its_extent, inward_row, if_some, to_fits, from_fits}
 
 -- ---- how many elements a row has
 
@@ -114,10 +112,6 @@ seen_same : (o : Origin) (s : List ℕ) (p r : Part) (m u : List ℕ) → BytesA
 seen_same Lent s p r m u h = refl
 seen_same Inside s p r m u h = part_other m u r.start p.start p.length h
 
-source_64 : (o : Origin) (s d : List ℕ) → length s < 2 ^ 64 → length d < 2 ^ 64 → length (source_bytes o s d) < 2 ^ 64
-source_64 Lent s d h k = h
-source_64 Inside s d h k = k
-
 module _ {w : Row} {depth : ℕ} {s d : List ℕ} (h : Stands w depth s d) where
   abbrev size : ℕ
   size = size_of w
@@ -128,7 +122,7 @@ module _ {w : Row} {depth : ℕ} {s d : List ℕ} (h : Stands w depth s d) where
     leaf : RowOf h.p.start h.r.start w.tensor.rank w
     leaf = let e : w.tensor.rank - depth ≡ w.tensor.rank = omega arith in subst (λ (i : ℕ). RowOf h.p.start h.r.start i w) e h.row
 
-    -- its element's coordinates; and that places, and whether it is kept, are those of the element
+    -- its element's coordinates; and that its places are those of the element
     abbrev coords : ℕ → ℕ
     coords = coord_of w.tensor w.config w.number
 
@@ -136,16 +130,12 @@ module _ {w : Row} {depth : ℕ} {s d : List ℕ} (h : Stands w depth s d) where
     unfolding place coord_of per_step
     its_place = leaf.at_place
 
-    its_at : w.kept ≡ true → w.at ≡ h.p.start + source_place w.tensor w.config coords * size
-    unfolding source_place coord_of per_step
+    its_at : w.at ≡ cond (are_kept w.tensor w.config coords) (Some (h.p.start + source_place w.tensor w.config coords * size)) None
+    unfolding source_place are_kept coord_of per_step
     its_at = leaf.at_source
 
-    its_kept : w.kept ≡ are_kept w.tensor w.config coords
-    unfolding are_kept coord_of per_step
-    its_kept = leaf.all_kept
-
-    source_end : w.kept ≡ true → w.at + size ≤ h.p.start + h.p.length
-    source_end k = omega (arith, from_fits leaf (omega arith) k, h.long)
+    source_in : {a : ℕ} → w.at ≡ Some a → (h.p.start ≤ a) × (a + size ≤ h.p.start + h.p.length)
+    source_in e = let f = from_fits leaf (omega arith) e in (f.0, omega (arith, f.1, h.long))
 
     end : w.place + size ≤ h.r.start + h.r.length
     end = omega (arith, to_fits leaf (omega arith), h.enough)
@@ -153,10 +143,10 @@ module _ {w : Row} {depth : ℕ} {s d : List ℕ} (h : Stands w depth s d) where
     pub storable : Storable w s d
     storable = record {
       sized = h.row.good_source.element;
-      source = λ k. omega (arith, source_end k, h.source);
+      source = if_some w.at (λ a e. omega (arith, (source_in e).1, h.source));
       destination = omega (arith, end, h.destination);
-      apart = λ k.
-          apart_part w.origin h.apart (omega (arith, h.row.at_source k)) (source_end k) (omega (arith, h.row.at_place)) end;
+      apart = if_some w.at
+          (λ a e. apart_part w.origin h.apart (source_in e).0 (source_in e).1 (omega (arith, h.row.at_place)) end);
     }
 
     -- the element's number fits, and the next one's
@@ -202,13 +192,18 @@ module _ {w : Row} {depth : ℕ} {s d : List ℕ} (h : Stands w depth s d) where
 
         bytes_are : row_bytes w s d ≡ element w.tensor w.config source coords
         unfolding element padded
-        bytes_are =
-            let at_source = source_place w.tensor w.config coords * size in
-            pick_same w.kept (little size w.config.fill)
-            (λ k. ap (λ (n : ℕ). take size (drop n (source_bytes w.origin s d))) (its_at k) ∙
-            (bytes_within (source_bytes w.origin s d) h.p.start h.p.length at_source size h.source (omega (arith, source_end k, its_at k)) ∙
-            ap (λ (v : List ℕ). take size (drop at_source v)) seen)) ∙
-            ap (λ (b : Bool). cond b (take size (drop at_source source)) (little size w.config.fill)) its_kept
+        bytes_are = by_test (are_kept w.tensor w.config coords) refl
+          where
+            by_test : (k : Bool) → are_kept w.tensor w.config coords ≡ k → row_bytes w s d ≡ element w.tensor w.config source coords
+            by_test true k =
+                let at_source = source_place w.tensor w.config coords * size in
+                let e : w.at ≡ Some (h.p.start + at_source) = rw k at its_at in
+                rw (e, k)
+                (bytes_within (source_bytes w.origin s d) h.p.start h.p.length at_source size h.source (omega (arith, (source_in e).1)) ∙
+                ap (λ (v : List ℕ). take size (drop at_source v)) seen)
+            by_test false k =
+                let e : w.at ≡ None = rw k at its_at in
+                rw (e, k)
 
         is_stored : {e : List ℕ} → e ≡ sets d w.place (row_bytes w s d)
             → e ≡ stretch_in w h.p h.r s first last (past_of w depth) m
@@ -231,23 +226,9 @@ module _ {w : Row} {depth : ℕ} {s d : List ℕ} (h : Stands w depth s d) where
     dim : w.tensor.rank - depth < w.tensor.rank
     dim = omega (arith, h.few)
 
-    pub extent_most : at w.answer.extent (w.tensor.rank - depth) ≤ 65535
-    extent_most = rw (its_extent h.row dim) (extent_small h.row dim).1
-
     module _ (x : ℕ) (l : x < at w.answer.extent (w.tensor.rank - depth)) where
       below : x < extent_at w.tensor w.config (w.tensor.rank - depth)
       below = rw (its_extent h.row dim) at l
-
-      pub passable : length s < 2 ^ 64 → length d < 2 ^ 64 → Passable w (w.tensor.rank - depth) x
-      passable ls ld = record {
-        p = h.p.start;
-        r = h.r.start;
-        row = h.row;
-        dim = dim;
-        below = below;
-        source_end = omega (arith, source_64 w.origin s d ls ld, h.source, h.long);
-        end = omega (arith, h.destination, h.enough);
-      }
 
       pub inward_stands : {d' : List ℕ} → length d' ≡ length d → Stands (inward_of w (w.tensor.rank - depth) x) (depth - 1) s d'
       unfolding inward_of

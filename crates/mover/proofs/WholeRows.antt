@@ -1,5 +1,5 @@
 -- The destination as one row, and what the plain engine's two calls leave. Assumes nothing.
-use Rattle.std.proofs.Common.{◌≡◌, ℕ, ◌+◌, ◌-◌, ◌^◌, ◌<◌, ◌≤◌, min, List, length, sym, refl, ap, ◌∙◌, subst, ap₂, one-mul, zero-mul, arith, take_all}
+use Rattle.std.proofs.Common.{◌≡◌, ℕ, ◌+◌, ◌-◌, ◌<◌, ◌≤◌, min, Some, List, length, sym, refl, ap, ◌∙◌, subst, ap₂, one-mul, zero-mul, arith, take_all}
 use native.Mathlib.Nat.{sub-zero, min-eq_left, min-eq_right, min-le_right}
 use native.Mathlib.Decide.{ℕ_discrete}
 use lib.Seq.{sets, length-sets, take-length}
@@ -49,8 +49,7 @@ module _ (t : Tensor) (c : Config) (z : (room_fault t c).status ≡ 0) where
     answer = its_answer;
     strides = room_strides t c z refl;
     within = omega arith;
-    all_kept = refl;
-    at_source = λ k. omega (arith, zero-mul t.element_size);
+    at_source = ap (λ (n : ℕ). Some n) (omega (arith, zero-mul t.element_size));
     at_place = omega (arith, zero-mul t.element_size);
   }
 

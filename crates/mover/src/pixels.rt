@@ -1,5 +1,5 @@
 // One element of a destination, before anything is moved.
-ghost use Rattle.std.specs.Prelude.{◌≡◌, ◌+◌, ◌≤◌, true, [], length};
+ghost use Rattle.std.specs.Prelude.{◌≡◌, ◌+◌, ◌≤◌, [], length, IfSome};
 ghost use Rattle.faults.specs.Faults.{lowest, outcome};
 ghost use Rattle.plane.specs.Arrays.{at, firsts};
 ghost use Rattle.mover.specs.declared.elements.Origin.TheVariants.{Lent};
@@ -39,6 +39,7 @@ fn row_at(t: Tensor, c: Config, x: [u32; 4]) -> Row
     ensures { result ≡ row_at t c x }
 {
     let mut row = outermost(t, c, Origin::Lent, 0, 0);
+    // a loop, and no fold: its closure would have to ask again what a step inward asks of the row
     for i in 0..t.rank {
         row = inward(row, i as usize, x[i as usize]);
     }
@@ -49,7 +50,7 @@ fn row_at(t: Tensor, c: Config, x: [u32; 4]) -> Row
 fn bytes_of(src: &[u8], row: Row) -> [u8; 4]
     requires row_bound { size_of row ≤ 4 }
     requires origin_value { row.origin ≡ Lent }
-    requires row_in_bounds { row.kept ≡ true → row.at + size_of row ≤ length src.now }
+    requires row_in_bounds { IfSome row.at (λ at. at + size_of row ≤ length src.now) }
     ensures { result ≡ firsts (size_of row) (row_byte row src.now []) }
 {
     let mut bytes = [0u8; 4];
@@ -71,7 +72,7 @@ pub fn pixel(t: Tensor, c: Config, src: &[u8], at: [u32; 4]) -> PixelAnswer
                 status: 0,
                 dim: 0,
                 bytes: bytes_of(src, row),
-                padding: !row.kept,
+                padding: row.at.is_none(),
             }
         }
         Err(f) => PixelAnswer {

@@ -1,4 +1,5 @@
 use Rattle.std.proofs.Common.{arith}
+use Rattle.std.proofs.lemmas.Option.{IfSome_then}
 use Rattle.plane.proofs.Arrays.{filled_start, filled_more, filled_end}
 use Rattle.mover.proofs.pixels.bytes_of.Goals as goal
 
@@ -9,7 +10,7 @@ pub byte-requires : goal.byte-requires
 byte-requires c =
     let l = c.loop-b-test.true in record {
       b_bound = omega (arith, c.requires.row_bound);
-      b_in_bounds = λ k. rw c.requires.origin_value (omega (arith, c.requires.row_in_bounds k));
+      b_in_bounds = rw c.requires.origin_value (IfSome_then c.args.row.at c.requires.row_in_bounds (λ a k. omega (arith, l, k)));
     }
 
 pub loop-b-preserved : goal.loop-b-preserved

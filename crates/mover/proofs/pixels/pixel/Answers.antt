@@ -20,4 +20,4 @@ bytes_of-requires c =
 
 pub returns-in-Ok : goal.returns-in-Ok
 returns-in-Ok c =
-    rw c.bytes_of.ensures (answer_tells c.args.t c.args.c c.args.src.now c.args.at c.in-Ok.ensures c.row_at-row.ensures)
+    rw c.bytes_of.ensures (answer_tells c.args.t c.args.c c.args.src.now c.args.at c.in-Ok.ensures c.row_at-row.ensures c.is_none.ensures)

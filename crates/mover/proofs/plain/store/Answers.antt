@@ -1,4 +1,5 @@
 use Rattle.std.proofs.Common.{◌≡◌, ℕ, ◌≤◌, length, take, refl, ap, ◌∙◌, arith}
+use Rattle.std.proofs.lemmas.Option.{IfSome_then}
 use lib.Seq.{sets}
 use Rattle.plane.proofs.Bounds.{element_small}
 use Rattle.mover.specs.Private.Rows.{size_of, row_bytes}
@@ -17,7 +18,7 @@ byte-requires c =
     let h = c.loop-b-test.true in
     record {
       b_bound = omega (arith, small (goal.at-byte-requires c).Start, h);
-      b_in_bounds = λ k. still_held c.args.row.origin c.args.src.now c.args.dst.now l.dst (ap length l.invariant.1 ∙ stored_long c.args.row c.args.src.now c.args.dst.now c.requires l.b) (omega (arith, c.requires.source k, h));
+      b_in_bounds = IfSome_then c.args.row.at c.requires.source (λ a k. still_held c.args.row.origin c.args.src.now c.args.dst.now l.dst (ap length l.invariant.1 ∙ stored_long c.args.row c.args.src.now c.args.dst.now c.requires l.b) (omega (arith, k, h)));
     }
 
 pub loop-b-preserved : goal.loop-b-preserved
