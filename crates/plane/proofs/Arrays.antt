@@ -11,6 +11,8 @@ use mathlib.Core.List.{List, [], ◌∷◌}
 use borrow.Author.Tests.{lt-ltb, le-ltb}
 use lib.ListN.{get_or, set, take, length, length-set}
 use Rattle.std.specs.List.{list_any}
+use Rattle.std.specs.Array.{IsFromFnResult, IsFromFnResultFrom}
+use denote.Param.Members.{Mut, Called}
 use Rattle.std.proofs.lemmas.List.Folds.{list_any_more}
 use lib.Seq.{ext_get_or, get_or-set_same, get_or-set_other}
 use Rattle.plane.specs.Arrays.{at, below, array, firsts_or, zeros, sum, product, some, every, how_many}
@@ -65,6 +67,20 @@ module _ {A : Type 0} (z : A) where
     where
       one : (d : ℕ) → below z n d (f d) ≡ below z n d (g d)
       one d = below_same n d (h d)
+
+-- an array made by calls that leave the closure as it is: entry d is what the call at d gives
+module _ {F A : Type 0} (z : A) (g : Mut F (ℕ × Unit {0}) A) (f : F) (ys : List A) (h : ℕ → A) (call : (d : ℕ) (y : A) (q : F) → d < 4 → Called g f (d, tt) y q → (q ≡ f) × (y ≡ h d)) where
+  made_from : (n i : ℕ) (p : F) → p ≡ f → i + n ≡ 4 → IsFromFnResultFrom g p ys i n → (d : ℕ) → i ≤ d → d < 4 → get_or ys d z ≡ h d
+  made_from zero i p e s w d l m = absurd (omega arith)
+  made_from (suc n) i p e s w d l m =
+      let one = call i w.1 w.0 (omega arith) (subst (λ (u : F). Called g u (i, tt) w.1 w.0) e w.3) in
+      elim (ℕ_discrete i d) [
+        | yes q ↦ subst (λ (j : ℕ). get_or ys j z ≡ h j) q (w.2.1 z ∙ one.1)
+        | no q ↦ made_from n (i + 1) w.0 one.0 (omega arith) w.4 d (omega arith) m
+      ]
+
+  pub made_array : IsFromFnResult g f ys 4 → ys ≡ array h
+  made_array w = is_array z ys h w.long (λ d m. made_from 4 0 f refl refl w.each d (omega arith) m)
 
 pub zeros_at : (d : ℕ) → at zeros d ≡ 0
 zeros_at d = same_at 0 d
