@@ -12,6 +12,7 @@ use crate::elements::Origin;
 use crate::plain::{Row, byte, inward, outermost};
 use crate::verdicts::judged;
 use plane::{Config, Fault, Tensor};
+use std::array;
 
 // 35: the lowest of n dimensions whose coordinate is at or above its extent.
 fn coordinate_fault(n: u8, extent: [u32; 4], x: [u32; 4]) -> Result<(), Fault>
@@ -38,8 +39,8 @@ fn row_at(t: Tensor, c: Config, x: [u32; 4]) -> Row
     requires { Pickable t c x }
     ensures { result ≡ row_at t c x }
 {
-    let mut row = outermost(t, c, Origin::Lent, 0, 0);
     // a loop, and no fold: its closure would have to ask again what a step inward asks of the row
+    let mut row = outermost(t, c, Origin::Lent, 0, 0);
     for i in 0..t.rank {
         row = inward(row, i as usize, x[i as usize]);
     }
@@ -53,11 +54,8 @@ fn bytes_of(src: &[u8], row: Row) -> [u8; 4]
     requires row_in_bounds { IfSome row.at (λ at. at + size_of row ≤ length src.now) }
     ensures { result ≡ firsts (size_of row) (row_byte row src.now []) }
 {
-    let mut bytes = [0u8; 4];
-    for b in 0..row.tensor.element_size as usize {
-        bytes[b] = byte(src, &[0u8; 0], row, b);
-    }
-    bytes
+    let size = row.tensor.element_size as usize;
+    array::from_fn(|b| if b < size { byte(src, &[], row, b) } else { 0 })
 }
 
 // The element that a move of the plane t from src as c says would store at the destination coordinate `at`, of which entries past the
