@@ -1,5 +1,5 @@
 -- `mover::plain::kept_count` is the kept count of a source dimension. Assumes nothing.
-use Rattle.std.proofs.Common.{◌≡◌, ℕ, ◌<◌, ap, ◌∙◌, arith, eq-eqb, ne_eqb}
+use Rattle.std.proofs.Common.{◌≡◌, ℕ, ◌<◌, ◌∙◌, arith, eq-eqb, ne_eqb}
 use Rattle.std.specs.Int.{div_ceil}
 use Rattle.std.proofs.lemmas.Grind.{common_steps}
 use Rattle.plane.specs.Arrays.{at}
@@ -21,4 +21,6 @@ pub returns : goal.returns
 unfolding count
 returns c =
     let s = at c.args.config.step c.args.s in
-    c.div_ceil.ensures ∙ ap (λ (n : ℕ). div_ceil n s) (size (goal.at-returns c).Joined-size-eq0) ∙ rounded _ s (omega (arith, c.requires.good_config.step c.args.s c.requires.s_lt_rank))
+    let e = size (goal.at-returns c).Joined-size-eq0 in
+    let r = rounded (taken c.args.t c.args.config c.args.s) s (omega (arith, c.requires.good_config.step c.args.s c.requires.s_lt_rank)) in
+    cc
