@@ -1,13 +1,13 @@
 -- A pixel as the code works it out: its refusals from those of a move, and the row of one element that it comes to. Assumes nothing.
-use Rattle.std.proofs.Common.{◌≡◌, ℕ, zero, suc, ◌+◌, ◌*◌, ◌/◌, ◌%◌, ◌^◌, ◌<◌, ◌≤◌, Bool, true, false, not, ◌&&◌, ltb, List, [], length, Result, Ok, Err, sym, refl, ap, ◌∙◌, ap₂, inl, inr, true≢false, add-mul, zero-mul, add-one, arith, ltb-false, le-ltb, leb-false}
-use Rattle.std.specs.Prelude.{⊤}
+use Rattle.std.proofs.Common.{◌≡◌, ℕ, zero, suc, ◌+◌, ◌*◌, ◌/◌, ◌%◌, ◌^◌, ◌<◌, ◌≤◌, Bool, true, false, cond, not, ◌&&◌, ltb, Some, None, List, [], length, Result, Ok, Err, sym, refl, ap, ◌∙◌, ap₂, inl, inr, true≢false, add-mul, zero-mul, add-one, arith, ltb-false, le-ltb, leb-false}
+use Rattle.std.specs.Prelude.{⊤, IfSome, is_some}
 use Rattle.faults.specs.declared.Fault.{Fault}
 use Rattle.faults.specs.Faults.{none, lowest, outcome}
 use Rattle.faults.specs.Exactness.{Unbroken, Given}
-use Rattle.faults.proofs.Bools.{both_first}
 use Rattle.faults.proofs.Chains.{exact_fault, unbroken, unbroken_accepts, unbroken_none, given_fault}
 use Rattle.faults.proofs.Faults.{or_none, spared, if_fault_lem, if_none}
 use Rattle.faults.proofs.Outcomes.{ends, tells_ok, tells_err}
+use Rattle.std.specs.Borrow.{Bor}
 use Rattle.plane.specs.declared.Tensor.{Tensor}
 use Rattle.plane.specs.declared.Config.{Config}
 use Rattle.plane.specs.declared.Answer.{Answer}
@@ -24,12 +24,13 @@ use Rattle.mover.specs.Element.{is_kept, are_kept, source_place, padded, element
 use Rattle.mover.specs.Moved.{extent_at}
 use Rattle.mover.specs.Demand2.{IsCoordinate}
 use Rattle.mover.specs.Pixel.{bad_coordinate, pixel_rules, pixel_fault, pixel_bytes, pixel_of}
+use Rattle.mover.specs.Private.Elements.{source_bytes}
 use Rattle.mover.specs.Private.Rows.{size_of, row_byte, outermost_of, inward_of, source_term, RowOf, Passable}
 use Rattle.mover.specs.Private.Pixels.{Pickable, row_to, row_at}
 use Rattle.mover.proofs.Making.{room_source, room_config, room_dst}
 use Rattle.mover.proofs.Demand2.{kept_byte, pad_byte}
 use Rattle.mover.proofs.Judged.{outcome_at, move_room, judged_move, judged_accepted}
-use Rattle.mover.proofs.Rows.{inward_row, its_kept, its_from, from_fits}
+use Rattle.mover.proofs.Rows.{inward_row, its_from, if_some, from_fits}
 use Rattle.mover.proofs.Storing.{little_at}
 use Rattle.mover.proofs.WholeRows.{outermost_row}
 
@@ -172,9 +173,9 @@ module _ (w : Row) (x : List ℕ) where
   to_origin zero = refl
   to_origin (suc i) = to_origin i
 
-module _ (t : Tensor) (c : Config) (x : List ℕ) (g : Pickable t c x) where
+module _ (t : Tensor) (c : Config) (s : Bor (List ℕ)) (x : List ℕ) (g : Pickable t c x) where
   abbrev all : Row
-  all = outermost_of t c Lent 0 0
+  all = outermost_of t c (Lent s) 0 0
 
   abbrev row : ℕ → Row
   row i = row_to all x i
@@ -188,7 +189,7 @@ module _ (t : Tensor) (c : Config) (x : List ℕ) (g : Pickable t c x) where
 
   to_row : (i : ℕ) → i ≤ t.rank → RowOf 0 0 i (row i)
   unfolding row_to
-  to_row zero h = outermost_row t c g.0 Lent 0 0
+  to_row zero h = outermost_row t c g.0 (Lent s) 0 0
   to_row (suc i) h = inward_row (to_row i (omega arith)) (dim i h) (at x i) (below_extent i h)
 
   pub to_passable : (i : ℕ) → i < t.rank → Passable (row i) i (at x i)
@@ -202,98 +203,95 @@ module _ (t : Tensor) (c : Config) (x : List ℕ) (g : Pickable t c x) where
     end = rw (to_tensor all x i, to_config all x i) (omega (arith, need_fits t c (room_source t c g.0) (room_config t c g.0) (room_dst t c g.0)));
   }
 
-  to_kept : (i : ℕ) → i ≤ t.rank → (row i).kept ≡ every i (λ j. is_kept t c j (at x j))
-  unfolding row_to every
-  to_kept zero h = refl
-  to_kept (suc i) h =
-      its_kept (to_row i (omega arith)) (dim i h) (at x i) (below_extent i h) ∙
-      rw (to_tensor all x i, to_config all x i) (ap (λ (b : Bool). b && is_kept t c i (at x i)) (to_kept i (omega arith)))
-
-  to_at : (i : ℕ) → i ≤ t.rank → (row i).kept ≡ true → (row i).at ≡ sum i (λ j. source_term t c j (at x j)) * t.element_size
-  unfolding row_to sum
-  to_at zero h k = sym (zero-mul t.element_size)
-  to_at (suc i) h k =
-      let r = to_row i (omega arith) in
-      let b = both_first (row i).kept _ (sym (its_kept r (dim i h) (at x i) (below_extent i h)) ∙ k) in
-      its_from r (dim i h) (at x i) (below_extent i h) k ∙
-      ap₂ (λ (u : Tensor) (v : Config). (row i).at + source_term u v i (at x i) * u.element_size) (to_tensor all x i) (to_config all x i) ∙
-      ap (λ (y : ℕ). y + source_term t c i (at x i) * t.element_size) (to_at i (omega arith) b) ∙
-      sym (add-mul (sum i (λ j. source_term t c j (at x j))) (source_term t c i (at x i)) t.element_size)
+  to_at : (i : ℕ) → i ≤ t.rank → (row i).at ≡ cond (every i (λ j. is_kept t c j (at x j))) (Some (sum i (λ j. source_term t c j (at x j)) * t.element_size)) None
+  unfolding row_to every sum
+  to_at zero h = ap (λ (n : ℕ). Some n) (sym (zero-mul t.element_size))
+  to_at (suc i) h =
+      let k = every i (λ j. is_kept t c j (at x j)) in
+      let n = sum i (λ j. source_term t c j (at x j)) in
+      its_from (to_row i (omega arith)) (dim i h) (at x i) (below_extent i h) _ _ (to_at i (omega arith)) ∙
+      ap₂ (λ (u : Tensor) (v : Config). cond (k && is_kept u v i (at x i)) (Some (n * t.element_size + source_term u v i (at x i) * u.element_size)) None) (to_tensor all x i) (to_config all x i) ∙
+      ap (λ (y : ℕ). cond (k && is_kept t c i (at x i)) (Some y) None) (sym (add-mul n (source_term t c i (at x i)) t.element_size))
 
   -- all the way
   abbrev here : Row
-  here = row_at t c x
+  here = row_at t c s x
 
-  picked_kept : here.kept ≡ are_kept t c (at x)
-  unfolding are_kept
-  picked_kept = to_kept t.rank (omega arith)
-
-  picked_at : here.kept ≡ true → here.at ≡ source_place t c (at x) * t.element_size
-  unfolding source_place
+  picked_at : here.at ≡ cond (are_kept t c (at x)) (Some (source_place t c (at x) * t.element_size)) None
+  unfolding are_kept source_place
   picked_at = to_at t.rank (omega arith)
 
-  picked_fits : here.kept ≡ true → here.at + size_of here ≤ span t
+  picked_fits : {a : ℕ} → here.at ≡ Some a → a + size_of here ≤ span t
   picked_fits k =
       let e = to_tensor all x t.rank in
-      omega (arith, ap span e, from_fits (to_row t.rank (omega arith)) (rw e (omega arith)) k)
+      omega (arith, ap span e, (from_fits (to_row t.rank (omega arith)) (rw e (omega arith)) k).1)
+
+  picked_padding : {b : Bool} → is_some here.at ≡ not b → b ≡ not (are_kept t c (at x))
+  picked_padding {b} e = by_test (are_kept t c (at x)) b (ap is_some (sym picked_at) ∙ e)
+    where
+      by_test : (k b : Bool) → is_some (cond k (Some (source_place t c (at x) * t.element_size)) None) ≡ not b → b ≡ not k
+      by_test true true e = e
+      by_test true false e = refl
+      by_test false true e = refl
+      by_test false false e = e
 
   -- its bytes
-  module _ (src : List ℕ) where
-    padded_byte : (b : ℕ) → b < t.element_size → at (padded t c) b ≡ c.fill / 2 ^ (8 * b) % 256
-    unfolding padded
-    padded_byte b h = little_at t.element_size c.fill b h
+  padded_byte : (b : ℕ) → b < t.element_size → at (padded t c) b ≡ c.fill / 2 ^ (8 * b) % 256
+  unfolding padded
+  padded_byte b h = little_at t.element_size c.fill b h
 
-    picked_byte : (b : ℕ) → b < t.element_size → row_byte here src [] b ≡ at (element t c src (at x)) b
-    picked_byte b h = by_test here.kept refl
-      where
-        by_test : (k : Bool) → here.kept ≡ k → row_byte here src [] b ≡ at (element t c src (at x)) b
-        by_test true k = rw (picked_at k, k, to_origin all x t.rank) (sym (kept_byte t c (at x) src b h (sym picked_kept ∙ k)))
-        by_test false k = rw (k, to_config all x t.rank) (sym (pad_byte t c (at x) src b (sym picked_kept ∙ k) ∙ padded_byte b h))
+  picked_byte : (b : ℕ) → b < t.element_size → row_byte here [] b ≡ at (element t c s.now (at x)) b
+  picked_byte b h = by_test (are_kept t c (at x)) refl
+    where
+      by_test : (k : Bool) → are_kept t c (at x) ≡ k → row_byte here [] b ≡ at (element t c s.now (at x)) b
+      by_test true k =
+          let e : here.at ≡ Some (source_place t c (at x) * t.element_size) = rw k at picked_at in
+          rw (e, to_origin all x t.rank) (sym (kept_byte t c (at x) s.now b h k))
+      by_test false k =
+          let e : here.at ≡ None = rw k at picked_at in
+          rw (e, to_config all x t.rank) (sym (pad_byte t c (at x) s.now b k ∙ padded_byte b h))
 
-    picked_bytes : firsts (size_of here) (row_byte here src []) ≡ pixel_bytes t c src x
-    picked_bytes =
-        ap (λ (u : Tensor). firsts u.element_size (row_byte here src [])) (to_tensor all x t.rank) ∙
-        firsts_same 0 t.element_size (row_byte here src []) (at (element t c src (at x))) picked_byte
+  picked_bytes : firsts (size_of here) (row_byte here []) ≡ pixel_bytes t c s.now x
+  picked_bytes =
+      ap (λ (u : Tensor). firsts u.element_size (row_byte here [])) (to_tensor all x t.rank) ∙
+      firsts_same 0 t.element_size (row_byte here []) (at (element t c s.now (at x))) picked_byte
 
 -- ---- the answer
 
-module _ (t : Tensor) (c : Config) (src x : List ℕ) where
-  pub answer_refuses : {g : Fault} → Err g ≡ told (pixel_fault t c (length src) x) → record { status = g.status; dim = g.dim; bytes = zeros; padding = false } ≡ pixel_of t c src x
+module _ (t : Tensor) (c : Config) (s : Bor (List ℕ)) (x : List ℕ) where
+  pub answer_refuses : {g : Fault} → Err g ≡ told (pixel_fault t c (length s.now) x) → record { status = g.status; dim = g.dim; bytes = zeros; padding = false } ≡ pixel_of t c s.now x
   unfolding pixel_of
   answer_refuses e =
-      let p = pixel_fault t c (length src) x in
+      let p = pixel_fault t c (length s.now) x in
       let w = tells_err {A = ⊤} p tt e in
-      rw (if_fault_lem p zeros (pixel_bytes t c src x) w.1, if_fault_lem p false (not (are_kept t c (at x))) w.1, w.0)
+      rw (if_fault_lem p zeros (pixel_bytes t c s.now x) w.1, if_fault_lem p false (not (are_kept t c (at x))) w.1, w.0)
 
-  module _ {u : ⊤} (e : Ok u ≡ told (pixel_fault t c (length src) x)) where
-    clear : (pixel_fault t c (length src) x).status ≡ 0
-    clear = (tells_ok {A = ⊤} (pixel_fault t c (length src) x) tt e).1
+  module _ {u : ⊤} (e : Ok u ≡ told (pixel_fault t c (length s.now) x)) where
+    clear : (pixel_fault t c (length s.now) x).status ≡ 0
+    clear = (tells_ok {A = ⊤} (pixel_fault t c (length s.now) x) tt e).1
 
     pub answer_pickable : Pickable t c x
-    answer_pickable = (move_room t c (passed_just t c (length src) x clear), passed_coordinate t c (length src) x clear)
+    answer_pickable = (move_room t c (passed_just t c (length s.now) x clear), passed_coordinate t c (length s.now) x clear)
 
-    pub answer_lent : {w : Row} → w ≡ row_at t c x → w.origin ≡ Lent
-    answer_lent h = ap (λ (v : Row). v.origin) h ∙ to_origin (outermost_of t c Lent 0 0) x t.rank
-
-    pub answer_size : {w : Row} → w ≡ row_at t c x → size_of w ≤ 4
+    pub answer_size : {w : Row} → w ≡ row_at t c s x → size_of w ≤ 4
     answer_size h =
-        let e = ap (λ (v : Row). size_of v) h ∙ ap (λ (u : Tensor). u.element_size) (to_tensor (outermost_of t c Lent 0 0) x t.rank) in
-        rw e (element_small t.element_size (passed_just t c (length src) x clear).source.element).1
+        let e = ap (λ (v : Row). size_of v) h ∙ ap (λ (u : Tensor). u.element_size) (to_tensor (outermost_of t c (Lent s) 0 0) x t.rank) in
+        rw e (element_small t.element_size (passed_just t c (length s.now) x clear).source.element).1
 
-    pub answer_fits : {w : Row} → w ≡ row_at t c x → w.kept ≡ true → w.at + size_of w ≤ length src
-    answer_fits {w} h k =
-        rw h (omega (arith, picked_fits t c x answer_pickable (rw h at k), (passed_just t c (length src) x clear).long))
+    pub answer_fits : {w : Row} → w ≡ row_at t c s x → IfSome w.at (λ a. a + size_of w ≤ length (source_bytes w.origin []))
+    answer_fits {w} h =
+        rw (h, to_origin (outermost_of t c (Lent s) 0 0) x t.rank) (if_some (row_at t c s x).at (λ a k. omega (arith, picked_fits t c s x answer_pickable k, (passed_just t c (length s.now) x clear).long)))
 
-    pub answer_tells : {w : Row} → w ≡ row_at t c x →
-        record { status = 0; dim = 0; bytes = firsts (size_of w) (row_byte w src []); padding = not w.kept } ≡ pixel_of t c src x
+    pub answer_tells : {w : Row} {b : Bool} → w ≡ row_at t c s x → is_some w.at ≡ not b →
+        record { status = 0; dim = 0; bytes = firsts (size_of w) (row_byte w []); padding = b } ≡ pixel_of t c s.now x
     unfolding pixel_of
-    answer_tells {w} h =
-        let p = pixel_fault t c (length src) x in
+    answer_tells {w} {b} h k =
+        let p = pixel_fault t c (length s.now) x in
         rw (
-          if_none p zeros (pixel_bytes t c src x) clear,
+          if_none p zeros (pixel_bytes t c s.now x) clear,
           if_none p false (not (are_kept t c (at x))) clear,
-          passed_none t c (length src) x clear,
+          passed_none t c (length s.now) x clear,
           h,
-          picked_bytes t c x answer_pickable src,
-          picked_kept t c x answer_pickable,
+          picked_bytes t c s x answer_pickable,
+          picked_padding t c s x answer_pickable (rw h at k),
         )

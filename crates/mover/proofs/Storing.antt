@@ -1,5 +1,6 @@
 -- A row that is one element, stored byte by byte by the plain engine. Assumes nothing.
-use Rattle.std.proofs.Common.{◌≡◌, ℕ, zero, suc, ◌+◌, ◌*◌, ◌/◌, ◌%◌, ◌^◌, ◌<◌, ◌≤◌, Bool, true, false, cond, List, length, get_or, take, drop, set, sym, refl, ap, ◌∙◌, inl, inr, ⊎_elim, le_of_suc-le-suc, not-suc-le-zero, zero-add, div-one, arith, length-drop, length-take-le, get_or-drop, take_all, get_or-take, pow-add}
+use Rattle.std.proofs.Common.{◌≡◌, ℕ, zero, suc, ◌+◌, ◌*◌, ◌/◌, ◌%◌, ◌^◌, ◌<◌, ◌≤◌, Some, None, List, length, get_or, take, drop, set, sym, refl, ap, ◌∙◌, inl, inr, ⊎_elim, le_of_suc-le-suc, not-suc-le-zero, zero-add, div-one, arith, length-drop, length-take-le, get_or-drop, take_all, get_or-take, pow-add}
+use Rattle.std.specs.Prelude.{Option, IfSome, option_map, unwrap_or}
 use native.Mathlib.Nat.{div-div-eq-div-mul}
 use lib.Seq.{sets, length-sets}
 use Rattle.plane.specs.Numbers.{little}
@@ -22,49 +23,46 @@ little_at (suc w) n (suc b) h =
     little_at w (n / 256) b (le_of_suc-le-suc h) ∙ rw (e, pow-add 2 8 (8 * b), div-div-eq-div-mul)
 
 -- what is stored apart from the source leaves its bytes as they were
-apart_seen : (o : Origin) (s vs d : List ℕ) (from to n b : ℕ) → length vs ≤ b → b < n → BytesApart o from (from + n) to (to + n)
+apart_seen : (o : Origin) (vs d : List ℕ) (from to n b : ℕ) → length vs ≤ b → b < n → BytesApart o from (from + n) to (to + n)
     → get_or (source_bytes o (sets d to vs)) (from + b) 0 ≡ get_or (source_bytes o d) (from + b) 0
-apart_seen Lent s vs d from to n b h l a = refl
-apart_seen Inside s vs d from to n b h l a =
+apart_seen (Lent _) vs d from to n b h l a = refl
+apart_seen Inside vs d from to n b h l a =
     get_d_sets_out vs d to (from + b) (⊎_elim (λ u. inl (omega arith)) (λ v. inr (omega arith)) a)
 
-module _ (w : Row) (s d : List ℕ) (g : Storable w s d) where
-  bytes_long : length (row_bytes w s d) ≡ size_of w
-  bytes_long = by_cases w.kept g.source
+module _ (w : Row) (d : List ℕ) (g : Storable w d) where
+  bytes_long : length (row_bytes w d) ≡ size_of w
+  bytes_long = by_cases w.at g.source
     where
-      by_cases : (k : Bool) → (k ≡ true → w.at + size_of w ≤ length (source_bytes w.origin s d))
-          → length (cond k (take (size_of w) (drop w.at (source_bytes w.origin s d))) (little (size_of w) w.config.fill)) ≡ size_of w
-      by_cases true h = length-take-le (size_of w) (drop w.at (source_bytes w.origin s d)) (rw length-drop (omega (arith, h refl)))
-      by_cases false h = length_little (size_of w) w.config.fill
+      by_cases : (o : Option ℕ) → IfSome o (λ a. a + size_of w ≤ length (source_bytes w.origin d))
+          → length (unwrap_or (option_map (λ a. take (size_of w) (drop a (source_bytes w.origin d))) o) (little (size_of w) w.config.fill)) ≡ size_of w
+      by_cases (Some a) h = length-take-le (size_of w) (drop a (source_bytes w.origin d)) (rw length-drop (omega (arith, h)))
+      by_cases None h = length_little (size_of w) w.config.fill
 
   -- the destination with the first b bytes of the element stored
   abbrev stored : ℕ → List ℕ
-  stored b = sets d w.place (take b (row_bytes w s d))
+  stored b = sets d w.place (take b (row_bytes w d))
 
-  -- a byte of the source is then as it was
-  seen : (b : ℕ) → b < size_of w → w.kept ≡ true → get_or (source_bytes w.origin s (stored b)) (w.at + b) 0 ≡ get_or (source_bytes w.origin s d) (w.at + b) 0
-  seen b l k =
-      apart_seen w.origin s (take b (row_bytes w s d)) d w.at w.place (size_of w) b (length_take_most b (row_bytes w s d)) l (g.apart k)
-
-  -- byte b, read from the destination as it is then
+  -- byte b, read from the destination as it is then: a byte of the source is as it was
   pub byte_next : (b : ℕ) {v : ℕ} → b < size_of w
-      → v ≡ row_byte w s (stored b) b
+      → v ≡ row_byte w (stored b) b
       → set (stored b) (w.place + b) v ≡ stored (b + 1)
   byte_next b {v} l e =
-      let vs = row_bytes w s d in
+      let vs = row_bytes w d in
       let h : b < length vs = rw bytes_long l in
-      rw (e ∙ picked w.kept (seen b l)) (rw (zero-add b) at (copy_more d vs 0 w.place b (rw zero-add h)))
+      rw (e ∙ picked w.at g.apart) (rw (zero-add b) at (copy_more d vs 0 w.place b (rw zero-add h)))
     where
-      picked : (k : Bool) → (k ≡ true → get_or (source_bytes w.origin s (stored b)) (w.at + b) 0 ≡ get_or (source_bytes w.origin s d) (w.at + b) 0)
-          → cond k (get_or (source_bytes w.origin s (stored b)) (w.at + b) 0) (w.config.fill / 2 ^ (8 * b) % 256)
-          ≡ get_or (cond k (take (size_of w) (drop w.at (source_bytes w.origin s d))) (little (size_of w) w.config.fill)) b 0
-      picked true f = f refl ∙ sym (get_or-take (size_of w) (drop w.at (source_bytes w.origin s d)) b 0 l ∙ get_or-drop w.at (source_bytes w.origin s d) b 0)
-      picked false f = sym (little_at (size_of w) w.config.fill b l)
+      picked : (o : Option ℕ) → IfSome o (λ a. BytesApart w.origin a (a + size_of w) w.place (w.place + size_of w))
+          → unwrap_or (option_map (λ a. get_or (source_bytes w.origin (stored b)) (a + b) 0) o) (w.config.fill / 2 ^ (8 * b) % 256)
+          ≡ get_or (unwrap_or (option_map (λ a. take (size_of w) (drop a (source_bytes w.origin d))) o) (little (size_of w) w.config.fill)) b 0
+      picked (Some a) f =
+          apart_seen w.origin (take b (row_bytes w d)) d a w.place (size_of w) b (length_take_most b (row_bytes w d)) l f ∙
+          sym (get_or-take (size_of w) (drop a (source_bytes w.origin d)) b 0 l ∙ get_or-drop a (source_bytes w.origin d) b 0)
+      picked None f = sym (little_at (size_of w) w.config.fill b l)
 
   pub stored_long : (b : ℕ) → length (stored b) ≡ length d
-  stored_long b = length-sets d w.place (take b (row_bytes w s d))
+  stored_long b = length-sets d w.place (take b (row_bytes w d))
 
-  pub stored_all : stored (size_of w) ≡ sets d w.place (row_bytes w s d)
+  pub stored_all : stored (size_of w) ≡ sets d w.place (row_bytes w d)
   stored_all =
       ap (λ (vs : List ℕ). sets d w.place vs)
-      (take_all (size_of w) (row_bytes w s d) (omega (arith, bytes_long)))
+      (take_all (size_of w) (row_bytes w d) (omega (arith, bytes_long)))

@@ -1,13 +1,12 @@
 -- A stretch of elements stored row by row by the plain engine: those numbered from `first` to `last` - 1, as far as the rows have come.
 -- Assumes nothing.
-use Rattle.std.proofs.Common.{◌≡◌, ℕ, zero, suc, ◌+◌, ◌-◌, ◌*◌, ◌^◌, ◌<◌, ◌≤◌, min, Bool, true, false, cond, not, ltb, List, ◌++◌, length, take, drop, sym, refl, ap, ◌∙◌, subst, ap₂, true≢false, append_assoc, add-zero, add_assoc, mul-le-mul_right, mul_assoc, add-mul, one-mul, mul-one, arith, length-drop, length-take-le, ltb-false, ltb-true, le-ltb, lt-ltb}
+use Rattle.std.proofs.Common.{◌≡◌, ℕ, zero, suc, ◌+◌, ◌-◌, ◌*◌, ◌^◌, ◌<◌, ◌≤◌, min, Bool, true, false, cond, not, ltb, Some, None, List, ◌++◌, length, take, drop, sym, refl, ap, ◌∙◌, subst, ap₂, true≢false, append_assoc, add-zero, add_assoc, mul-le-mul_right, mul_assoc, add-mul, one-mul, mul-one, arith, length-drop, length-take-le, ltb-false, ltb-true, le-ltb, lt-ltb}
 use native.Mathlib.Nat.{min-eq_left, min-eq_right, min-le_right}
 use lib.Seq.{sets, sets-eq, length-sets}
 use Rattle.plane.specs.declared.Tensor.{Tensor}
 use Rattle.plane.specs.declared.Config.{Config}
 use Rattle.plane.specs.declared.Answer.{Answer}
 use Rattle.plane.specs.Arrays.{at, product}
-use Rattle.plane.specs.Numbers.{little}
 use Rattle.plane.specs.Moves.{accepted}
 use Rattle.plane.proofs.Arrays.{product_same}
 use Rattle.plane.proofs.Bounds.{product_most}
@@ -21,13 +20,12 @@ use Rattle.mover.specs.Element.{are_kept, source_place, place, padded, element}
 use Rattle.mover.specs.Moved.{extent_at, total, per_step, coord_of, stored, moved}
 use Rattle.mover.specs.Private.Elements.{source_bytes}
 use Rattle.mover.specs.Private.Runs.{BytesApart}
-use Rattle.mover.specs.Private.Rows.{size_of, row_bytes, Storable, inward_of, elements_in, first_of, past_of, RowOf, Passable, Stands, stretch_in, Comes}
-use Rattle.mover.proofs.Bytes.{pick_same}
+use Rattle.mover.specs.Private.Rows.{size_of, row_bytes, Storable, inward_of, elements_in, first_of, past_of, RowOf, Stands, stretch_in, Comes}
 use Rattle.mover.proofs.Laws.{moved_length}
 use Rattle.mover.proofs.Parts.{sets_middle, bytes_within, part_other}
 use Rattle.mover.proofs.Places.{apart_part, still_held}
 use Rattle.mover.proofs.Stored.{length_element}
-use Rattle.mover.proofs.Rows.{its_extent, extent_small, inward_row, to_fits, from_fits}
+use Rattle.mover.proofs.Rows.{its_extent, inward_row, if_some, to_fits, from_fits}
 
 -- ---- how many elements a row has
 
@@ -109,16 +107,12 @@ within_sets m u e b i h k =
     ap (λ (n : ℕ). x ++ (sets u i e ++ drop (b + n) m)) (length-sets u i e))
 
 -- while the destination's part is written, the source's is as it was
-seen_same : (o : Origin) (s : List ℕ) (p r : Part) (m u : List ℕ) → BytesApart o p.start (p.start + p.length) r.start (r.start + length u)
+seen_same : (o : Origin) (p r : Part) (m u : List ℕ) → BytesApart o p.start (p.start + p.length) r.start (r.start + length u)
     → bytes_of p (source_bytes o (sets m r.start u)) ≡ bytes_of p (source_bytes o m)
-seen_same Lent s p r m u h = refl
-seen_same Inside s p r m u h = part_other m u r.start p.start p.length h
+seen_same (Lent _) p r m u h = refl
+seen_same Inside p r m u h = part_other m u r.start p.start p.length h
 
-source_64 : (o : Origin) (d : List ℕ) → length s < 2 ^ 64 → length d < 2 ^ 64 → length (source_bytes o d) < 2 ^ 64
-source_64 Lent s d h k = h
-source_64 Inside s d h k = k
-
-module _ {w : Row} {depth : ℕ} {s d : List ℕ} (h : Stands w depth s d) where
+module _ {w : Row} {depth : ℕ} {d : List ℕ} (h : Stands w depth d) where
   abbrev size : ℕ
   size = size_of w
 
@@ -128,7 +122,7 @@ module _ {w : Row} {depth : ℕ} {s d : List ℕ} (h : Stands w depth s d) where
     leaf : RowOf h.p.start h.r.start w.tensor.rank w
     leaf = let e : w.tensor.rank - depth ≡ w.tensor.rank = omega arith in subst (λ (i : ℕ). RowOf h.p.start h.r.start i w) e h.row
 
-    -- its element's coordinates; and that places, and whether it is kept, are those of the element
+    -- its element's coordinates; and that its places are those of the element
     abbrev coords : ℕ → ℕ
     coords = coord_of w.tensor w.config w.number
 
@@ -136,27 +130,23 @@ module _ {w : Row} {depth : ℕ} {s d : List ℕ} (h : Stands w depth s d) where
     unfolding place coord_of per_step
     its_place = leaf.at_place
 
-    its_at : w.kept ≡ true → w.at ≡ h.p.start + source_place w.tensor w.config coords * size
-    unfolding source_place coord_of per_step
+    its_at : w.at ≡ cond (are_kept w.tensor w.config coords) (Some (h.p.start + source_place w.tensor w.config coords * size)) None
+    unfolding source_place are_kept coord_of per_step
     its_at = leaf.at_source
 
-    its_kept : w.kept ≡ are_kept w.tensor w.config coords
-    unfolding are_kept coord_of per_step
-    its_kept = leaf.all_kept
-
-    source_end : w.kept ≡ true → w.at + size ≤ h.p.start + h.p.length
-    source_end k = omega (arith, from_fits leaf (omega arith) k, h.long)
+    source_in : {a : ℕ} → w.at ≡ Some a → (h.p.start ≤ a) × (a + size ≤ h.p.start + h.p.length)
+    source_in e = let f = from_fits leaf (omega arith) e in (f.0, omega (arith, f.1, h.long))
 
     end : w.place + size ≤ h.r.start + h.r.length
     end = omega (arith, to_fits leaf (omega arith), h.enough)
 
-    pub storable : Storable w s d
+    pub storable : Storable w d
     storable = record {
       sized = h.row.good_source.element;
-      source = λ k. omega (arith, source_end k, h.source);
+      source = if_some w.at (λ a e. omega (arith, (source_in e).1, h.source));
       destination = omega (arith, end, h.destination);
-      apart = λ k.
-          apart_part w.origin h.apart (omega (arith, h.row.at_source k)) (source_end k) (omega (arith, h.row.at_place)) end;
+      apart = if_some w.at
+          (λ a e. apart_part w.origin h.apart (source_in e).0 (source_in e).1 (omega (arith, h.row.at_place)) end);
     }
 
     -- the element's number fits, and the next one's
@@ -169,9 +159,9 @@ module _ {w : Row} {depth : ℕ} {s d : List ℕ} (h : Stands w depth s d) where
               (λ i k. (dst_extent h.row.good_config i h.row.good_source.rank.1 k).1),
         )
 
-    module _ (first last : ℕ) (m : List ℕ) (u : d ≡ stretch_in w h.p h.r s first last (first_of w depth) m) where
+    module _ (first last : ℕ) (m : List ℕ) (u : d ≡ stretch_in w h.p h.r first last (first_of w depth) m) where
       abbrev source : List ℕ
-      source = bytes_of h.p (source_bytes w.origin s m)
+      source = bytes_of h.p (source_bytes w.origin m)
 
       abbrev part : ℕ → List ℕ
       part n = moved w.tensor w.config source first (min last n - first) (bytes_of h.r m)
@@ -188,30 +178,35 @@ module _ {w : Row} {depth : ℕ} {s d : List ℕ} (h : Stands w depth s d) where
           moved_length w.tensor w.config source first (min last n - first) (bytes_of h.r m) ∙
           length-take-le h.r.length (drop h.r.start m) (rw length-drop (omega (arith, h.destination, same)))
 
-      not_stored : w.number < first → d ≡ stretch_in w h.p h.r s first last (past_of w depth) m
+      not_stored : w.number < first → d ≡ stretch_in w h.p h.r first last (past_of w depth) m
       unfolding stretch_in
       not_stored o =
           stands ∙ ap (λ (n : ℕ). sets m h.r.start (moved w.tensor w.config source first n (bytes_of h.r m))) (before_it first last w.number o) ∙
           ap (λ (n : ℕ). sets m h.r.start (part n)) (sym (one_element w (w.number + 1) z))
 
       module _ (i : first ≤ w.number) (j : w.number < last) where
-        seen : bytes_of h.p (source_bytes w.origin s d) ≡ source
+        seen : bytes_of h.p (source_bytes w.origin d) ≡ source
         seen =
-            ap (λ (e : List ℕ). bytes_of h.p (source_bytes w.origin s e)) stands ∙
-            seen_same w.origin s h.p h.r m (part w.number) (rw (part_long w.number) h.apart)
+            ap (λ (e : List ℕ). bytes_of h.p (source_bytes w.origin e)) stands ∙
+            seen_same w.origin h.p h.r m (part w.number) (rw (part_long w.number) h.apart)
 
-        bytes_are : row_bytes w s d ≡ element w.tensor w.config source coords
+        bytes_are : row_bytes w d ≡ element w.tensor w.config source coords
         unfolding element padded
-        bytes_are =
-            let at_source = source_place w.tensor w.config coords * size in
-            pick_same w.kept (little size w.config.fill)
-            (λ k. ap (λ (n : ℕ). take size (drop n (source_bytes w.origin s d))) (its_at k) ∙
-            (bytes_within (source_bytes w.origin s d) h.p.start h.p.length at_source size h.source (omega (arith, source_end k, its_at k)) ∙
-            ap (λ (v : List ℕ). take size (drop at_source v)) seen)) ∙
-            ap (λ (b : Bool). cond b (take size (drop at_source source)) (little size w.config.fill)) its_kept
+        bytes_are = by_test (are_kept w.tensor w.config coords) refl
+          where
+            by_test : (k : Bool) → are_kept w.tensor w.config coords ≡ k → row_bytes w d ≡ element w.tensor w.config source coords
+            by_test true k =
+                let at_source = source_place w.tensor w.config coords * size in
+                let e : w.at ≡ Some (h.p.start + at_source) = rw k at its_at in
+                rw (e, k)
+                (bytes_within (source_bytes w.origin d) h.p.start h.p.length at_source size h.source (omega (arith, (source_in e).1)) ∙
+                ap (λ (v : List ℕ). take size (drop at_source v)) seen)
+            by_test false k =
+                let e : w.at ≡ None = rw k at its_at in
+                rw (e, k)
 
-        is_stored : {e : List ℕ} → e ≡ sets d w.place (row_bytes w s d)
-            → e ≡ stretch_in w h.p h.r s first last (past_of w depth) m
+        is_stored : {e : List ℕ} → e ≡ sets d w.place (row_bytes w d)
+            → e ≡ stretch_in w h.p h.r first last (past_of w depth) m
         unfolding stretch_in stored
         is_stored e =
             let at_place = place w.tensor w.config coords * size in
@@ -231,25 +226,11 @@ module _ {w : Row} {depth : ℕ} {s d : List ℕ} (h : Stands w depth s d) where
     dim : w.tensor.rank - depth < w.tensor.rank
     dim = omega (arith, h.few)
 
-    pub extent_most : at w.answer.extent (w.tensor.rank - depth) ≤ 65535
-    extent_most = rw (its_extent h.row dim) (extent_small h.row dim).1
-
     module _ (x : ℕ) (l : x < at w.answer.extent (w.tensor.rank - depth)) where
       below : x < extent_at w.tensor w.config (w.tensor.rank - depth)
       below = rw (its_extent h.row dim) at l
 
-      pub passable : length s < 2 ^ 64 → length d < 2 ^ 64 → Passable w (w.tensor.rank - depth) x
-      passable ls ld = record {
-        p = h.p.start;
-        r = h.r.start;
-        row = h.row;
-        dim = dim;
-        below = below;
-        source_end = omega (arith, source_64 w.origin s d ls ld, h.source, h.long);
-        end = omega (arith, h.destination, h.enough);
-      }
-
-      pub inward_stands : {d' : List ℕ} → length d' ≡ length d → Stands (inward_of w (w.tensor.rank - depth) x) (depth - 1) s d'
+      pub inward_stands : {d' : List ℕ} → length d' ≡ length d → Stands (inward_of w (w.tensor.rank - depth) x) (depth - 1) d'
       unfolding inward_of
       inward_stands {d'} ld = record {
         p = h.p;
@@ -258,7 +239,7 @@ module _ {w : Row} {depth : ℕ} {s d : List ℕ} (h : Stands w depth s d) where
         row =
             let f : suc (w.tensor.rank - depth) ≡ w.tensor.rank - (depth - 1) = omega (arith, h.few) in
             subst (λ (i : ℕ). RowOf h.p.start h.r.start i (inward_of w (w.tensor.rank - depth) x)) f (inward_row h.row dim x below);
-        source = still_held w.origin s d d' ld h.source;
+        source = still_held w.origin d d' ld h.source;
         destination = rw ld h.destination;
         apart = h.apart;
         long = h.long;
@@ -267,27 +248,27 @@ module _ {w : Row} {depth : ℕ} {s d : List ℕ} (h : Stands w depth s d) where
 
 -- ---- a turn of the loop
 
-module _ {w : Row} {depth : ℕ} {s d : List ℕ} (h : Stands w depth s d) (z : depth ≡ 0 → ⊥) (first last : ℕ) where
+module _ {w : Row} {depth : ℕ} {d : List ℕ} (h : Stands w depth d) (z : depth ≡ 0 → ⊥) (first last : ℕ) where
   abbrev extent : ℕ
   extent = at w.answer.extent (w.tensor.rank - depth)
 
   -- before the first turn
   pub comes_start : Comes h first last (first_of w depth) (come_to w depth 0) d
-  comes_start m u = u ∙ ap (λ (n : ℕ). stretch_in w h.p h.r s first last n m) (starts w depth w.number z h.few)
+  comes_start m u = u ∙ ap (λ (n : ℕ). stretch_in w h.p h.r first last n m) (starts w depth w.number z h.few)
 
   -- after a turn
   pub comes_more : (x : ℕ) (l : x < extent) {n : Row} (e : n ≡ inward_of w (w.tensor.rank - depth) x) {d' e' : List ℕ} (ld : length d' ≡ length d)
       → Comes h first last (first_of w depth) (come_to w depth x) d'
-      → ((g : Stands n (depth - 1) s d') → Comes g first last (first_of n (depth - 1)) (past_of n (depth - 1)) e')
+      → ((g : Stands n (depth - 1) d') → Comes g first last (first_of n (depth - 1)) (past_of n (depth - 1)) e')
       → Comes h first last (first_of w depth) (come_to w depth (x + 1)) e'
   unfolding inward_of inward_stands stretch_in elements_in
   comes_more x l e {d'} {e'} ld f g m u =
-      subst (λ (v : Row). (k : Stands v (depth - 1) s d') → Comes k first last (first_of v (depth - 1)) (past_of v (depth - 1)) e') e g
+      subst (λ (v : Row). (k : Stands v (depth - 1) d') → Comes k first last (first_of v (depth - 1)) (past_of v (depth - 1)) e') e g
       (inward_stands h z x l ld) m (f m u) ∙
-      ap (λ (k : ℕ). stretch_in w h.p h.r s first last (k * elements_in w (depth - 1)) m) (add_assoc (w.number * extent) x 1)
+      ap (λ (k : ℕ). stretch_in w h.p h.r first last (k * elements_in w (depth - 1)) m) (add_assoc (w.number * extent) x 1)
 
   -- past the last of the stretch, nothing more is stored
-  stretch_past : {n n' : ℕ} (m : List ℕ) → last ≤ n → n ≤ n' → stretch_in w h.p h.r s first last n m ≡ stretch_in w h.p h.r s first last n' m
+  stretch_past : {n n' : ℕ} (m : List ℕ) → last ≤ n → n ≤ n' → stretch_in w h.p h.r first last n m ≡ stretch_in w h.p h.r first last n' m
   unfolding stretch_in
   stretch_past {n} {n'} m i j =
       let x : min last n ≡ last = min-eq_left i in
@@ -306,13 +287,13 @@ module _ {w : Row} {depth : ℕ} {s d : List ℕ} (h : Stands w depth s d) (z : 
   pub comes_end : {x : ℕ} {e : List ℕ} → x ≡ extent → Comes h first last (first_of w depth) (come_to w depth x) e
       → Comes h first last (first_of w depth) (past_of w depth) e
   comes_end {x} p f m u =
-      f m u ∙ ap (λ (n : ℕ). stretch_in w h.p h.r s first last n m)
+      f m u ∙ ap (λ (n : ℕ). stretch_in w h.p h.r first last n m)
       (ap (come_to w depth) p ∙ sym (ends w depth w.number z h.few))
 
 -- ---- a row that is one element
 
-module _ {w : Row} {depth : ℕ} {s d : List ℕ} (h : Stands w depth s d) (z : depth ≡ 0) (first last : ℕ) where
-  pub comes_stored : {e : List ℕ} → first ≤ w.number → first_of w depth < last → e ≡ sets d w.place (row_bytes w s d)
+module _ {w : Row} {depth : ℕ} {d : List ℕ} (h : Stands w depth d) (z : depth ≡ 0) (first last : ℕ) where
+  pub comes_stored : {e : List ℕ} → first ≤ w.number → first_of w depth < last → e ≡ sets d w.place (row_bytes w d)
       → Comes h first last (first_of w depth) (past_of w depth) e
   comes_stored i j f m u = is_stored h z first last m u i (rw (one_element w w.number z) at j) f
 
@@ -343,7 +324,7 @@ told_more true n last e t = ltb-true n last (sym t)
 told_more false n last e t = absurd (true≢false e)
 
 -- before the first row inside, and after the last
-module _ {w : Row} {depth : ℕ} {s d : List ℕ} (h : Stands w depth s d) (z : depth ≡ 0 → ⊥) (last : ℕ) where
+module _ {w : Row} {depth : ℕ} {d : List ℕ} (h : Stands w depth d) (z : depth ≡ 0 → ⊥) (last : ℕ) where
   pub before_first : first_of w depth < last
       → come_to w depth 0 < last
   before_first i = rw (starts w depth w.number z h.few) at i

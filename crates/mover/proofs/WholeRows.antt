@@ -1,8 +1,9 @@
 -- The destination as one row, and what the plain engine's two calls leave. Assumes nothing.
-use Rattle.std.proofs.Common.{◌≡◌, ℕ, ◌+◌, ◌-◌, ◌^◌, ◌<◌, ◌≤◌, min, List, length, sym, refl, ap, ◌∙◌, subst, ap₂, one-mul, zero-mul, arith, take_all}
+use Rattle.std.proofs.Common.{◌≡◌, ℕ, ◌+◌, ◌-◌, ◌<◌, ◌≤◌, min, Some, List, length, sym, refl, ap, ◌∙◌, subst, ap₂, one-mul, zero-mul, arith, take_all}
 use native.Mathlib.Nat.{sub-zero, min-eq_left, min-eq_right, min-le_right}
 use native.Mathlib.Decide.{ℕ_discrete}
 use lib.Seq.{sets, length-sets, take-length}
+use Rattle.std.specs.Borrow.{Bor}
 use Rattle.plane.specs.declared.Tensor.{Tensor}
 use Rattle.plane.specs.declared.Config.{Config}
 use Rattle.plane.specs.Arrays.{sum, product, every}
@@ -49,19 +50,18 @@ module _ (t : Tensor) (c : Config) (z : (room_fault t c).status ≡ 0) where
     answer = its_answer;
     strides = room_strides t c z refl;
     within = omega arith;
-    all_kept = refl;
-    at_source = λ k. omega (arith, zero-mul t.element_size);
+    at_source = ap (λ (n : ℕ). Some n) (omega (arith, zero-mul t.element_size));
     at_place = omega (arith, zero-mul t.element_size);
   }
 
 -- between a part p of the source and a part r of the destination
-module _ (t : Tensor) (c : Config) (o : Origin) (p r : Part) (s d : List ℕ) (z : (room_fault t c).status ≡ 0)
+module _ (t : Tensor) (c : Config) (o : Origin) (p r : Part) (d : List ℕ) (z : (room_fault t c).status ≡ 0)
     (ps : p.start + p.length ≤ length (source_bytes o d)) (rd : r.start + r.length ≤ length d)
     (apart : BytesApart o p.start (p.start + p.length) r.start (r.start + r.length)) (long : span t ≤ p.length) (enough : need t c ≤ r.length) where
   abbrev all : Row
   all = outermost_of t c o p.start r.start
 
-  all_stands : Stands all t.rank s d
+  all_stands : Stands all t.rank d
   all_stands = record {
     p = p;
     r = r;
@@ -80,18 +80,18 @@ module _ (t : Tensor) (c : Config) (o : Origin) (p r : Part) (s d : List ℕ) (z
   all_elements = one-mul (elements_in all t.rank) ∙ elements_all all (its_answer t c z)
 
   -- no element is stored yet
-  none_yet : (first last : ℕ) → d ≡ stretch_in all p r s first last (first_of all t.rank) d
+  none_yet : (first last : ℕ) → d ≡ stretch_in all p r first last (first_of all t.rank) d
   unfolding stretch_in moved
   none_yet first last =
       let k : min last (first_of all t.rank) - first ≡ 0 = omega (arith, min-le_right last (first_of all t.rank), zero-mul (elements_in all t.rank)) in
       sym (ap (λ (i : ℕ). sets d r.start (moved t c (bytes_of p (source_bytes o d)) first i (bytes_of r d))) k ∙ put_back d r.start r.length rd)
 
   all_stored : (first last : ℕ) {out : List ℕ}
-      → ((h : Stands all t.rank s d) → Comes h first last (first_of all t.rank) (past_of all t.rank) out)
+      → ((h : Stands all t.rank d) → Comes h first last (first_of all t.rank) (past_of all t.rank) out)
       → out ≡ sets d r.start (moved t c (bytes_of p (source_bytes o d)) first (min last (total t c) - first) (bytes_of r d))
   unfolding stretch_in all_stands
   all_stored first last f =
-      f all_stands d (none_yet first last) ∙ ap (λ (i : ℕ). stretch_in all p r s first last i d) all_elements
+      f all_stands d (none_yet first last) ∙ ap (λ (i : ℕ). stretch_in all p r first last i d) all_elements
 
 -- its first element comes before any end but 0
 pub starts_before : (t : Tensor) (c : Config) (o : Origin) (p r last : ℕ) → 0 < last → first_of (outermost_of t c o p r) t.rank < last
@@ -111,26 +111,26 @@ sets_whole m e h =
     let n : length (sets m 0 e) ≡ length e = length-sets m 0 e ∙ sym h in
     sym (take_all (length e) (sets m 0 e) (omega arith)) ∙ part_own m e 0 (omega arith)
 
-module _ (t : Tensor) (c : Config) (src dst : List ℕ) (g : GoodMove t c (length src) (length dst)) where
+module _ (t : Tensor) (c : Config) (s : Bor (List ℕ)) (dst : List ℕ) (g : GoodMove t c (length s.now) (length dst)) where
   abbrev full : List ℕ → Part
   full l = record { start = 0; length = length l }
 
-  pub move_stands : Stands (outermost_of t c Lent 0 0) t.rank src dst
+  pub move_stands : Stands (outermost_of t c (Lent s) 0 0) t.rank dst
   move_stands =
-      all_stands t c Lent (full src) (full dst) src dst (move_room t c g) (omega arith) (omega arith) tt g.long g.room
+      all_stands t c (Lent s) (full s.now) (full dst) dst (move_room t c g) (omega arith) (omega arith) tt g.long g.room
 
   -- all elements of it
-  pub move_stored : (last : ℕ) {w : Row} {out : List ℕ} → total t c ≤ last → w ≡ outermost_of t c Lent 0 0
-      → ((h : Stands w t.rank src dst) → Comes h 0 last (first_of w t.rank) (past_of w t.rank) out)
-      → out ≡ move_memory t c src dst
+  pub move_stored : (last : ℕ) {w : Row} {out : List ℕ} → total t c ≤ last → w ≡ outermost_of t c (Lent s) 0 0
+      → ((h : Stands w t.rank dst) → Comes h 0 last (first_of w t.rank) (past_of w t.rank) out)
+      → out ≡ move_memory t c s.now dst
   move_stored last {w} {out} l ew f =
       let k : min last (total t c) ≡ total t c = min-eq_right l in
-      all_stored t c Lent (full src) (full dst) src dst (move_room t c g) (omega arith) (omega arith) tt g.long g.room 0 last
-      (subst (λ (v : Row). (h : Stands v t.rank src dst) → Comes h 0 last (first_of v t.rank) (past_of v t.rank) out) ew f) ∙
-      ap₂ (λ (x y : List ℕ). sets dst 0 (moved t c x 0 (min last (total t c) - 0) y)) (take-length src) (take-length dst) ∙
-      ap (λ (i : ℕ). sets dst 0 (moved t c src 0 i dst)) (ap (λ (i : ℕ). i - 0) k ∙ sub-zero (total t c)) ∙
-      sets_whole dst (moved t c src 0 (total t c) dst) (moved_length t c src 0 (total t c) dst) ∙
-      sym (moved_whole t c src dst (move_clear t c (length src) (length dst) g))
+      all_stored t c (Lent s) (full s.now) (full dst) dst (move_room t c g) (omega arith) (omega arith) tt g.long g.room 0 last
+      (subst (λ (v : Row). (h : Stands v t.rank dst) → Comes h 0 last (first_of v t.rank) (past_of v t.rank) out) ew f) ∙
+      ap₂ (λ (x y : List ℕ). sets dst 0 (moved t c x 0 (min last (total t c) - 0) y)) (take-length s.now) (take-length dst) ∙
+      ap (λ (i : ℕ). sets dst 0 (moved t c s.now 0 i dst)) (ap (λ (i : ℕ). i - 0) k ∙ sub-zero (total t c)) ∙
+      sets_whole dst (moved t c s.now 0 (total t c) dst) (moved_length t c s.now 0 (total t c) dst) ∙
+      sym (moved_whole t c s.now dst (move_clear t c (length s.now) (length dst) g))
 
 -- ---- a stretch between two parts of one memory
 
@@ -186,31 +186,27 @@ module _ (j : Job) (from budget : ℕ) (m : List ℕ) {v : Verdict} (ev : v ≡ 
     advance_end : from + count ≤ total_of j
     advance_end = omega (arith, counted, min-le_right budget (total_of j - from), some)
 
-    pub advance_fits : from + count < 2 ^ 64
-    advance_fits = omega (arith, advance_end, total_most (job_good (length m) j advance_clear))
-
     good : GoodMove j.tensor j.config j.source.length j.destination.length
     good = job_good (length m) j advance_clear
 
     abbrev row : Row
     row = outermost_of j.tensor j.config Inside j.source.start j.destination.start
 
-    module _ (none : List ℕ) where
-      pub advance_stands : Stands row j.tensor.rank none m
-      advance_stands =
-          all_stands j.tensor j.config Inside j.source j.destination none m (move_room j.tensor j.config good)
-          (source_fits (length m) j advance_clear) (destination_fits (length m) j advance_clear) (job_apart (length m) j advance_clear)
-          good.long good.room
+    pub advance_stands : Stands row j.tensor.rank m
+    advance_stands =
+        all_stands j.tensor j.config Inside j.source j.destination m (move_room j.tensor j.config good)
+        (source_fits (length m) j advance_clear) (destination_fits (length m) j advance_clear) (job_apart (length m) j advance_clear)
+        good.long good.room
 
-      pub advance_stored : {w : Row} {out : List ℕ} → w ≡ row
-          → ((h : Stands w j.tensor.rank none m) → Comes h from (from + count) (first_of w j.tensor.rank) (past_of w j.tensor.rank) out)
-          → out ≡ advance_memory j from budget m
-      unfolding advance_memory advanced_by
-      advance_stored {w} {out} ew f =
-          let n : min (from + count) (total_of j) - from ≡ further j from budget = cut from count (total_of j) advance_end ∙ counted in
-          all_stored j.tensor j.config Inside j.source j.destination none m (move_room j.tensor j.config good)
-          (source_fits (length m) j advance_clear) (destination_fits (length m) j advance_clear) (job_apart (length m) j advance_clear)
-          good.long good.room from (from + count)
-          (subst (λ (v : Row). (h : Stands v j.tensor.rank none m) → Comes h from (from + count) (first_of v j.tensor.rank) (past_of v j.tensor.rank) out) ew f) ∙
-          ap (λ (i : ℕ). sets m j.destination.start (moved j.tensor j.config (bytes_of j.source m) from i (bytes_of j.destination m))) n ∙
-          sym (if_none (job_fault (length m) j) m (advanced_by j from (further j from budget) m) advance_clear)
+    pub advance_stored : {w : Row} {out : List ℕ} → w ≡ row
+        → ((h : Stands w j.tensor.rank m) → Comes h from (from + count) (first_of w j.tensor.rank) (past_of w j.tensor.rank) out)
+        → out ≡ advance_memory j from budget m
+    unfolding advance_memory advanced_by
+    advance_stored {w} {out} ew f =
+        let n : min (from + count) (total_of j) - from ≡ further j from budget = cut from count (total_of j) advance_end ∙ counted in
+        all_stored j.tensor j.config Inside j.source j.destination m (move_room j.tensor j.config good)
+        (source_fits (length m) j advance_clear) (destination_fits (length m) j advance_clear) (job_apart (length m) j advance_clear)
+        good.long good.room from (from + count)
+        (subst (λ (v : Row). (h : Stands v j.tensor.rank m) → Comes h from (from + count) (first_of v j.tensor.rank) (past_of v j.tensor.rank) out) ew f) ∙
+        ap (λ (i : ℕ). sets m j.destination.start (moved j.tensor j.config (bytes_of j.source m) from i (bytes_of j.destination m))) n ∙
+        sym (if_none (job_fault (length m) j) m (advanced_by j from (further j from budget) m) advance_clear)

@@ -1,5 +1,5 @@
 // One element of a destination, before anything is moved.
-ghost use Rattle.std.specs.Prelude.{◌≡◌, ◌+◌, ◌≤◌, true, [], length};
+ghost use Rattle.std.specs.Prelude.{◌≡◌, ◌+◌, ◌≤◌, [], length, IfSome};
 ghost use Rattle.faults.specs.Faults.{lowest, outcome};
 ghost use Rattle.plane.specs.Arrays.{at, firsts};
 ghost use Rattle.mover.specs.Private.Elements.{source_bytes};
@@ -12,6 +12,7 @@ use crate::elements::Origin;
 use crate::plain::{Row, byte, inward, outermost};
 use crate::verdicts::judged;
 use plane::{Config, Fault, Tensor};
+use std::array;
 
 // 35: the lowest of n dimensions whose coordinate is at or above its extent.
 fn coordinate_fault(n: u8, extent: [u32; 4], x: [u32; 4]) -> Result<(), Fault>
@@ -38,6 +39,7 @@ fn row_at<'a>(t: Tensor, c: Config, src: &'a [u8], x: [u32; 4]) -> Row<'a>
     requires { Pickable t c x }
     ensures { result ≡ row_at t c src.entry x }
 {
+    // a loop, and no fold: its closure would have to ask again what a step inward asks of the row
     let mut row = outermost(t, c, Origin::Lent(src), 0, 0);
     for i in 0..t.rank {
         row = inward(row, i as usize, x[i as usize]);
@@ -48,14 +50,11 @@ fn row_at<'a>(t: Tensor, c: Config, src: &'a [u8], x: [u32; 4]) -> Row<'a>
 // The bytes of an element, with 0 behind them. Its source is lent, so nothing of a destination is read.
 fn bytes_of(row: Row<'_>) -> [u8; 4]
     requires row_bound { size_of row ≤ 4 }
-    requires row_in_bounds { row.kept ≡ true → row.at + size_of row ≤ length (source_bytes row.origin []) }
+    requires row_in_bounds { IfSome row.at (λ at. at + size_of row ≤ length (source_bytes row.origin [])) }
     ensures { result ≡ firsts (size_of row.entry) (row_byte row.entry []) }
 {
-    let mut bytes = [0u8; 4];
-    for b in 0..row.tensor.element_size as usize {
-        bytes[b] = byte(&[0u8; 0], row, b);
-    }
-    bytes
+    let size = row.tensor.element_size as usize;
+    array::from_fn(|b| if b < size { byte(&[], row, b) } else { 0 })
 }
 
 // The element that a move of the plane t from src as c says would store at the destination coordinate `at`, of which entries past the
@@ -70,7 +69,7 @@ pub fn pixel(t: Tensor, c: Config, src: &[u8], at: [u32; 4]) -> PixelAnswer
                 status: 0,
                 dim: 0,
                 bytes: bytes_of(row),
-                padding: !row.kept,
+                padding: row.at.is_none(),
             }
         }
         Err(f) => PixelAnswer {

@@ -1,6 +1,7 @@
 // The plain engine: a move to be read beside the paper. At each destination dimension it goes through the coordinates in order, and
 // calls itself with one dimension fewer; with none left it stores one element. It leaves what the first engine leaves, and is slower.
-ghost use Rattle.std.specs.Prelude.{◌≡◌, ◌+◌, ◌<◌, true, length, nat_lt};
+ghost use Rattle.std.specs.Prelude.{◌≡◌, ◌+◌, ◌<◌, length, nat_lt, IfSome};
+ghost use Rattle.plane.specs.Planes.{shape_at, down_at, up};
 ghost use Rattle.plane.specs.Moves.{count, judge_of};
 ghost use Rattle.plane.specs.Good.{GoodSource, GoodConfig};
 ghost use Rattle.mover.specs.Moved.{move_memory};
@@ -8,7 +9,7 @@ ghost use Rattle.mover.specs.Within.{advance_of, advance_memory};
 ghost use Rattle.mover.specs.Private.Elements.{source_bytes};
 ghost use Rattle.mover.specs.Private.Rows.{row_byte, Storable, row_stored, inward_of, Passable, first_of, past_of, Stands, Comes, outermost_of};
 
-use crate::elements::Origin;
+use crate::elements::{Origin, source};
 use plane::{Config, Tensor};
 
 // A row: the elements of the destination that have the same coordinates in its first dimensions. Its depth is how many dimensions are
@@ -21,30 +22,23 @@ pub(crate) struct Row<'a> {
     pub(crate) source: plane::Source, // the sizes of the source's strides
     pub(crate) answer: plane::Answer, // the destination's extents and strides
     pub(crate) number: u64, // how many rows of its depth come before it
-    pub(crate) kept: bool, // whether every k so far is from 0 to count - 1
-    pub(crate) at: usize, // if so, the byte in the source that the coordinates so far lead to
+    pub(crate) at: Option<usize>, // the byte in the source that the coordinates so far lead to, if kept: every k is from 0 to count - 1
     pub(crate) place: usize, // the byte in the destination that they lead to
 }
 
 // Byte b of an element: the source's, or the fill's, the lowest first.
 pub(crate) fn byte(dst: &[u8], row: Row<'_>, b: usize) -> u8
     requires b_bound { b < 4 }
-    requires b_in_bounds { row.kept ≡ true → row.at + b < length (source_bytes row.origin dst.now) }
+    requires b_in_bounds { IfSome row.at (λ at. at + b < length (source_bytes row.origin dst.now)) }
     ensures { result ≡ row_byte row.entry dst.now b }
 {
-    if row.kept {
-        let at = row.at + b;
-        let origin = row.origin;
-        match origin {
-            Origin::Lent(src) => src[at],
-            Origin::Inside => dst[at],
-        }
-    } else {
-        row.config.fill.to_le_bytes()[b]
+    match row.at {
+        Some(at) => source(row.origin, dst)[at + b],
+        None => row.config.fill.to_le_bytes()[b],
     }
 }
 
-// Stores an element.
+// Stores an element, byte by byte: the source may stand in dst itself, so that none of it can be lent while dst is written.
 fn store(dst: &mut [u8], row: Row<'_>)
     requires { Storable row dst.old }
     ensures { dst.new ≡ row_stored row.entry dst.old }
@@ -65,11 +59,24 @@ fn kept_count(t: Tensor, config: Config, s: usize) -> u32
     let size = config.size[s];
     let rest = t.shape[s] - config.offset[s];
     let taken = if size == 0 { rest } else { size };
-    (taken + (step - 1)) / step
+    taken.div_ceil(step)
+}
+
+// How many strides up from the lowest element of source dimension s a coordinate lies: one whose stride is below 0 counts down.
+fn up(t: Tensor, s: usize, coordinate: u32) -> u32
+    requires s_bound { s < 4 }
+    requires coordinate_bound { coordinate < shape_at t s }
+    ensures { result ≡ up (down_at t s) (shape_at t s) coordinate }
+{
+    if t.stride[s] < 0 {
+        t.shape[s] - 1 - coordinate
+    } else {
+        coordinate
+    }
 }
 
 // The row at coordinate c of destination dimension i, which is source dimension s = perm[i].
-pub(crate) fn inward<'a>(mut row: Row<'a>, i: usize, c: u32) -> Row<'a>
+pub(crate) fn inward<'a>(row: Row<'a>, i: usize, c: u32) -> Row<'a>
     requires { Passable row i c }
     ensures { result ≡ inward_of row.entry i c }
 {
@@ -81,23 +88,24 @@ pub(crate) fn inward<'a>(mut row: Row<'a>, i: usize, c: u32) -> Row<'a>
     let size = t.element_size as usize;
     let pre = config.pre[s] as u32;
     let count = kept_count(t, config, s);
-    row.number = row.number * answer.extent[i] as u64 + c as u64;
+    let number = row.number * answer.extent[i] as u64 + c as u64;
     // the place: (destination offset + c) x stride in each dimension, here in bytes
-    row.place += (config.dst_offset[i] + c) as usize * answer.stride[i] as usize * size;
+    let place = row.place + (config.dst_offset[i] + c) as usize * answer.stride[i] as usize * size;
     // kept if k = c - pre is from 0 to count - 1; then the source's at offset + k x step
-    row.kept = row.kept & (pre <= c) & (c < pre + count);
-    if row.kept {
-        let k = c - pre;
-        let coordinate = config.offset[s] + k * config.step[s];
-        // from the lowest element up: a dimension whose stride is below 0 counts down
-        let up = if t.stride[s] < 0 {
-            t.shape[s] - 1 - coordinate
-        } else {
-            coordinate
-        };
-        row.at += up as usize * source.stride[s] as usize * size;
+    let at = match row.at {
+        Some(at) if pre <= c && c < pre + count => {
+            let k = c - pre;
+            let coordinate = config.offset[s] + k * config.step[s];
+            Some(at + up(t, s, coordinate) as usize * source.stride[s] as usize * size)
+        }
+        _ => None, // padding
+    };
+    Row {
+        number,
+        at,
+        place,
+        ..row
     }
-    row
 }
 
 // Of the elements numbered first to end - 1, stores those in a row of that depth. Tells whether any come after the row; where none do,
@@ -117,6 +125,7 @@ fn store_row(dst: &mut [u8], row: Row<'_>, depth: u8, first: u64, end: u64) -> b
     }
     let answer = row.answer;
     let i = (row.tensor.rank - depth) as usize;
+    // a loop, and no `all` over a closure: it is to be seen that it stops
     for c in 0..answer.extent[i] {
         let next = inward(row, i, c);
         if !store_row(dst, next, depth - 1, first, end) {
@@ -130,17 +139,14 @@ fn store_row(dst: &mut [u8], row: Row<'_>, depth: u8, first: u64, end: u64) -> b
 pub(crate) fn outermost<'a>(t: Tensor, config: Config, origin: Origin<'a>, at: usize, place: usize) -> Row<'a>
     ensures { result ≡ outermost_of t config origin.entry at place }
 {
-    let room = plane::room(t, config);
-    let answer = room.answer;
     Row {
         tensor: t,
         config,
         origin,
         source: plane::source_of(t),
-        answer,
+        answer: plane::room(t, config).answer,
         number: 0,
-        kept: true,
-        at,
+        at: Some(at),
         place,
     }
 }
@@ -165,8 +171,8 @@ pub fn advance(mem: &mut [u8], job: crate::Job, from: u64, budget: u64) -> crate
     ensures written { mem.new ≡ advance_memory job from budget mem.old }
 {
     let v = crate::judge_job(mem.len(), job);
-    let rest = if from < v.total { v.total - from } else { 0 };
-    let count = if budget < rest { budget } else { rest };
+    let rest = v.total.saturating_sub(from);
+    let count = budget.min(rest);
     if count != 0 {
         let at = job.source.start as usize;
         let place = job.destination.start as usize;

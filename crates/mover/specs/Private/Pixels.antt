@@ -19,6 +19,6 @@ unfoldable pub row_to : Row → List ℕ → ℕ → Row
 row_to w x zero = w
 row_to w x (suc i) = inward_of (row_to w x i) i (at x i)
 
--- the element at x, from the destination as one row
+-- the element at x of a move from s, from the destination as one row
 abbrev pub row_at : Tensor → Config → Bor (List ℕ) → List ℕ → Row
 row_at t c s x = row_to (outermost_of t c (Lent s) 0 0) x t.rank

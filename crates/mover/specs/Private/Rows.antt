@@ -1,12 +1,12 @@
 -- The plain engine's rows: the elements that have the same coordinates in the first dimensions.
-use Rattle.std.specs.Prelude.{◌≡◌, ℕ, suc, ◌+◌, ◌-◌, ◌*◌, ◌/◌, ◌%◌, ◌^◌, ◌<◌, ◌≤◌, min, true, cond, ◌&&◌, List, length, take, drop, nat_le, nat_lt, slice_index}
+use Rattle.std.specs.Prelude.{◌≡◌, ℕ, suc, ◌+◌, ◌-◌, ◌*◌, ◌/◌, ◌%◌, ◌^◌, ◌<◌, ◌≤◌, min, cond, List, length, take, drop, slice_index, Some, None, IfSome, option_map, option_and_then, unwrap_or}
 use Rattle.std.proofs.lemmas.List.Edits.{sets}
 use Rattle.plane.specs.declared.Tensor.{Tensor}
 use Rattle.plane.specs.declared.Config.{Config}
 use Rattle.plane.specs.Arrays.{at, sum, product, every}
 use Rattle.plane.specs.Numbers.{little}
 use Rattle.plane.specs.Planes.{Sized, shape_at, down_at, up, src_strides, source_at, span, source_of}
-use Rattle.plane.specs.Moves.{count, dst_strides, need, accepted, room_of}
+use Rattle.plane.specs.Moves.{dst_strides, need, accepted, room_of}
 use Rattle.plane.specs.Good.{GoodSource, GoodConfig, GoodDst}
 use Rattle.parts.specs.declared.Part.{Part}
 use Rattle.parts.specs.Parts.{bytes_of}
@@ -23,12 +23,14 @@ use Rattle.mover.specs.Private.Runs.{BytesApart}
 abbrev pub size_of : Row → ℕ
 size_of w = w.tensor.element_size
 
--- the bytes of a row that is one element; and byte b of them, as the code works it out
+-- the bytes of a row that is one element, the source's or else the fill's; and byte b of them, as the code works it out
 abbrev pub row_bytes : Row → List ℕ → List ℕ
-row_bytes w d = cond w.kept (take (size_of w) (drop w.at (source_bytes w.origin d))) (little (size_of w) w.config.fill)
+row_bytes w d =
+    unwrap_or (option_map (λ a. take (size_of w) (drop a (source_bytes w.origin d))) w.at) (little (size_of w) w.config.fill)
 
 abbrev pub row_byte : Row → List ℕ → ℕ → ℕ
-row_byte w d b = cond w.kept (slice_index (source_bytes w.origin d) (w.at + b)) (w.config.fill / 2 ^ (8 * b) % 256)
+row_byte w d b =
+    unwrap_or (option_map (λ a. slice_index (source_bytes w.origin d) (a + b)) w.at) (w.config.fill / 2 ^ (8 * b) % 256)
 
 -- the destination d with it stored
 abbrev pub row_stored : Row → List ℕ → List ℕ
@@ -37,9 +39,9 @@ row_stored w d = sets d w.place (row_bytes w d)
 -- such a row can be stored into d
 pub record Storable (w : Row) (d : List ℕ) : Type 0 where
   pub sized : Sized (size_of w)
-  pub source : w.kept ≡ true → w.at + size_of w ≤ length (source_bytes w.origin d)
+  pub source : IfSome w.at (λ a. a + size_of w ≤ length (source_bytes w.origin d))
   pub destination : w.place + size_of w ≤ length d
-  pub apart : w.kept ≡ true → BytesApart w.origin w.at (w.at + size_of w) w.place (w.place + size_of w)
+  pub apart : IfSome w.at (λ a. BytesApart w.origin a (a + size_of w) w.place (w.place + size_of w))
 
 -- ---- rows in rows
 
@@ -52,8 +54,7 @@ outermost_of t c o p r = record {
   source = source_of t;
   answer = (room_of t c).answer;
   number = 0;
-  kept = true;
-  at = p;
+  at = Some p;
   place = r;
 }
 
@@ -63,9 +64,8 @@ inward_of w i x =
     let c = w.config in
     let a = w.answer in
     let s = dim_of c i in
-    let pre = at c.pre s in
-    let y = at c.offset s + (x - pre) * at c.step s in
-    let kept = w.kept && nat_le pre x && nat_lt x (pre + count w.tensor c s) in
+    let y = at c.offset s + k_of c i x * at c.step s in
+    let far = up (down_at w.tensor s) (shape_at w.tensor s) y * at w.source.stride s * size_of w in
     record {
       tensor = w.tensor;
       config = c;
@@ -73,8 +73,7 @@ inward_of w i x =
       source = w.source;
       answer = a;
       number = w.number * at a.extent i + x;
-      kept = kept;
-      at = cond kept (w.at + up (down_at w.tensor s) (shape_at w.tensor s) y * at w.source.stride s * size_of w) w.at;
+      at = option_and_then (λ b. cond (is_kept w.tensor c i x) (Some (b + far)) None) w.at;
       place = w.place + (at c.dst_offset i + x) * at a.stride i * size_of w;
     }
 
@@ -108,11 +107,11 @@ pub record RowOf (p r i : ℕ) (w : Row) : Type 0 where
   pub good_dst : GoodDst w.tensor w.config
   pub answer : w.answer ≡ accepted w.tensor w.config
   pub strides : w.source.stride ≡ src_strides w.tensor
-  -- its number is that of a row; whether all is kept so far, and the places so far, are those of its coordinates
+  -- its number is that of a row; and the places so far are those of its coordinates, the source's if all is kept so far
   pub within : w.number < product i (extent_at w.tensor w.config)
-  pub all_kept : w.kept ≡ every i (λ j. is_kept w.tensor w.config j (coord_to w.tensor w.config i w.number j))
-  pub at_source : w.kept ≡ true →
-      w.at ≡ p + sum i (λ j. source_term w.tensor w.config j (coord_to w.tensor w.config i w.number j)) * size_of w
+  pub at_source :
+      w.at ≡ cond (every i (λ j. is_kept w.tensor w.config j (coord_to w.tensor w.config i w.number j)))
+      (Some (p + sum i (λ j. source_term w.tensor w.config j (coord_to w.tensor w.config i w.number j)) * size_of w)) None
   pub at_place :
       w.place ≡ r + sum i (λ j. place_term w.tensor w.config j (coord_to w.tensor w.config i w.number j)) * size_of w
 

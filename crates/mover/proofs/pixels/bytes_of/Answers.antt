@@ -1,23 +1,19 @@
-use Rattle.std.proofs.Common.{arith}
-use Rattle.plane.proofs.Arrays.{filled_start, filled_more, filled_end}
+-- `mover::pixels::bytes_of` is the bytes of an element, with 0 behind them. Assumes nothing.
+use Rattle.std.proofs.Common.{◌≡◌, [], sym, ◌∙◌, rules, arith}
+use native.Mathlib.Decide.{dec_lt}
+use Rattle.plane.specs.Arrays.{below, firsts_or}
+use Rattle.plane.proofs.Arrays.{below_lt, below_past, made_array}
+use Rattle.mover.specs.Private.Rows.{size_of, row_byte}
 use Rattle.mover.proofs.pixels.bytes_of.Goals as goal
 
-pub loop-b-init : goal.loop-b-init
-loop-b-init c = filled_start
-
-pub byte-requires : goal.byte-requires
-byte-requires c =
-    let l = c.loop-b-test.true in record {
-      b_bound = omega (arith, c.requires.row_bound);
-      b_in_bounds = λ k. rw c.requires.origin_value (omega (arith, c.requires.row_in_bounds k));
-    }
-
-pub loop-b-preserved : goal.loop-b-preserved
-loop-b-preserved c =
-    filled_more c.requires.row_bound c.loop-b.invariant c.loop-b-test.true c.byte.ensures
-
 pub returns : goal.returns
-returns c = filled_end c.loop-b.invariant c.loop-b-test.false
-
-pub bounds-bytes-b : goal.bounds-bytes-b
-bounds-bytes-b c = omega (arith, c.loop-b-test.true, c.requires.row_bound)
+unfolding firsts_or
+returns c =
+    let n = size_of c.args.row in
+    let f = row_byte c.args.row [] in
+    made_array 0 _ _ _ (λ d. below 0 n d (f d))
+    (λ d y q h k. elim (dec_lt d n) [
+      | yes l ↦ (search rules, let e : y ≡ f d = search rules in e ∙ sym (below_lt 0 n d (f d) l))
+      | no l ↦ (search rules, let e : y ≡ 0 = search rules in e ∙ sym (below_past 0 n d (f d) (omega arith)))
+    ])
+    c.from_fn.ensures.items

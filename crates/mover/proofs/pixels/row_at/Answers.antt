@@ -18,7 +18,7 @@ bounds-x-i c =
 pub inward-row-requires : goal.inward-row-requires
 inward-row-requires c =
     rw (c.loop-i.invariant.1, c.outermost-row.ensures)
-    (to_passable c.args.t c.args.c c.args.x c.requires c.loop-i.i c.loop-i-test.true)
+    (to_passable c.args.t c.args.c c.args.src c.args.x c.requires c.loop-i.i c.loop-i-test.true)
 
 pub loop-i-preserved : goal.loop-i-preserved
 loop-i-preserved c =

@@ -12,7 +12,7 @@ decreases-store_row l = l.depth
 abbrev pub invariant-loop-c : goal.invariant-loop-c
 invariant-loop-c l =
     (l.c ≤ at l.row.answer.extent (l.row.tensor.rank - l.depth)) × (length l.dst ≡ length l.initial.dst) × (come_to l.row l.depth l.c < l.end) ×
-    ((h : Stands l.row l.depth l.src l.initial.dst) → Comes h l.first l.end (first_of l.row l.depth) (come_to l.row l.depth l.c) l.dst)
+    ((h : Stands l.row l.depth l.initial.dst) → Comes h l.first l.end (first_of l.row l.depth) (come_to l.row l.depth l.c) l.dst)
 
 abbrev pub decreases-loop-c : goal.decreases-loop-c
 decreases-loop-c l = at l.row.answer.extent (l.row.tensor.rank - l.depth) - l.c

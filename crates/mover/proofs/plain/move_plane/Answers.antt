@@ -16,15 +16,15 @@ good c =
 pub store_row-requires : goal.store_row-requires
 store_row-requires c =
     rw c.outermost-row.ensures (record {
-      stands = move_stands c.args.t c.args.config c.args.src.now c.args.dst.now (good (goal.at-store_row-requires c).Then-a-eq0);
-      depth_bound = starts_before c.args.t c.args.config Lent 0 0 18446744073709551615 (omega arith);
+      stands = move_stands c.args.t c.args.config c.args.src c.args.dst.now (good (goal.at-store_row-requires c).Then-a-eq0);
+      depth_bound = starts_before c.args.t c.args.config (Lent c.args.src) 0 0 18446744073709551615 (omega arith);
     })
 
 pub returns-then-a-eq0 : goal.returns-then-a-eq0
 returns-then-a-eq0 c =
     record {
       answered = c.judge-a.ensures;
-      written = move_stored c.args.t c.args.config c.args.src.now c.args.dst.now (good (goal.at-returns-then-a-eq0 c).Then-a-eq0) 18446744073709551615 (total_most (good (goal.at-returns-then-a-eq0 c).Then-a-eq0)) c.outermost-row.ensures c.store_row.ensures.stored;
+      written = move_stored c.args.t c.args.config c.args.src c.args.dst.now (good (goal.at-returns-then-a-eq0 c).Then-a-eq0) 18446744073709551615 (total_most (good (goal.at-returns-then-a-eq0 c).Then-a-eq0)) c.outermost-row.ensures c.store_row.ensures.stored;
     }
 
 pub returns-else-a-eq0 : goal.returns-else-a-eq0

@@ -2,4 +2,4 @@
 use Rattle.mover.proofs.plain.outermost.Goals as goal
 
 pub returns : goal.returns
-returns c = rw (c.source_of.ensures, c.room-room.ensures)
+returns c = rw (c.source_of.ensures, c.room.ensures)

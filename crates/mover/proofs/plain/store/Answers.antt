@@ -1,4 +1,5 @@
 use Rattle.std.proofs.Common.{◌≡◌, ℕ, ◌≤◌, length, take, refl, ap, ◌∙◌, arith}
+use Rattle.std.proofs.lemmas.Option.{IfSome_then}
 use lib.Seq.{sets}
 use Rattle.plane.proofs.Bounds.{element_small}
 use Rattle.mover.specs.Private.Rows.{size_of, row_bytes}
@@ -17,7 +18,7 @@ byte-requires c =
     let h = c.loop-b-test.true in
     record {
       b_bound = omega (arith, small (goal.at-byte-requires c).Start, h);
-      b_in_bounds = λ k. still_held c.args.row.origin c.args.src.now c.args.dst.now l.dst (ap length l.invariant.1 ∙ stored_long c.args.row c.args.src.now c.args.dst.now c.requires l.b) (omega (arith, c.requires.source k, h));
+      b_in_bounds = IfSome_then c.args.row.at c.requires.source (λ a k. still_held c.args.row.origin c.args.dst.now l.dst (ap length l.invariant.1 ∙ stored_long c.args.row c.args.dst.now c.requires l.b) (omega (arith, k, h)));
     }
 
 pub loop-b-preserved : goal.loop-b-preserved
@@ -26,20 +27,20 @@ loop-b-preserved c =
     let h = c.loop-b-test.true in (
       omega (arith, h),
       rw l.invariant.1
-          (byte_next c.args.row c.args.src.now c.args.dst.now c.requires l.b h (rw l.invariant.1 at c.byte.ensures)),
+          (byte_next c.args.row c.args.dst.now c.requires l.b h (rw l.invariant.1 at c.byte.ensures)),
     )
 
 -- the loop's destination is as long as the one that was lent
 long : (c : At-loop-b) → length c.loop-b.dst ≡ length c.args.dst.now
 long c =
-    ap length c.loop-b.invariant.1 ∙ stored_long c.args.row c.args.src.now c.args.dst.now c.requires c.loop-b.b
+    ap length c.loop-b.invariant.1 ∙ stored_long c.args.row c.args.dst.now c.requires c.loop-b.b
 
 pub returns : goal.returns
 returns c =
     let e : c.loop-b.b ≡ size_of c.args.row = omega (arith, c.loop-b.invariant.0, c.loop-b-test.false) in
     c.loop-b.invariant.1 ∙
-    ap (λ (n : ℕ). sets c.args.dst.now c.args.row.place (take n (row_bytes c.args.row c.args.src.now c.args.dst.now))) e ∙
-    stored_all c.args.row c.args.src.now c.args.dst.now c.requires
+    ap (λ (n : ℕ). sets c.args.dst.now c.args.row.place (take n (row_bytes c.args.row c.args.dst.now))) e ∙
+    stored_all c.args.row c.args.dst.now c.requires
 
 pub overflow_cast-b-end : goal.overflow_cast-b-end
 overflow_cast-b-end c = record { fits = omega (arith, small (goal.at-overflow_cast-b-end c).Start) }

@@ -5,7 +5,7 @@ use Rattle.mover.specs.Private.Rows.{size_of, row_bytes}
 use Rattle.mover.proofs.plain.store.Given as goal
 
 abbrev pub invariant-loop-b : goal.invariant-loop-b
-invariant-loop-b l = (l.b ≤ size_of l.row) × (l.dst ≡ sets l.initial.dst l.row.place (take l.b (row_bytes l.row l.src l.initial.dst)))
+invariant-loop-b l = (l.b ≤ size_of l.row) × (l.dst ≡ sets l.initial.dst l.row.place (take l.b (row_bytes l.row l.initial.dst)))
 
 abbrev pub decreases-loop-b : goal.decreases-loop-b
 decreases-loop-b l = size_of l.row - l.b
