@@ -13,7 +13,6 @@ use crate::plan::{Axis, Plan};
 use crate::spots::{Spot, Spots, next_row};
 use crate::start::spot_at;
 use crate::ways::{copy_patch, pad_patch};
-use std::num::wrapping_add_usize;
 
 // Whole rows that are all kept or all padding, as far as the coordinates outside of them tell.
 #[derive(Clone, Copy)]
@@ -122,10 +121,10 @@ pub(crate) fn move_band(
             return;
         }
         pad_patch(dst, patch(plan, row.at, row.to, n, x.pre));
-        let first = wrapping_add_usize(row.to, f.front);
+        let first = row.to.wrapping_add(f.front);
         copy_patch(origin, dst, patch(plan, row.at, first, n, x.count));
         if let Some(rear) = f.rear {
-            let last = wrapping_add_usize(row.to, rear);
+            let last = row.to.wrapping_add(rear);
             let columns = x.extent - x.pre - x.count;
             pad_patch(dst, patch(plan, row.at, last, n, columns));
         }
