@@ -22,8 +22,8 @@ use Rattle.plane.specs.Moves.{upward, taken, count, extent, dst_extents, dst_str
 use Rattle.plane.specs.Private.{reach, source_accepted, room_accepted}
 use Rattle.plane.proofs.Arrays.{zeros_at, sum_same, firsts_at}
 use Rattle.faults.proofs.Faults.{status, if_fault_lem, if_none, lowest_clear}
-use Rattle.plane.specs.Good.{GoodSource, GoodConfig}
-use Rattle.plane.proofs.Good.{positive, dst_offset_small, shapes_good, source_good}
+use Rattle.plane.specs.Good.{GoodConfig}
+use Rattle.plane.proofs.Good.{positive, dst_offset_small, shapes_good}
 
 -- ---- a tensor record by itself
 
@@ -77,13 +77,6 @@ module _ (t : Tensor) {s : Source} (es : s ≡ source_of t) where
   module _ (z : s.fault.status ≡ 0) where
     clear : (source_fault t).status ≡ 0
     clear = sym (status its_fault) ∙ z
-
-    pub its_good : GoodSource t
-    its_good = source_good t clear
-
-    pub its_span : s.span ≡ span t
-    unfolding source_of
-    its_span = ap (λ (x : Source). x.span) es ∙ if_none (source_fault t) 0 (span t) clear
 
     pub its_strides : s.stride ≡ src_strides t
     unfolding source_of

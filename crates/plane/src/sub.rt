@@ -29,9 +29,9 @@ fn check_sub_size(n: u8, shape: [u32; 4], offset: [u32; 4], size: [u32; 4]) -> R
 
 // The dimensions that stay.
 #[derive(Clone, Copy)]
-pub(crate) struct Staying {
-    pub(crate) shape: [u32; 4],
-    pub(crate) stride: [i32; 4],
+struct Staying {
+    shape: [u32; 4],
+    stride: [i32; 4],
 }
 
 // 15, or what stays where unit dimensions are taken out, with their strides, from the first on, until excess of them are gone. A loop,
