@@ -1,4 +1,4 @@
-// Numbers as bytes, the lowest byte first, and groups of four of them; signed numbers as words, in two's complement.
+// Bytes read and set at a place; groups of four numbers as bytes, the lowest byte first; and signed numbers as words, in two's complement.
 ghost use Rattle.std.specs.Prelude.{◌≡◌, ◌+◌, ◌≤◌, length};
 ghost use Rattle.std.proofs.lemmas.List.Edits.{sets};
 ghost use Rattle.record.specs.Layout.{part, twos_words, twos_numbers, four_in, four_bytes};
@@ -21,7 +21,7 @@ pub(crate) fn words(bytes: &[u8], p: usize) -> [u32; 4]
     array::from_fn(|d| u32::from_le_bytes(part(bytes, p + 4 * d)))
 }
 
-// The group of single bytes from byte p on.
+// The group of single bytes from byte p on: they stand as they are, so nothing is shared with words.
 pub(crate) fn singles(bytes: &[u8], p: usize) -> [u8; 4]
     requires { p + 4 ≤ length bytes.now }
     ensures { result ≡ four_in p 1 bytes.now }
