@@ -14,6 +14,9 @@ pub use runs::part_of;
 pub use transfers::{Part, Table};
 pub use words::{free_before_first_taken, free_blocks};
 
+// The answers from here on are the paper's records, and no Results: a refusal hands back the word too, and zeros are promised of it
+// (DECISIONS 105).
+
 // What a request answers: the first block of the run, and the word with it taken.
 #[derive(Clone, Copy)]
 pub struct Granted {

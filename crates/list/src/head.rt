@@ -27,7 +27,7 @@ pub(crate) fn check_list(bytes: &[u8]) -> Result<u16, Fault>
     Ok(count)
 }
 
-// What is wrong with a list, by its number; or 0.
+// What is wrong with a list, by its number; or 0. The number is what it promises, so it is no Result.
 pub fn list_fault(bytes: &[u8]) -> u8
     ensures { result ≡ (list_fault bytes.now).status }
 {

@@ -19,7 +19,7 @@ fn put_count(buffer: &mut [u8], count: u16)
     buffer[layout::COUNT_AT..layout::HEAD].copy_from_slice(&count.to_le_bytes());
 }
 
-// An empty list in the first 7 bytes of the buffer, or 38 and the buffer as it was.
+// An empty list in the first 7 bytes of the buffer, or 38 and the buffer as it was. The number is what it promises, so it is no Result.
 pub fn start(buffer: &mut [u8]) -> u8
     ensures answered { result ≡ (start_fault buffer.old).status }
     ensures written { buffer.new ≡ started_buffer buffer.old }

@@ -84,10 +84,7 @@ fn turned() -> Config {
 
 // A compact plane from its last row up: the stride from row to row, written with its sign; 0 where it has none.
 fn upside_down(t: Tensor) -> Tensor {
-    let row = match i32::try_from(t.shape[1]) {
-        Ok(n) => -n,
-        Err(_) => 0,
-    };
+    let row = i32::try_from(t.shape[1]).map_or(0, |n| -n);
     let stride = [row, 0, 0, 0];
     Tensor { stride, ..t }
 }
@@ -297,8 +294,7 @@ fn transfer_both(rt: &impl Print, bytes: &mut [u8]) -> io::Result<()> {
     let large = memory.prepare(job(turned(), from, part(TURNED_AT, PICTURE)));
     match (small, large) {
         (Ok(a), Ok(b)) => run_both(rt, &mut memory, a, b),
-        (Err(failure), _) => println!(rt; "{failure}"),
-        (_, Err(failure)) => println!(rt; "{failure}"),
+        (Err(failure), _) | (_, Err(failure)) => println!(rt; "{failure}"),
     }
 }
 
@@ -391,7 +387,7 @@ fn move_read<'a>(r: Reading, source: &[u8], buffer: &'a mut [u8]) -> Result<Rows
     asked.into_start(buffer)
 }
 
-// Makes the move of each record. A refused list has none, and those behind a bad record are still read.
+// Makes the move of each record, by number, as record_at takes it. A refused list has none, and those behind a bad record are still read.
 fn move_listed(rt: &impl Print, bytes: &[u8], source: &[u8], buffer: &mut [u8]) -> io::Result<()> {
     for k in 0..list::record_count(bytes) {
         let r = list::record_at(bytes, k).reading;

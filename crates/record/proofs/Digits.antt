@@ -113,12 +113,15 @@ pub length_four : (w : ℕ) (xs : List ℕ) → length (four_bytes w xs) ≡ 4 *
 length_four w xs = length_consecutive 4 (λ d. little w (at xs d)) (λ _. w) (λ k _. length_little w (at xs k)) ∙ sum_const 4 w
 
 -- a group of single bytes is those four bytes
-pub four_singles : (p : ℕ) (bs : List ℕ) → p + 4 ≤ length bs → part p 4 bs ≡ four_in p 1 bs
+four_singles : (p : ℕ) (bs : List ℕ) → p + 4 ≤ length bs → part p 4 bs ≡ four_in p 1 bs
 four_singles p bs h =
     let one : (d : ℕ) → d < 4 → number (part (p + d * 1) 1 bs) ≡ at (part p 4 bs) d =
     λ d q. ap (λ (k : ℕ). number (part k 1 bs)) (let z : p + d * 1 ≡ p + d = omega arith in z) ∙ number_one (p + d) bs (omega arith) ∙
     sym (get_or-take 4 (drop p bs) d 0 q ∙ get_or-drop p bs d 0) in
     is_array 0 (part p 4 bs) _ (length_part p 4 bs h) (λ d q. sym (one d q))
+
+pub singles_are : (p : ℕ) (bs : List ℕ) → p + 4 ≤ length bs → {xs : List ℕ} → xs ≡ part p 4 bs → xs ≡ four_in p 1 bs
+singles_are p bs h e = e ∙ four_singles p bs h
 
 pub singles_bytes : (xs : List ℕ) → length xs ≡ 4 → Bytes xs → xs ≡ four_bytes 1 xs
 unfolding consecutive little

@@ -74,7 +74,7 @@ pub(crate) fn check_fields(version: u16, tensor: Tensor, config: Config) -> Resu
     Ok(())
 }
 
-// The fault that a check tells, with number 0 where it passed.
+// The fault that a check tells, with number 0 where it passed: `fields_fault` and `write` promise a Fault in either case.
 pub(crate) fn fault_of(checked: Result<(), Fault>) -> Fault
     ensures { result ≡ fault_in checked }
 {

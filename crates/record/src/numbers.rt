@@ -1,4 +1,4 @@
-// Numbers as bytes, the lowest byte first, and groups of four of them; signed numbers as words, in two's complement.
+// Bytes read and set at a place; groups of four numbers as bytes, the lowest byte first; and signed numbers as words, in two's complement.
 ghost use Rattle.std.specs.Prelude.{◌≡◌, ◌+◌, ◌≤◌, length};
 ghost use Rattle.std.proofs.lemmas.List.Edits.{sets};
 ghost use Rattle.record.specs.Layout.{part, twos_words, twos_numbers, four_in, four_bytes};
@@ -13,20 +13,12 @@ pub(crate) fn part<const N: usize>(bytes: &[u8], p: usize) -> [u8; N]
     *bytes[p..].first_chunk::<N>().unwrap()
 }
 
-// The group of four-byte numbers from byte p on.
+// The group of four-byte numbers from byte p on. One of single bytes is just a part.
 pub(crate) fn words(bytes: &[u8], p: usize) -> [u32; 4]
     requires { p + 16 ≤ length bytes.now }
     ensures { result ≡ four_in p 4 bytes.now }
 {
     array::from_fn(|d| u32::from_le_bytes(part(bytes, p + 4 * d)))
-}
-
-// The group of single bytes from byte p on.
-pub(crate) fn singles(bytes: &[u8], p: usize) -> [u8; 4]
-    requires { p + 4 ≤ length bytes.now }
-    ensures { result ≡ four_in p 1 bytes.now }
-{
-    part(bytes, p)
 }
 
 // Sets the bytes from byte p on to these.
@@ -44,14 +36,6 @@ pub(crate) fn put_words(room: &mut [u8], p: usize, xs: [u32; 4])
     ensures { room.new ≡ sets room.old p (four_bytes 4 xs) }
 {
     put(room, p, xs.map(u32::to_le_bytes).as_flattened());
-}
-
-// Sets the four bytes from byte p on to a group of single bytes.
-pub(crate) fn put_singles(room: &mut [u8], p: usize, xs: [u8; 4])
-    requires { p + 4 ≤ length room.old }
-    ensures { room.new ≡ sets room.old p (four_bytes 1 xs) }
-{
-    put(room, p, &xs);
 }
 
 // The signed numbers that four words are.

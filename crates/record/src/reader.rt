@@ -5,7 +5,7 @@ ghost use Rattle.faults.specs.Faults.{outcome};
 ghost use Rattle.record.specs.Records.{bad_length, tensor_in, config_in, read_fault, read_of};
 
 use crate::checks::check_fields;
-use crate::numbers::{of_words, part, singles, words};
+use crate::numbers::{of_words, part, words};
 use crate::versions::version_by_length;
 use crate::{Reading, layout};
 use plane::{Config, Fault, Tensor};
@@ -46,9 +46,9 @@ fn config_in(bytes: &[u8]) -> Config
         step: words(bytes, layout::STEP),
         dst_offset: words(bytes, layout::DST_OFFSET),
         dst_stride: words(bytes, layout::DST_STRIDE),
-        perm: singles(bytes, layout::PERM),
-        pre: singles(bytes, layout::PRE),
-        post: singles(bytes, layout::POST),
+        perm: part(bytes, layout::PERM),
+        pre: part(bytes, layout::PRE),
+        post: part(bytes, layout::POST),
         fill: fill_in(bytes),
     }
 }

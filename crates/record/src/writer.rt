@@ -9,7 +9,7 @@ ghost use Rattle.record.specs.Private.{tensor_bytes, config_at, config_bytes};
 
 use crate::checks::{check_fields, fault_of};
 use crate::layout;
-use crate::numbers::{put, put_singles, put_words, words_of};
+use crate::numbers::{put, put_words, words_of};
 use crate::versions::{length_for, version_for};
 use plane::{Config, Fault, Tensor};
 
@@ -43,9 +43,9 @@ fn put_config(room: &mut [u8], c: Config)
     put_words(room, layout::STEP, c.step);
     put_words(room, layout::DST_OFFSET, c.dst_offset);
     put_words(room, layout::DST_STRIDE, c.dst_stride);
-    put_singles(room, layout::PERM, c.perm);
-    put_singles(room, layout::PRE, c.pre);
-    put_singles(room, layout::POST, c.post);
+    put(room, layout::PERM, &c.perm);
+    put(room, layout::PRE, &c.pre);
+    put(room, layout::POST, &c.post);
 }
 
 // The fill, where it is written.

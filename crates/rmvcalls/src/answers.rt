@@ -52,8 +52,8 @@ impl Out {
     }
 
     fn push(&mut self, ch: u8) {
-        if self.len < LINE {
-            self.text[self.len] = ch;
+        if let Some(place) = self.text.get_mut(self.len) {
+            *place = ch;
             self.len += 1;
         }
     }

@@ -88,6 +88,7 @@ impl<'a> Take<'a> for usize {
     }
 }
 
+// Four takes and no try_from_fn: in a closure the borrow checker does not cover a take yet, whose bound names a lifetime.
 impl<'a, T: Take<'a> + Copy> Take<'a> for [T; 4] {
     fn take(args: &mut Args<'a>) -> Result<[T; 4], NoCall> {
         Ok([args.take()?, args.take()?, args.take()?, args.take()?])
@@ -203,6 +204,7 @@ impl<'a> Take<'a> for () {
     }
 }
 
+// Each length of a tuple has an impl of its own, since no type stands for tuples of any length.
 impl<'a, A: Take<'a> + Drop, B: Take<'a>> Take<'a> for (A, B) {
     fn take(args: &mut Args<'a>) -> Result<(A, B), NoCall> {
         Ok((args.take()?, args.take()?))

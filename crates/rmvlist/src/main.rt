@@ -9,7 +9,7 @@ const RECORDS: usize = 1000; // records of the longest list
 
 const LONGEST: usize = list::HEAD + RECORDS * record::LENGTH; // bytes of that list
 
-// A line for the list, and then one for each of its records. A refused list has none.
+// A line for the list, and then one for each of its records, by number, as record_at takes it. A refused list has none.
 fn show(rt: &impl Print, bytes: &[u8]) -> io::Result<()> {
     let count = list::record_count(bytes);
     lines::head(rt, list::list_fault(bytes), count)?;
