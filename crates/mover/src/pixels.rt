@@ -39,10 +39,10 @@ fn row_at(t: Tensor, c: Config, x: [u32; 4]) -> Row
     requires { Pickable t c x }
     ensures { result ≡ row_at t c x }
 {
-    // a loop, and no fold: its closure would have to ask again what a step inward asks of the row
+    // a loop, and no fold: a step inward asks for the row that the steps before it leave
     let mut row = outermost(t, c, Origin::Lent, 0, 0);
-    for i in 0..t.rank {
-        row = inward(row, i as usize, x[i as usize]);
+    for i in 0..t.rank as usize {
+        row = inward(row, i, x[i]);
     }
     row
 }
