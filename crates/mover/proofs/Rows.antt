@@ -81,6 +81,13 @@ sum_first f i (suc n) h = elim (dec_le i n) [
   | no l ↦ let e : i ≡ suc n = omega arith in rw e (omega arith)
 ]
 
+-- the source coordinate of coordinate x of dimension i, and how many strides up it lies
+abbrev reached : Row → ℕ → ℕ → ℕ
+reached w i x = let c = w.config in at c.offset (dim_of c i) + k_of c i x * at c.step (dim_of c i)
+
+abbrev pub lifted : Row → ℕ → ℕ → ℕ
+lifted w i x = up (down_at w.tensor (dim_of w.config i)) (shape_at w.tensor (dim_of w.config i)) (reached w i x)
+
 -- ---- what acceptance tells of destination dimension i
 
 module _ {p r i : ℕ} {w : Row} (g : RowOf p r i w) (h : i < w.tensor.rank) where
@@ -116,11 +123,9 @@ module _ {p r i : ℕ} {w : Row} (g : RowOf p r i w) (h : i < w.tensor.rank) whe
         → (inward_of w i x).at ≡ cond (b && is_kept w.tensor w.config i x) (Some (y + source_term w.tensor w.config i x * size_of w)) None
     unfolding inward_of
     its_from b y e =
-        let c = w.config in
-        let k = is_kept w.tensor c i x in
-        let up-x = up (down_at w.tensor (dim_of c i)) (shape_at w.tensor (dim_of c i)) (at c.offset (dim_of c i) + k_of c i x * at c.step (dim_of c i)) in
-        ap₂ (λ (o : Option ℕ) (s : ℕ). option_and_then (λ a. cond k (Some (a + up-x * s * size_of w)) None) o) e its_source_stride ∙
-        further b k y (up-x * at (src_strides w.tensor) (dim_of c i) * size_of w)
+        let k = is_kept w.tensor w.config i x in
+        ap₂ (λ (o : Option ℕ) (s : ℕ). option_and_then (λ a. cond k (Some (a + lifted w i x * s * size_of w)) None) o) e its_source_stride ∙
+        further b k y (lifted w i x * at (src_strides w.tensor) (dim_of w.config i) * size_of w)
 
     its_to : (inward_of w i x).place ≡ w.place + place_term w.tensor w.config i x * size_of w
     unfolding inward_of
@@ -246,14 +251,7 @@ module _ {w : Row} {i x : ℕ} (g : Passable w i x) where
   pass_to = omega (arith, to_fits next g.dim, g.end)
 
   module _ (k : is_kept w.tensor w.config i x ≡ true) where
-    -- the source coordinate, and how many strides up it lies
-    abbrev reached : ℕ
-    reached = let c = w.config in at c.offset (dim_of c i) + k_of c i x * at c.step (dim_of c i)
-
-    abbrev lifted : ℕ
-    lifted = up (down_at w.tensor (dim_of w.config i)) (shape_at w.tensor (dim_of w.config i)) reached
-
-    pub pass_at : reached < shape_at w.tensor (dim_of w.config i)
+    pub pass_at : reached w i x < shape_at w.tensor (dim_of w.config i)
     pass_at =
         omega (
           arith,
@@ -264,9 +262,9 @@ module _ {w : Row} {i x : ℕ} (g : Passable w i x) where
     pub pass_shape : shape_at w.tensor (dim_of w.config i) ≤ 65535
     pass_shape = (g.row.good_source.shape (dim_of w.config i) pass_source_dim).1
 
-    pub pass_from : {a : ℕ} → w.at ≡ Some a → a + lifted * at w.source.stride (dim_of w.config i) * size_of w < 2 ^ 64
+    pub pass_from : {a : ℕ} → w.at ≡ Some a → a + lifted w i x * at w.source.stride (dim_of w.config i) * size_of w < 2 ^ 64
     unfolding inward_of
     pass_from {a} e =
-        let far = lifted * at w.source.stride (dim_of w.config i) * size_of w in
+        let far = lifted w i x * at w.source.stride (dim_of w.config i) * size_of w in
         let f : (inward_of w i x).at ≡ Some (a + far) = rw (e, k) in
         omega (arith, (from_fits next g.dim f).1, g.source_end)

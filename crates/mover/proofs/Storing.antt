@@ -2,7 +2,7 @@
 use Rattle.std.proofs.Common.{◌≡◌, ℕ, zero, suc, ◌+◌, ◌*◌, ◌/◌, ◌%◌, ◌^◌, ◌<◌, ◌≤◌, Some, None, List, length, get_or, take, drop, set, sym, refl, ap, ◌∙◌, inl, inr, ⊎_elim, le_of_suc-le-suc, not-suc-le-zero, zero-add, div-one, arith, length-drop, length-take-le, get_or-drop, take_all, get_or-take, pow-add}
 use Rattle.std.specs.Prelude.{Option, IfSome, option_map, unwrap_or}
 use native.Mathlib.Nat.{div-div-eq-div-mul}
-use lib.Seq.{sets, length-sets}
+use lib.Seq.{sets}
 use Rattle.plane.specs.Numbers.{little}
 use Rattle.plane.proofs.Numbers.{length_little}
 use Rattle.mover.specs.declared.elements.Origin.{Origin}
@@ -58,9 +58,6 @@ module _ (w : Row) (d : List ℕ) (g : Storable w d) where
           apart_seen w.origin (take b (row_bytes w d)) d a w.place (size_of w) b (length_take_most b (row_bytes w d)) l f ∙
           sym (get_or-take (size_of w) (drop a (source_bytes w.origin d)) b 0 l ∙ get_or-drop a (source_bytes w.origin d) b 0)
       picked None f = sym (little_at (size_of w) w.config.fill b l)
-
-  pub stored_long : (b : ℕ) → length (stored b) ≡ length d
-  stored_long b = length-sets d w.place (take b (row_bytes w d))
 
   pub stored_all : stored (size_of w) ≡ sets d w.place (row_bytes w d)
   stored_all =

@@ -1,5 +1,5 @@
 -- The destination as one row, and what the plain engine's two calls leave. Assumes nothing.
-use Rattle.std.proofs.Common.{◌≡◌, ℕ, ◌+◌, ◌-◌, ◌<◌, ◌≤◌, min, Some, List, length, sym, refl, ap, ◌∙◌, subst, ap₂, one-mul, zero-mul, arith, take_all}
+use Rattle.std.proofs.Common.{◌≡◌, ℕ, ◌+◌, ◌-◌, ◌≤◌, min, Some, List, length, sym, refl, ap, ◌∙◌, subst, ap₂, one-mul, zero-mul, arith, take_all}
 use native.Mathlib.Nat.{sub-zero, min-eq_left, min-eq_right, min-le_right}
 use native.Mathlib.Decide.{ℕ_discrete}
 use lib.Seq.{sets, length-sets, take-length}
@@ -92,10 +92,6 @@ module _ (t : Tensor) (c : Config) (o : Origin) (p r : Part) (d : List ℕ) (z :
   unfolding stretch_in all_stands
   all_stored first last f =
       f all_stands d (none_yet first last) ∙ ap (λ (i : ℕ). stretch_in all p r first last i d) all_elements
-
--- its first element comes before any end but 0
-pub starts_before : (t : Tensor) (c : Config) (o : Origin) (p r last : ℕ) → 0 < last → first_of (outermost_of t c o p r) t.rank < last
-starts_before t c o p r last l = rw (zero-mul (elements_in (outermost_of t c o p r) t.rank)) l
 
 -- an accepted move has no more elements than 64 bits count
 pub total_most : {t : Tensor} {c : Config} {n k : ℕ} → GoodMove t c n k → total t c ≤ 18446744073709551615

@@ -39,10 +39,10 @@ fn row_at<'a>(t: Tensor, c: Config, src: &'a [u8], x: [u32; 4]) -> Row<'a>
     requires { Pickable t c x }
     ensures { result ≡ row_at t c src.entry x }
 {
-    // a loop, and no fold: its closure would have to ask again what a step inward asks of the row
+    // a loop, and no fold: a step inward asks for the row that the steps before it leave
     let mut row = outermost(t, c, Origin::Lent(src), 0, 0);
-    for i in 0..t.rank {
-        row = inward(row, i as usize, x[i as usize]);
+    for i in 0..t.rank as usize {
+        row = inward(row, i, x[i]);
     }
     row
 }

@@ -1,7 +1,6 @@
 // The plain engine: a move to be read beside the paper. At each destination dimension it goes through the coordinates in order, and
 // calls itself with one dimension fewer; with none left it stores one element. It leaves what the first engine leaves, and is slower.
 ghost use Rattle.std.specs.Prelude.{◌≡◌, ◌+◌, ◌<◌, length, nat_lt, IfSome};
-ghost use Rattle.plane.specs.Planes.{shape_at, down_at, up};
 ghost use Rattle.plane.specs.Moves.{count, judge_of};
 ghost use Rattle.plane.specs.Good.{GoodSource, GoodConfig};
 ghost use Rattle.mover.specs.Moved.{move_memory};
@@ -62,19 +61,6 @@ fn kept_count(t: Tensor, config: Config, s: usize) -> u32
     taken.div_ceil(step)
 }
 
-// How many strides up from the lowest element of source dimension s a coordinate lies: one whose stride is below 0 counts down.
-fn up(t: Tensor, s: usize, coordinate: u32) -> u32
-    requires s_bound { s < 4 }
-    requires coordinate_bound { coordinate < shape_at t s }
-    ensures { result ≡ up (down_at t s) (shape_at t s) coordinate }
-{
-    if t.stride[s] < 0 {
-        t.shape[s] - 1 - coordinate
-    } else {
-        coordinate
-    }
-}
-
 // The row at coordinate c of destination dimension i, which is source dimension s = perm[i].
 pub(crate) fn inward<'a>(row: Row<'a>, i: usize, c: u32) -> Row<'a>
     requires { Passable row i c }
@@ -96,7 +82,13 @@ pub(crate) fn inward<'a>(row: Row<'a>, i: usize, c: u32) -> Row<'a>
         Some(at) if pre <= c && c < pre + count => {
             let k = c - pre;
             let coordinate = config.offset[s] + k * config.step[s];
-            Some(at + up(t, s, coordinate) as usize * source.stride[s] as usize * size)
+            // from the lowest element up: a dimension whose stride is below 0 counts down
+            let up = if t.stride[s] < 0 {
+                t.shape[s] - 1 - coordinate
+            } else {
+                coordinate
+            };
+            Some(at + up as usize * source.stride[s] as usize * size)
         }
         _ => None, // padding
     };

@@ -1,12 +1,7 @@
-use Rattle.std.proofs.Common.{◌≡◌, ℕ, sym, ◌∙◌, ap₂, arith, rules}
-use Rattle.mover.specs.declared.plain.Row.{Row}
-use Rattle.mover.specs.Private.Pixels.{row_to}
+use Rattle.std.proofs.Common.{sym, ◌∙◌, arith}
 use Rattle.mover.proofs.Making.{room_source}
 use Rattle.mover.proofs.Picking.{to_none, to_more, to_passable}
 use Rattle.mover.proofs.pixels.row_at.Goals as goal
-
-pub outermost-row-requires : goal.outermost-row-requires
-outermost-row-requires c = search rules
 
 pub loop-i-init : goal.loop-i-init
 loop-i-init c = (omega arith, sym (to_none c.outermost-row.result c.args.x))
@@ -24,9 +19,3 @@ pub loop-i-preserved : goal.loop-i-preserved
 loop-i-preserved c =
     let l = c.loop-i in
     (omega (arith, c.loop-i-test.true), c.inward-row.ensures ∙ to_more _ _ l.i l.invariant.1)
-
-pub returns : goal.returns
-returns c =
-    let l = c.loop-i in
-    let e : l.i ≡ c.args.t.rank = omega (arith, l.invariant.0, c.loop-i-test.false) in
-    l.invariant.1 ∙ ap₂ (λ (w : Row) (i : ℕ). row_to w c.args.x i) c.outermost-row.ensures e

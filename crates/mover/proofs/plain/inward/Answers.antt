@@ -1,10 +1,11 @@
 -- `mover::plain::inward` goes one dimension further in. Assumes nothing.
-use Rattle.std.proofs.Common.{◌≡◌, true, arith}
-use Rattle.mover.specs.Element.{is_kept}
+use Rattle.std.proofs.Common.{◌≡◌, true, false, rules, arith}
+use Rattle.plane.specs.Planes.{down_at}
+use Rattle.mover.specs.Element.{dim_of, is_kept}
 use Rattle.mover.specs.Private.Rows.{inward_of}
-use Rattle.mover.proofs.Rows.{is_before, is_within, is_behind, pass_parts, pass_number, pass_offset, pass_place, pass_to, pass_at, pass_shape, pass_from}
+use Rattle.mover.proofs.Rows.{is_before, is_within, is_behind, pass_parts, pass_number, pass_offset, pass_place, pass_to, lifted, pass_at, pass_shape, pass_from}
 use Rattle.mover.proofs.plain.inward.Goals as goal
-use Rattle.mover.proofs.plain.inward.Goals.{Then-c-pre, in-Some, in_default, in_default-2, in_default-3}
+use Rattle.mover.proofs.plain.inward.Goals.{Then-c-pre, Joined-t-s-lt0, then-t-s-lt0, else-t-s-lt0, in-Some, in_default, in_default-2, in_default-3}
 
 kept : (c : Then-c-pre) → is_kept c.args.row.tensor c.args.row.config c.args.i c.args.c ≡ true
 kept c =
@@ -39,16 +40,23 @@ pub overflow_add-coordinate : goal.overflow_add-coordinate
 overflow_add-coordinate c =
     let k = kept (goal.at-overflow_add-coordinate c).Then-c-pre in record { fits = omega (arith, pass_at c.requires k, pass_shape c.requires k) }
 
-pub up-requires-clause-coordinate_bound : goal.up-requires-clause-coordinate_bound
-up-requires-clause-coordinate_bound c = pass_at c.requires (kept (goal.at-up-requires-clause-coordinate_bound c).Then-c-pre)
+-- how many strides up it lies
+lifts : (c : Joined-t-s-lt0) → c.if-t-s-lt0.up ≡ lifted c.args.row c.args.i c.args.c
+lifts c = elim c.if-t-s-lt0.branch [
+  | then-t-s-lt0 w ↦ let e : down_at c.args.row.tensor (dim_of c.args.row.config c.args.i) ≡ true = search rules in rw e w.up-is
+  | else-t-s-lt0 w ↦ let e : down_at c.args.row.tensor (dim_of c.args.row.config c.args.i) ≡ false = search rules in rw e w.up-is
+]
+
+pub overflow_sub-up-then-t-s-lt0 : goal.overflow_sub-up-then-t-s-lt0
+overflow_sub-up-then-t-s-lt0 c = omega (arith, pass_at c.requires (kept (goal.at-overflow_sub-up-then-t-s-lt0 c).Then-c-pre))
 
 pub overflow_mul-at-in-Some : goal.overflow_mul-at-in-Some
 overflow_mul-at-in-Some c =
-    record { fits = rw c.up.ensures (omega (arith, pass_from c.requires (kept (goal.at-overflow_mul-at-in-Some c).Then-c-pre) c.in-Some.is)) }
+    record { fits = rw (lifts (goal.at-overflow_mul-at-in-Some c).Joined-t-s-lt0) (omega (arith, pass_from c.requires (kept (goal.at-overflow_mul-at-in-Some c).Then-c-pre) c.in-Some.is)) }
 
 pub overflow_add-at : goal.overflow_add-at
 overflow_add-at c =
-    record { fits = rw c.up.ensures (pass_from c.requires (kept (goal.at-overflow_add-at c).Then-c-pre) c.in-Some.is) }
+    record { fits = rw (lifts (goal.at-overflow_add-at c).Joined-t-s-lt0) (pass_from c.requires (kept (goal.at-overflow_add-at c).Then-c-pre) c.in-Some.is) }
 
 pub returns : goal.returns
 unfolding inward_of
@@ -57,7 +65,12 @@ returns c =
     let f = c.args.row.config in
     let n = c.kept_count-count.ensures in
     elim c.match-row.branch [
-      | in-Some w ↦ rw (w.at-is, w.up.ensures, is_within t f c.args.i c.args.c n w.if-pre-c.true w.if-c-pre.true, w.in-Some.is)
+      | in-Some w ↦
+          let e = is_within t f c.args.i c.args.c n w.if-pre-c.true w.if-c-pre.true in
+          elim w.if-t-s-lt0.branch [
+            | then-t-s-lt0 v ↦ let d : down_at t (dim_of f c.args.i) ≡ true = search rules in rw (w.at-is, v.up-is, e, w.in-Some.is, d)
+            | else-t-s-lt0 v ↦ let d : down_at t (dim_of f c.args.i) ≡ false = search rules in rw (w.at-is, v.up-is, e, w.in-Some.is, d)
+          ]
       | in_default-2 w ↦ rw (w.at-is, w.in-Some.is, is_behind t f c.args.i c.args.c n w.if-pre-c.true w.if-c-pre.false)
       | in_default-3 w ↦ rw (w.at-is, w.in-Some.is, is_before t f c.args.i c.args.c w.if-pre-c.false)
       | in_default w ↦ rw (w.at-is, w.in_default.is)

@@ -1,10 +1,9 @@
 -- `mover::plain::move_plane` stores all the elements of an accepted move, and none of a refused one. Assumes nothing.
-use Rattle.std.proofs.Common.{length, sym, arith}
+use Rattle.std.proofs.Common.{length, sym}
 use Rattle.plane.specs.Good.{GoodMove}
-use Rattle.mover.specs.declared.elements.Origin.TheVariants.{Lent}
 use Rattle.mover.proofs.Laws.{moved_refused}
 use Rattle.mover.proofs.Judged.{outcome_err, outcome_ok, judged_stopped, judged_move}
-use Rattle.mover.proofs.WholeRows.{starts_before, move_stands, move_stored, total_most}
+use Rattle.mover.proofs.WholeRows.{move_stands, move_stored, total_most}
 use Rattle.mover.proofs.plain.move_plane.Goals as goal
 use Rattle.mover.proofs.plain.move_plane.Goals.{Then-a-eq0}
 
@@ -13,12 +12,9 @@ good : (c : Then-a-eq0) → GoodMove c.args.t c.args.config (length c.args.src.n
 good c =
     judged_move c.args.t c.args.config _ _ (outcome_ok c.args.t c.args.config _ _ c.judge-a.ensures c.if-a-eq0.true)
 
-pub store_row-requires : goal.store_row-requires
-store_row-requires c =
-    rw c.outermost-row.ensures (record {
-      stands = move_stands c.args.t c.args.config c.args.src c.args.dst.now (good (goal.at-store_row-requires c).Then-a-eq0);
-      depth_bound = starts_before c.args.t c.args.config (Lent c.args.src) 0 0 18446744073709551615 (omega arith);
-    })
+pub store_row-requires-clause-stands : goal.store_row-requires-clause-stands
+store_row-requires-clause-stands c =
+    rw c.outermost-row.ensures (move_stands c.args.t c.args.config c.args.src c.args.dst.now (good (goal.at-store_row-requires-clause-stands c).Then-a-eq0))
 
 pub returns-then-a-eq0 : goal.returns-then-a-eq0
 returns-then-a-eq0 c =
