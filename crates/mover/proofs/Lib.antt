@@ -35,6 +35,7 @@ pub mod Banding
 pub mod Banded
 pub mod Parts
 pub mod Sums
+pub mod Chains
 pub mod Numbers
 pub mod Fitting
 pub mod Stored

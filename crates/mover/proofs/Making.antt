@@ -11,7 +11,7 @@ use Rattle.plane.specs.Numbers.{little}
 use Rattle.plane.specs.Planes.{src_strides, source_rules, source_of, source_fault}
 use Rattle.plane.specs.Moves.{count, extent, dst_extents, room_rules, room_fault, accepted}
 use Rattle.plane.proofs.Arrays.{firsts_at}
-use Rattle.plane.proofs.Bounds.{element_small}
+use Rattle.plane.proofs.Bounds.{element_small, sum_most}
 use Rattle.faults.proofs.Faults.{status}
 use Rattle.faults.proofs.Chains.{unbroken, unbroken_accepts}
 use Rattle.plane.specs.Good.{GoodSource, GoodConfig, GoodDst}
@@ -30,9 +30,10 @@ le_bytes_little n h =
     λ i. n % 256 ∷ n / 256 % 256 ∷ a i % 256 ∷ b i % 256 ∷ []
 
 -- a sum of at most four numbers times strides, times an element size
-pub bytes_fit : (x n z : ℕ) → n ≤ 4 → z ≤ 4 → x ≤ n * (65535 * 4294967295) → x * z < 2 ^ 64
-bytes_fit x n z l s h =
-    let u : x ≤ 4 * (65535 * 4294967295) = omega arith in
+pub bytes_fit : (n : ℕ) (f : ℕ → ℕ) (z : ℕ) → n ≤ 4 → z ≤ 4 → ((i : ℕ) → i < n → f i ≤ 65535 * 4294967295) → sum n f * z < 2 ^ 64
+bytes_fit n f z l s h =
+    let most = sum_most n f (65535 * 4294967295) h in
+    let u : sum n f ≤ 4 * (65535 * 4294967295) = omega arith in
     omega (arith, mul-le-mul u s)
 
 -- a step times a stride, times an element size

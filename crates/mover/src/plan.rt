@@ -1,11 +1,10 @@
 // An accepted move as the engine wants it.
 ghost use Rattle.std.specs.Prelude.{◌≡◌, ℕ, ◌-◌, ◌*◌, ◌<◌, ◌≤◌, if◌then◌else◌, nat_lt};
 ghost use Rattle.plane.specs.Arrays.{at, sum, product};
-ghost use Rattle.plane.specs.Numbers.{little};
 ghost use Rattle.plane.specs.Planes.{up};
 ghost use Rattle.plane.specs.Signs.{is_down};
 ghost use Rattle.plane.specs.Moves.{room_fault, accepted};
-ghost use Rattle.mover.specs.Private.Plans.{jump_by, goes_down, jump_length, plan_of, axis_made, home_made, lone, Fit};
+ghost use Rattle.mover.specs.Private.Plans.{jump_by, goes_down, jump_length, plan_of, axis_made, above_made, home_made, lone, Fit};
 
 use plane::{Answer, Config, Tensor};
 
@@ -85,13 +84,6 @@ pub(crate) fn lone() -> Axis
     }
 }
 
-// The bytes of a fill, the lowest first.
-fn bytes_of(fill: u32) -> [u8; 4]
-    ensures { result ≡ little 4 fill }
-{
-    fill.to_le_bytes()
-}
-
 // An accepted move: its record, its configuration, the sizes of the source's resolved strides, and its answer.
 #[derive(Clone, Copy)]
 struct Accepted {
@@ -103,17 +95,23 @@ struct Accepted {
 }
 
 impl Accepted {
+    // How far above the lowest element of its dimension the first kept coordinate of destination dimension i lies, in elements.
+    fn above(&self, i: usize) -> usize
+        requires { i < self.now.answer.rank }
+        ensures { result ≡ above_made self.now.tensor self.now.config self.now.sizes i }
+    {
+        let t = &self.tensor;
+        let c = &self.config;
+        let d = c.perm[i] as usize;
+        times(up(t.stride[d], t.shape[d], c.offset[d]), self.sizes[d])
+    }
+
     // The byte of the first kept element in the source.
     fn home(self) -> usize
         ensures { result ≡ home_made self.tensor self.config self.answer self.sizes }
     {
-        let t = self.tensor;
-        let c = self.config;
-        let mut total: usize = 0;
-        for i in 0..self.answer.rank {
-            let d = c.perm[i as usize] as usize;
-            total += times(up(t.stride[d], t.shape[d], c.offset[d]), self.sizes[d]);
-        }
+        let n = self.answer.rank as usize;
+        let total: usize = (0..n).map(|i| self.above(i)).sum();
         total * (self.answer.element_size as usize)
     }
 
@@ -121,11 +119,10 @@ impl Accepted {
     fn base(self) -> usize
         ensures { result ≡ sum self.answer.rank (λ i. at self.config.dst_offset i * at self.answer.stride i) * self.answer.element_size }
     {
-        let mut total: usize = 0;
-        for i in 0..self.answer.rank {
-            let k = i as usize;
-            total += times(self.config.dst_offset[k], self.answer.stride[k]);
-        }
+        let n = self.answer.rank as usize;
+        let total: usize = (0..n)
+            .map(|i| times(self.config.dst_offset[i], self.answer.stride[i]))
+            .sum();
         total * (self.answer.element_size as usize)
     }
 
@@ -181,7 +178,7 @@ pub(crate) fn plan_of(t: Tensor, c: Config, a: Answer) -> Plan
     };
     Plan {
         size: a.element_size as usize,
-        pad: bytes_of(c.fill),
+        pad: c.fill.to_le_bytes(),
         home: it.home(),
         base: it.base(),
         d0: it.axis_of_four(0),
@@ -196,9 +193,6 @@ pub(crate) fn total(a: Answer) -> usize
     requires { (a.rank ≤ 4) × ((i : ℕ) → i < a.rank → at a.extent i ≤ 65535) }
     ensures { result ≡ product a.rank (at a.extent) }
 {
-    let mut product: usize = 1;
-    for i in 0..a.rank {
-        product *= a.extent[i as usize] as usize;
-    }
-    product
+    let n = a.rank as usize;
+    (0..n).map(|i| a.extent[i] as usize).product()
 }

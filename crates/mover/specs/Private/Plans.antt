@@ -67,10 +67,13 @@ axis_made t c a sizes i = record {
   stride = at a.stride i * a.element_size;
 }
 
--- the byte of the first kept element, as the code works it out
+-- as the code works them out: how far above the lowest element of its dimension the first kept coordinate of destination dimension i lies,
+-- in elements, and the byte of the first kept element
+abbrev pub above_made : Tensor → Config → List ℕ → ℕ → ℕ
+above_made t c sizes i = let d = dim_of c i in up (down_at t d) (shape_at t d) (at c.offset d) * at sizes d
+
 abbrev pub home_made : Tensor → Config → Answer → List ℕ → ℕ
-home_made t c a sizes =
-    sum a.rank (λ i. let d = dim_of c i in up (down_at t d) (shape_at t d) (at c.offset d) * at sizes d) * a.element_size
+home_made t c a sizes = sum a.rank (above_made t c sizes) * a.element_size
 
 -- what acceptance tells of the tensor record t, the configuration c and the answer a
 pub record Fit (t : Tensor) (c : Config) (a : Answer) : Type 0 where

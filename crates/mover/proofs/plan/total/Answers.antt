@@ -1,16 +1,13 @@
-use Rattle.std.proofs.Common.{refl, arith}
-use Rattle.plane.proofs.Products.{multiplied_start, multiplied_more, multiplied_fits, multiplied_end}
+-- `mover::plan::total` multiplies the extents. Assumes nothing.
+use Rattle.std.proofs.Common.{rules, tests}
+use Rattle.plane.specs.Arrays.{at}
+use Rattle.mover.proofs.Chains.{chain_product, product_fits}
 use Rattle.mover.proofs.plan.total.Goals as goal
 
-pub overflow_mul-product : goal.overflow_mul-product
-overflow_mul-product c =
-    omega (arith, multiplied_fits c.loop-i.invariant c.loop-i-test.true refl c.requires.0 c.requires.1)
-
-pub loop-i-preserved : goal.loop-i-preserved
-loop-i-preserved c = multiplied_more c.loop-i.invariant c.loop-i-test.true refl
-
-pub loop-i-init : goal.loop-i-init
-loop-i-init c = multiplied_start
+pub product-requires-clause-fits : goal.product-requires-clause-fits
+product-requires-clause-fits c =
+    product_fits c.args.a.rank (at c.args.a.extent) c.map.ensures.source c.map.ensures.closure (λ x r q k. search (rules, tests)) c.requires.0 c.requires.1
 
 pub returns : goal.returns
-returns c = multiplied_end c.loop-i.invariant c.loop-i-test.false
+returns c =
+    chain_product c.args.a.rank (at c.args.a.extent) c.map.ensures.source c.map.ensures.closure (λ x r q k. search (rules, tests)) c.product.ensures.ran

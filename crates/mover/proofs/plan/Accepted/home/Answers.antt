@@ -1,42 +1,42 @@
-use Rattle.std.proofs.Common.{ℕ, ◌*◌, ◌≤◌, ℤ, ap, ◌∙◌, arith}
-use Rattle.plane.specs.Arrays.{at}
-use Rattle.plane.specs.Signs.{is_down, at_z}
-use Rattle.plane.specs.Planes.{shape_at, up}
-use Rattle.plane.proofs.Arrays.{summed_start, summed_more, summed_end}
-use Rattle.plane.proofs.Signed.{read_back}
+-- `mover::plan::Accepted::home` sums over the dimensions how far up the first kept coordinate lies. Assumes nothing.
+use Rattle.std.proofs.Common.{◌≡◌, ℕ, ◌*◌, ◌^◌, ◌<◌, ◌≤◌, mul-le-mul, ap, rules, tests, arith}
+use Rattle.plane.specs.Arrays.{at, sum}
+use Rattle.plane.specs.Planes.{shape_at, down_at, up}
 use Rattle.mover.specs.Element.{dim_of}
+use Rattle.mover.specs.Private.Plans.{above_made}
+use Rattle.mover.proofs.Fitting.{up_within}
+use Rattle.mover.proofs.Chains.{chain_sum, sum_fits}
 use Rattle.mover.proofs.Making.{bytes_fit}
 use Rattle.mover.proofs.plan.Accepted.home.Goals as goal
-use Rattle.mover.proofs.plan.Accepted.home.Goals.{After-times-total}
+use Rattle.mover.proofs.plan.Accepted.home.Goals.{After-map, After-sum-total}
 
--- the coordinate is one of its dimension
-pub up-requires : goal.up-requires
-up-requires c =
-    c.args.self.fit.offset c.loop-i.i c.loop-i-test.true
-
-small : (c : After-times-total) → c.times-total.result ≤ 65535 * 4294967295
-small c =
-    let i = c.loop-i.i in
-    omega (arith, c.up.ensures.1, c.args.self.fit.shape i c.loop-i-test.true, c.times-total.ensures.1)
-
-pub overflow_add-total : goal.overflow_add-total
-overflow_add-total c =
-    omega (arith, small c, c.loop-i.invariant.most, c.loop-i.invariant.within, c.args.self.fit.rank)
-
-pub loop-i-preserved : goal.loop-i-preserved
-loop-i-preserved c =
+small : (c : After-map) (i : ℕ) → i < c.args.self.answer.rank → above_made c.args.self.tensor c.args.self.config c.args.self.sizes i ≤ 65535 * 4294967295
+small c i h =
     let t = c.args.self in
-    let d = dim_of t.config c.loop-i.i in
-    let e = c.up.ensures.0 ∙ ap (λ (z : ℤ). up (is_down z) (shape_at t.tensor d) (at t.config.offset d)) (read_back (at_z t.tensor.stride d) c.up-arg-1.given) in
-    summed_more c.loop-i.invariant c.loop-i-test.true (c.times-total.ensures.0 ∙ ap (λ (n : ℕ). n * at t.sizes d) e) (small c)
+    let d = dim_of t.config i in
+    let w = c.well_formed in
+    let z : at t.sizes d ≤ 4294967295 = search (rules, arith) in
+    let u = up_within (down_at t.tensor d) (shape_at t.tensor d) (at t.config.offset d) (omega (arith, t.fit.offset i h)) in
+    let most : up (down_at t.tensor d) (shape_at t.tensor d) (at t.config.offset d) ≤ 65535 = omega (arith, t.fit.shape i h) in
+    mul-le-mul most z
+
+pub sum-total-requires-clause-fits : goal.sum-total-requires-clause-fits
+sum-total-requires-clause-fits c =
+    let t = c.args.self in
+    sum_fits t.answer.rank (above_made t.tensor t.config t.sizes) c.map.ensures.source c.map.ensures.closure (λ x r q k. search (rules, tests))
+    (65535 * 4294967295) _ (small c) (omega (arith, t.fit.rank))
+
+summed : (c : After-sum-total) → let t = c.args.self in c.sum-total.result ≡ sum t.answer.rank (above_made t.tensor t.config t.sizes)
+summed c =
+    let t = c.args.self in
+    chain_sum t.answer.rank (above_made t.tensor t.config t.sizes) c.map.ensures.source c.map.ensures.closure (λ x r q k. search (rules, tests)) c.sum-total.ensures.ran
 
 pub overflow_mul-result : goal.overflow_mul-result
 overflow_mul-result c =
-    let e = summed_end c.loop-i.invariant c.loop-i-test.false in
-    omega (arith, bytes_fit _ _ _ c.args.self.fit.rank c.args.self.fit.element e.1)
+    let t = c.args.self in
+    let fits : c.sum-total.result * t.answer.element_size < 2 ^ 64 =
+    rw (summed c) (bytes_fit t.answer.rank _ t.answer.element_size t.fit.rank t.fit.element (small (goal.at-overflow_mul-result c).After-map)) in
+    omega (arith, fits)
 
 pub returns : goal.returns
-returns c = rw (summed_end c.loop-i.invariant c.loop-i-test.false).0
-
-pub loop-i-init : goal.loop-i-init
-loop-i-init c = summed_start
+returns c = ap (λ (y : ℕ). y * c.args.self.answer.element_size) (summed c)
