@@ -1,5 +1,6 @@
-// Leaves: bytes that go through a local array, so that all of a block are read before one is stored. They know of no plan and no
-// origin: a source is a slice, whichever it is, and what a block holds is stored by a call of its own.
+// Leaves: blocks of bytes, copied from one slice to another, often into a local array or out of it; and every second byte, read into one.
+// What goes through an array is read whole before a byte is stored. They know of no plan and no origin: a source is a slice, whichever
+// it is.
 ghost use Rattle.std.specs.Prelude.{◌≡◌, ◌+◌, ◌*◌, ◌%◌, ◌≤◌, length, take, drop, slice_index};
 ghost use Rattle.std.proofs.lemmas.List.Edits.{sets};
 ghost use Rattle.mover.specs.Private.Runs.{Held, kept_bytes, run_stored};
