@@ -1,37 +1,26 @@
--- Arrays that a loop fills: element by element, with the low bytes of pairs, and with the first three of each four. Assumes nothing.
-use Rattle.std.proofs.Common.{◌≡◌, ℕ, ◌+◌, ◌-◌, ◌*◌, ◌/◌, ◌%◌, ◌<◌, ◌≤◌, min, List, length, get_or, set, ◌∙◌, ⊎_elim, not-suc-le-zero, eq-or-lt_of_le, arith, length-set, get_or-set_other, get_or-set_same}
-use native.Mathlib.Decide.{dec_lt}
+-- Arrays that a closure makes, the low bytes of pairs among them; and the first three of each four, that a loop fills. Assumes nothing.
+use Rattle.std.proofs.Common.{◌≡◌, ℕ, zero, suc, ◌+◌, ◌-◌, ◌*◌, ◌/◌, ◌%◌, ◌<◌, ◌≤◌, min, List, length, get_or, set, refl, subst, ◌∙◌, ⊎_elim, not-suc-le-zero, eq-or-lt_of_le, arith, length-set, get_or-set_other, get_or-set_same}
+use native.Mathlib.Decide.{dec_lt, ℕ_discrete}
+use denote.Param.Members.{Mut}
+use Rattle.std.specs.Fn.{Called}
+use Rattle.std.specs.Array.{IsFromFnResult, IsFromFnResultFrom}
 use Rattle.mover.specs.Private.Shuffles.{made}
 use Rattle.mover.proofs.Shuffled.{get_d_made, made_by, made_alike}
 
--- ---- element by element
+-- ---- element by element: the calls leave the closure as it is
 
--- l, of n, has its first k elements by f
-pub record Filled (n : ℕ) (f : ℕ → ℕ) (l : List ℕ) (k : ℕ) : Type 0 where
-  pub within : k ≤ n
-  pub long : length l ≡ n
-  pub first : (j : ℕ) → j < k → get_or l j 0 ≡ f j
+module _ {F : Type 0} (g : Mut F (ℕ × Unit {0}) ℕ) {f : F} (ys : List ℕ) (n : ℕ) (h : ℕ → ℕ) (call : (k y : ℕ) (q : F) → Called g f (k, tt) y q → (q ≡ f) × (y ≡ h k)) where
+  given : (m i : ℕ) (p : F) → p ≡ f → i + m ≡ n → IsFromFnResultFrom g p ys i m → (k : ℕ) → i ≤ k → k < n → get_or ys k 0 ≡ h k
+  given zero i p e s w k l m = absurd (omega arith)
+  given (suc j) i p e s w k l m =
+      let one = call i w.1 w.0 (subst (λ (u : F). Called g u (i, tt) w.1 w.0) e w.3) in
+      elim (ℕ_discrete i k) [
+        | yes q ↦ subst (λ (x : ℕ). get_or ys x 0 ≡ h x) q (w.2.1 0 ∙ one.1)
+        | no q ↦ given j (i + 1) w.0 one.0 (omega arith) w.4 k (omega arith) m
+      ]
 
-module _ (n : ℕ) (f : ℕ → ℕ) (l : List ℕ) where
-  pub fill_start : length l ≡ n → Filled n f l 0
-  fill_start e = record { within = omega arith; long = e; first = λ j h. absurd (not-suc-le-zero h) }
-
-  pub fill_more : (k : ℕ) → k < n → Filled n f l k → Filled n f (set l k (f k)) (k + 1)
-  fill_more k h a =
-      let e = a.long in
-      record {
-        within = omega arith;
-        long = length-set l k (f k) ∙ e;
-        first = λ j g.
-            let b : j ≤ k = omega arith in
-            ⊎_elim
-            (λ (x : j ≡ k). rw x (get_or-set_same l k (f k) 0 (omega arith)))
-            (λ (x : j < k). get_or-set_other l k j (f k) 0 (λ q. omega arith) ∙ a.first j x)
-            (eq-or-lt_of_le b);
-      }
-
-  pub fill_done : (k : ℕ) → Filled n f l k → n ≤ k → l ≡ made n f
-  fill_done k a h = let w = a.within in made_by n f l a.long (λ j g. a.first j (omega arith))
+  pub made_from : IsFromFnResult g f ys n → ys ≡ made n h
+  made_from w = made_by n h ys w.long (λ k l. given n 0 f refl (omega arith) w.each k (omega arith) l)
 
 -- ---- every second byte
 

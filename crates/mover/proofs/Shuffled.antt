@@ -55,7 +55,7 @@ module _ (half z k r : ℕ) (d : k % z ≡ 0) (h : r < z) where
       let p : (m + m + 1) % 2 ≡ 1 = omega arith in
       ap (turn half z) w ∙ rw (div_on (m + m + 1) r z h, mod_on (m + m + 1) r z h, q, p, one-mul) (omega arith)
 
--- ---- the loop of `zip`
+-- ---- the loop of `zipped`
 
 -- o has its first bytes, of k in each half
 pub record Zipping (t : List ℕ) (half z : ℕ) (o : List ℕ) (k : ℕ) : Type 0 where

@@ -1,11 +1,13 @@
-// Leaves: bytes that go through a local array, so that all of a block are read before one is stored. They know of no plan and no
-// origin: a source is a slice, whichever it is, and what a block holds is stored by a call of its own.
+// Leaves: blocks of bytes, copied from one slice to another, often into a local array or out of it; and every second byte, read into one.
+// What goes through an array is read whole before a byte is stored. They know of no plan and no origin: a source is a slice, whichever
+// it is.
 ghost use Rattle.std.specs.Prelude.{◌≡◌, ◌+◌, ◌*◌, ◌%◌, ◌≤◌, length, take, drop, slice_index};
 ghost use Rattle.std.proofs.lemmas.List.Edits.{sets};
 ghost use Rattle.mover.specs.Private.Runs.{Held, kept_bytes, run_stored};
 ghost use Rattle.mover.specs.Private.Shuffles.{made};
 
 use crate::elements::Course;
+use std::array;
 
 // n bytes from `at` of src to `to` of dst.
 pub(crate) fn copy_block(src: &[u8], at: usize, dst: &mut [u8], to: usize, n: usize)
@@ -36,23 +38,14 @@ fn pairs(src: &[u8], from: usize) -> [u16; 16]
     requires { from + 32 ≤ length src.now }
     ensures { result ≡ made 16 (λ k. slice_index src.now (from + 2 * k) + slice_index src.now (from + 2 * k + 1) * 256) }
 {
-    let mut a = [0u16; 16];
-    for k in 0..16 {
-        let at = from + k + k;
-        a[k] = u16::from_le_bytes([src[at], src[at + 1]]);
-    }
-    a
+    array::from_fn(|k| u16::from_le_bytes([src[from + k + k], src[from + k + k + 1]]))
 }
 
 // The low byte of each.
 fn lows(a: [u16; 16]) -> [u8; 16]
     ensures { result ≡ made 16 (λ k. slice_index a k % 256) }
 {
-    let mut o = [0u8; 16];
-    for k in 0..16 {
-        o[k] = a[k].to_le_bytes()[0];
-    }
-    o
+    a.map(|x| x.to_le_bytes()[0])
 }
 
 // Every second of 32 bytes.

@@ -31,7 +31,7 @@ pub(crate) struct Plan {
     pub(crate) d3: Axis,
 }
 
-// The whole product, which 64 bits hold.
+// The whole product, which 64 bits hold. A function, so that this is proved once.
 fn times(a: u32, b: u32) -> usize
     ensures { (result ≡ a * b) × (result ≤ a * 4294967295) }
 {
@@ -63,7 +63,8 @@ pub(crate) fn length_of(jump: usize) -> usize
     }
 }
 
-// How many strides up from the lowest element of its dimension coordinate x lies.
+// How many strides up from the lowest element of its dimension coordinate x lies. A function, so that its contract says it of both
+// directions at once.
 fn up(stride: i32, shape: u32, x: u32) -> u32
     requires { x < shape }
     ensures { (result ≡ up (is_down stride) shape x) × (result < shape) }
@@ -95,13 +96,14 @@ struct Accepted {
 }
 
 impl Accepted {
-    // How far above the lowest element of its dimension the first kept coordinate of destination dimension i lies, in elements.
+    // How far above the lowest element of its dimension the first kept coordinate of destination dimension i lies, in elements. By
+    // reference: else the whole move would be copied for each dimension.
     fn above(&self, i: usize) -> usize
         requires { i < self.now.answer.rank }
         ensures { result ≡ above_made self.now.tensor self.now.config self.now.sizes i }
     {
-        let t = self.tensor;
-        let c = self.config;
+        let t = &self.tensor;
+        let c = &self.config;
         let d = c.perm[i] as usize;
         times(up(t.stride[d], t.shape[d], c.offset[d]), self.sizes[d])
     }

@@ -5,7 +5,8 @@ ghost use Rattle.plane.specs.Moves.{move_fault, accepted};
 
 use plane::{Answer, Config, Fault, Tensor};
 
-// A move from a source of src_len bytes into a destination of dst_len bytes.
+// A move from a source of src_len bytes into a destination of dst_len bytes. The public answer has a number of refusal in every case: here
+// it becomes a Result, once, and callers go on by `?`.
 pub(crate) fn judged(t: Tensor, c: Config, src_len: usize, dst_len: usize) -> Result<Answer, Fault>
     ensures { result ≡ outcome (move_fault t c src_len dst_len) (accepted t c) }
 {

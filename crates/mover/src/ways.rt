@@ -8,7 +8,7 @@ use crate::patches::{Patch, copy_lines, copy_rows, pad_rows, swapped};
 use crate::strips::{copy_strip, copy_strips};
 use crate::tiles::Tile;
 
-// Whether there are two rows or more, and each is a run of bytes. A single one is copied in longer blocks.
+// Whether there are two rows or more, and each is a run of bytes. A single one goes as a row, which finds its own way.
 fn are_lines(p: Patch) -> bool
     ensures { result ≡ true → Lines p }
 {

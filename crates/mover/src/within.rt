@@ -10,7 +10,8 @@ use crate::verdicts::judged;
 use crate::{Advanced, Job, Part, Verdict};
 use plane::{Answer, Fault};
 
-// 20: whether a part leaves a memory of len bytes.
+// 20: whether a part leaves a memory of len bytes. Two tests one after the other, and no `||`: the second alone is what the function
+// returns, where a wrong answer (must-fail/job_refuses_all) may turn it without changing the steps.
 fn leaves(len: usize, p: Part) -> bool
     ensures { result ≡ leaves len p }
 {

@@ -24,7 +24,7 @@ pub(crate) const NO_TRANSFER: Fault = Fault { status: 23, dim: 0 };
 // The transfer is in another state.
 pub(crate) const OTHER_STATE: Fault = Fault { status: 24, dim: 0 };
 
-// How many elements a job moves over a memory of n bytes.
+// How many elements a job moves over a memory of n bytes. The mover's answer has a number of refusal in every case: here it becomes a Result.
 pub(crate) fn judged(n: usize, job: Job) -> Result<u64, Fault>
     ensures { result ≡ outcome (job_fault n job) (total_of job) }
 {
