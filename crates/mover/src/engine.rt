@@ -1,8 +1,8 @@
 // The loops of a move: destination elements in destination order, the last coordinate fastest, from any element on, until the
 // budget is spent. The innermost goes on by runs. Between two elements places go on by adding alone: after `begin`, nothing here nor
 // in what is called works a place out by multiplying or dividing. What the loops are handed was worked out and accepted by the rules.
-// Source, destination, origin and plan go through the calls side by side: a struct of them would hold the lent `dst` and hand it back,
-// and its caller could not be proved to have the same slice again.
+// Origin, destination and plan go through the calls side by side: a struct of them would hold the lent `dst` and hand it back, and its
+// caller could not be proved to have the same slice again.
 ghost use Rattle.std.specs.Prelude.{◌≡◌, ◌-◌, ◌<◌, min, true};
 ghost use Rattle.mover.specs.Private.Elements.{plan_total, moved_from};
 ghost use Rattle.mover.specs.Private.Adding.{after_run};

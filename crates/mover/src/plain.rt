@@ -128,7 +128,13 @@ fn store_row(dst: &mut [u8], row: Row<'_>, depth: u8, first: u64, end: u64) -> b
 }
 
 // The destination of an accepted move as one row, which starts at byte `place`; the source starts at byte `at`.
-pub(crate) fn outermost<'a>(t: Tensor, config: Config, origin: Origin<'a>, at: usize, place: usize) -> Row<'a>
+pub(crate) fn outermost<'a>(
+    t: Tensor,
+    config: Config,
+    origin: Origin<'a>,
+    at: usize,
+    place: usize,
+) -> Row<'a>
     ensures { result ≡ outermost_of t config origin.entry at place }
 {
     Row {
