@@ -155,7 +155,8 @@ pub fn move_plane(t: Tensor, config: Config, src: &[u8], dst: &mut [u8]) -> plan
     ensures written { dst.new ≡ move_memory t config src.now dst.old }
 {
     let a = plane::judge(t, config, src.len(), dst.len()); // it goes out as it is, refused or not
-    if a.status == 0 {
+    let is_accepted = a.status == 0;
+    if is_accepted {
         let row = outermost(t, config, Origin::Lent(src), 0, 0);
         store_row(dst, row, t.rank, 0, u64::MAX); // the end is above every number
     }

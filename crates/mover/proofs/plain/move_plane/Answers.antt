@@ -5,27 +5,27 @@ use Rattle.mover.proofs.Laws.{moved_refused}
 use Rattle.mover.proofs.Judged.{outcome_err, outcome_ok, judged_stopped, judged_move}
 use Rattle.mover.proofs.WholeRows.{move_stands, move_stored, total_most}
 use Rattle.mover.proofs.plain.move_plane.Goals as goal
-use Rattle.mover.proofs.plain.move_plane.Goals.{Then-a-eq0}
+use Rattle.mover.proofs.plain.move_plane.Goals.{Then-is_accepted}
 
 -- past the check, the move is accepted
-good : (c : Then-a-eq0) → GoodMove c.args.t c.args.config (length c.args.src.now) (length c.args.dst.now)
+good : (c : Then-is_accepted) → GoodMove c.args.t c.args.config (length c.args.src.now) (length c.args.dst.now)
 good c =
-    judged_move c.args.t c.args.config _ _ (outcome_ok c.args.t c.args.config _ _ c.judge-a.ensures c.if-a-eq0.true)
+    judged_move c.args.t c.args.config _ _ (outcome_ok c.args.t c.args.config _ _ c.judge-a.ensures c.if-is_accepted.true)
 
 pub store_row-requires-clause-stands : goal.store_row-requires-clause-stands
 store_row-requires-clause-stands c =
-    rw c.outermost-row.ensures (move_stands c.args.t c.args.config c.args.src c.args.dst.now (good (goal.at-store_row-requires-clause-stands c).Then-a-eq0))
+    rw c.outermost-row.ensures (move_stands c.args.t c.args.config c.args.src c.args.dst.now (good (goal.at-store_row-requires-clause-stands c).Then-is_accepted))
 
-pub returns-then-a-eq0 : goal.returns-then-a-eq0
-returns-then-a-eq0 c =
+pub returns-then-is_accepted : goal.returns-then-is_accepted
+returns-then-is_accepted c =
     record {
       answered = c.judge-a.ensures;
-      written = move_stored c.args.t c.args.config c.args.src c.args.dst.now (good (goal.at-returns-then-a-eq0 c).Then-a-eq0) 18446744073709551615 (total_most (good (goal.at-returns-then-a-eq0 c).Then-a-eq0)) c.outermost-row.ensures c.store_row.ensures.stored;
+      written = move_stored c.args.t c.args.config c.args.src c.args.dst.now (good (goal.at-returns-then-is_accepted c).Then-is_accepted) 18446744073709551615 (total_most (good (goal.at-returns-then-is_accepted c).Then-is_accepted)) c.outermost-row.ensures c.store_row.ensures.stored;
     }
 
-pub returns-else-a-eq0 : goal.returns-else-a-eq0
-returns-else-a-eq0 c =
+pub returns-else-is_accepted : goal.returns-else-is_accepted
+returns-else-is_accepted c =
     record {
       answered = c.judge-a.ensures;
-      written = sym (moved_refused c.args.t c.args.config c.args.src.now c.args.dst.now (judged_stopped c.args.t c.args.config _ _ (outcome_err c.args.t c.args.config _ _ c.judge-a.ensures c.if-a-eq0.false)));
+      written = sym (moved_refused c.args.t c.args.config c.args.src.now c.args.dst.now (judged_stopped c.args.t c.args.config _ _ (outcome_err c.args.t c.args.config _ _ c.judge-a.ensures c.if-is_accepted.false)));
     }
