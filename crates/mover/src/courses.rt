@@ -24,10 +24,8 @@ fn pairs_in(len: usize, at: usize, n: usize) -> usize
     if are_pairs(len, at, n) {
         return n;
     }
-    if 0 < n {
-        if are_pairs(len, at, n - 1) {
-            return n - 1;
-        }
+    if 0 < n && are_pairs(len, at, n - 1) {
+        return n - 1;
     }
     0
 }
@@ -68,12 +66,7 @@ fn copy_evens(origin: Origin<'_>, dst: &mut [u8], c: Course) -> usize
 fn are_evens(c: Course) -> bool
     ensures { result ≡ true → Evens c }
 {
-    if c.size == 1 {
-        if c.stride == 1 {
-            return c.jump == 2;
-        }
-    }
-    false
+    c.size == 1 && c.stride == 1 && c.jump == 2
 }
 
 // A run that is not side by side in both: where the compiler is told that it is in one of them, it makes a shorter loop. Out of line, so
