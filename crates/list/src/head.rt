@@ -31,18 +31,12 @@ pub(crate) fn check_list(bytes: &[u8]) -> Result<u16, Fault>
 pub fn list_fault(bytes: &[u8]) -> u8
     ensures { result ≡ (list_fault bytes.now).status }
 {
-    match check_list(bytes) {
-        Ok(_) => 0,
-        Err(fault) => fault.status,
-    }
+    check_list(bytes).err().map_or(0, |fault| fault.status)
 }
 
 // How many records there are to read: none in a refused list.
 pub fn record_count(bytes: &[u8]) -> usize
     ensures { result ≡ record_count bytes.now }
 {
-    match check_list(bytes) {
-        Ok(count) => usize::from(count),
-        Err(_) => 0,
-    }
+    check_list(bytes).map_or(0, usize::from)
 }

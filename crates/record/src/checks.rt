@@ -78,10 +78,7 @@ pub(crate) fn check_fields(version: u16, tensor: Tensor, config: Config) -> Resu
 pub(crate) fn fault_of(checked: Result<(), Fault>) -> Fault
     ensures { result ≡ fault_in checked }
 {
-    match checked {
-        Ok(()) => Fault { status: 0, dim: 0 },
-        Err(fault) => fault,
-    }
+    checked.err().unwrap_or(Fault { status: 0, dim: 0 })
 }
 
 // What a record of that version refuses of its fields.
