@@ -1,7 +1,6 @@
 -- Laws of the faults in `specs/Faults.antt`: the first of several, and a loop that looks for the lowest. Assumes nothing.
-use Prim.Native.Nat.{ℕ, zero, suc, ◌+◌, ◌-◌, ◌≤◌, ◌<◌}
+use Prim.Native.Nat.{ℕ, zero, suc, ◌-◌, ◌<◌}
 use native.Mathlib.Nat.{not-suc-le-zero, le_of_suc-le-suc, eq-or-lt_of_le}
-use native.Mathlib.Numerals.{add-one}
 use native.Mathlib.Decide.{ℕ_discrete}
 use native.Mathlib.Omega.{arith}
 use mathlib.Core.Path.{◌≡◌, refl, sym, ap, ap₂, subst, subst₂, ◌∙◌}
@@ -147,34 +146,3 @@ lowest_same num n f g h = first_same n _ _ (λ k q. ap (when num k) (h k q))
 pub outward_same : (num n : ℕ) (f g : ℕ → Bool) → ((d : ℕ) → d < n → f d ≡ g d) → outward num n f ≡ outward num n g
 unfolding outward
 outward_same num n f g h = first_same n _ _ (λ k q. ap (when num (n - suc k)) (h (n - suc k) (omega arith)))
-
--- ---- a loop over the dimensions below n that looks for the lowest bad one: where it stands at d, none below d is bad
-
-pub record Searched (num n : ℕ) (bad : ℕ → Bool) (d : ℕ) : Type 0 where
-  pub within : d ≤ n
-  pub clear : lowest num d bad ≡ none
-
-module _ {num n : ℕ} {bad : ℕ → Bool} where
-  pub searched_start : Searched num n bad 0
-  unfolding lowest first
-  searched_start = record { within = omega arith; clear = refl }
-
-  module _ {d : ℕ} (s : Searched num n bad d) where
-    pub searched_more : d < n → bad d ≡ false → Searched num n bad (d + 1)
-    unfolding lowest first
-    searched_more h b = record {
-      within = omega arith;
-      clear = ap (λ (k : ℕ). lowest num k bad) (add-one d) ∙ or_none _ _ (status s.clear) ∙ when_good num d (bad d) b;
-    }
-
-    pub searched_found : 0 < num → d < n → bad d ≡ true → fault num d ≡ lowest num n bad
-    unfolding lowest
-    searched_found p h b =
-        let w = when_bad num d (bad d) b in
-        sym (first_at n d (λ (k : ℕ). when num k (bad k)) (status s.clear) h (is_fault num d p w) ∙ w)
-
-    pub searched_end : {f : Fault} → n ≤ d → f ≡ none → f ≡ lowest num n bad
-    searched_end h e =
-        let l = s.within in
-        let q : d ≡ n = omega arith in
-        e ∙ sym (subst (λ (k : ℕ). lowest num k bad ≡ none) q s.clear)

@@ -1,6 +1,6 @@
 -- Laws of arrays, sums and products over the dimensions (`specs/Arrays.antt`), and of a loop that fills an array. Assumes nothing.
 use Prim.Native.Nat.{ℕ, zero, suc, ◌+◌, ◌*◌, ◌≤◌, ◌<◌}
-use native.Mathlib.Nat.{suc-mul, mul-pos, not-suc-le-zero, le_of_suc-le-suc, eq-or-lt_of_le}
+use native.Mathlib.Nat.{mul-pos, not-suc-le-zero, le_of_suc-le-suc, eq-or-lt_of_le}
 use native.Mathlib.Numerals.{add-one}
 use native.Mathlib.Decide.{ℕ_discrete, dec_lt}
 use native.Mathlib.Omega.{arith}
@@ -130,32 +130,6 @@ unfolding sum
 sum_same zero f g h = refl
 sum_same (suc n) f g h = ap₂ (λ (x y : ℕ). x + y) (sum_same n f g (λ k q. h k (omega arith))) (h n (omega arith))
 
--- a loop that adds terms up to n, each at most m
-pub record Summed (n : ℕ) (f : ℕ → ℕ) (m total d : ℕ) : Type 0 where
-  pub within : d ≤ n
-  pub is : total ≡ sum d f
-  pub most : total ≤ d * m
-
-module _ {n : ℕ} {f : ℕ → ℕ} {m : ℕ} where
-  pub summed_start : Summed n f m 0 0
-  unfolding sum
-  summed_start = record { within = omega arith; is = refl; most = omega arith }
-
-  module _ {total d : ℕ} (s : Summed n f m total d) where
-    pub summed_more : {v : ℕ} → d < n → v ≡ f d → v ≤ m → Summed n f m (total + v) (d + 1)
-    unfolding sum
-    summed_more {v} h e l = record {
-      within = omega arith;
-      is = ap₂ (λ (x y : ℕ). x + y) s.is e ∙ sym (ap (λ (k : ℕ). sum k f) (add-one d));
-      most = let x = s.most in let y : (d + 1) * m ≡ d * m + m = simp (add-one, suc-mul) in omega arith;
-    }
-
-    pub summed_end : n ≤ d → (total ≡ sum n f) × (total ≤ n * m)
-    summed_end h =
-        let l = s.within in
-        let q : d ≡ n = omega arith in
-        (s.is ∙ ap (λ (k : ℕ). sum k f) q, subst (λ (k : ℕ). total ≤ k * m) q s.most)
-
 pub product_same : (n : ℕ) (f g : ℕ → ℕ) → ((k : ℕ) → k < n → f k ≡ g k) → product n f ≡ product n g
 unfolding product
 product_same zero f g h = refl
@@ -191,15 +165,6 @@ unfolding some
 some_none zero p h = refl
 some_none (suc n) p h = neither _ _ (some_none n p (λ k q. h k (omega arith))) (h n (omega arith))
 
--- a loop that looks for one
-pub some_start : (p : ℕ → Bool) → some 0 p ≡ false
-unfolding some
-some_start p = refl
-
-pub some_more : (n : ℕ) (p : ℕ → Bool) → some n p ≡ false → p n ≡ false → some (n + 1) p ≡ false
-unfolding some
-some_more n p e b = ap (λ (k : ℕ). some k p) (add-one n) ∙ simp (e, b)
-
 pub some_found : (n k : ℕ) (p : ℕ → Bool) → k < n → p k ≡ true → some n p ≡ true
 unfolding some
 some_found zero k p h b = absurd (not-suc-le-zero h)
@@ -216,9 +181,6 @@ some_any p xs zero h = refl
 some_any p xs (suc i) h =
     ap (λ (k : ℕ). list_any p (take k xs)) (sym (add-one i)) ∙ list_any_more p xs i 0 (omega arith) ∙
     ap (λ (b : Bool). b || p (at xs i)) (some_any p xs i (omega arith))
-
-pub some_end : (n j : ℕ) (p : ℕ → Bool) → some j p ≡ false → j ≤ n → n ≤ j → false ≡ some n p
-some_end n j p e h l = let q : j ≡ n = omega arith in sym (subst (λ (k : ℕ). some k p ≡ false) q e)
 
 pub every_same : (n : ℕ) (p q : ℕ → Bool) → ((k : ℕ) → k < n → p k ≡ q k) → every n p ≡ every n q
 unfolding every

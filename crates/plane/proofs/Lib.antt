@@ -17,7 +17,6 @@ pub mod Resolving
 pub mod Falling
 pub mod Rules
 pub mod CountAnswers
-pub mod Products
 pub mod Ranges
 pub mod Staying
 pub mod SubAnswers
