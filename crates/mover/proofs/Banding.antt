@@ -23,10 +23,6 @@ use Rattle.mover.proofs.Places.{still_held}
 use Rattle.mover.proofs.Adding.{along_none, jumps_kept, spot_on}
 use Rattle.mover.proofs.Crossing.{rows_same, rows_at, rows_none, length_rows, rows_out, AllOff, along_cross, along_shift, columns_add}
 
--- a place in a row fits
-pub front_fits : (k m t : ℕ) → k ≤ m → m * t < 2 ^ 64 → k * t < 2 ^ 64
-front_fits k m t h f = omega (arith, mul-le-mul_right t h)
-
 -- where in a row its element k begins
 pub place_at : (a t k : ℕ) {n r : ℕ} → n ≡ k * t → r ≡ (a + n) % 2 ^ 64 → r ≡ along a t k
 unfolding along

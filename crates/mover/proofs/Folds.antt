@@ -1,7 +1,7 @@
 -- Dimensions that are one: two neighbours as one axis, the plan that has them so, and that it is the plan of the same move. Assumes
 -- nothing.
-use Rattle.std.proofs.Common.{◌≡◌, ℕ, zero, suc, ◌+◌, ◌-◌, ◌*◌, ◌%◌, ◌^◌, ◌<◌, ◌≤◌, min, Bool, true, false, not, ◌&&◌, ltb, leb, List, take, drop, sym, refl, ap, ◌∙◌, ⊎_elim, true≢false, mul-le-mul_right, mul_assoc, suc-mul, mul_comm, add-mul, mul-le-mul_left, mul-pos, one-mul, zero-add, zero-mul, mul-one, arith, le-ltb, lt-ltb, eq-eqb, ne_eqb, le-leb}
-use mathlib.Core.Bool.{beq, and_assoc, and-true}
+use Rattle.std.proofs.Common.{◌≡◌, ℕ, zero, suc, ◌+◌, ◌-◌, ◌*◌, ◌%◌, ◌^◌, ◌<◌, ◌≤◌, min, Bool, true, false, ◌&&◌, ltb, leb, List, take, drop, sym, refl, ap, ◌∙◌, ⊎_elim, mul-le-mul_right, mul_assoc, suc-mul, mul_comm, add-mul, mul-le-mul_left, mul-pos, one-mul, zero-add, zero-mul, mul-one, arith, le-ltb, lt-ltb, eq-eqb, ne_eqb, le-leb}
+use mathlib.Core.Bool.{and_assoc, and-true}
 use native.Mathlib.Nat.{min-le_right}
 use native.Mathlib.Decide.{dec_lt}
 use borrow.Author.Tests.{lt-leb}
@@ -57,13 +57,6 @@ module _ (p a e b : ℕ) (l : b < e) where
               rw (le-ltb (a - p) n u, le-ltb ((a - p) * e + b) (n * e) (omega (arith, mul-le-mul_right e u)))
         ])
   ]
-
--- two answers that are not told apart
-pub same_way : (a b : Bool) → not (beq a b) ≡ false → a ≡ b
-same_way true true e = refl
-same_way true false e = absurd (true≢false e)
-same_way false true e = absurd (true≢false e)
-same_way false false e = refl
 
 -- an outer jump that is e inner ones, in the same direction: k of them come to the same as k e inner ones
 turned : (m k n e i j : ℕ) → i < 2 ^ 64 → j < 2 ^ 64 → goes_down i ≡ goes_down j → jump_length i ≡ e * jump_length j

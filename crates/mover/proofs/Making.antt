@@ -36,10 +36,6 @@ bytes_fit n f z l s h =
     let u : sum n f ≤ 4 * (65535 * 4294967295) = omega arith in
     omega (arith, mul-le-mul u s)
 
--- a step times a stride, times an element size
-pub jump_fits : (x z : ℕ) → x ≤ 65535 * 4294967295 → z ≤ 4 → x * z < 2 ^ 64
-jump_fits x z h l = omega (arith, mul-le-mul h l)
-
 -- ---- an accepted move
 
 module _ {t : Tensor} (c : Config) (g : GoodSource t) where

@@ -67,12 +67,6 @@ unfolding rows_stored
 pads_start d p f = record { within = omega arith; place = sym (along_none p.to p.row_stride f); bytes = refl }
 
 module _ {d₀ : List ℕ} {p : Patch} {d : List ℕ} {to k : ℕ} (a : Padded d₀ p d to k) (w : PatchFits d₀ p) where
-  pub pads_length : length d ≡ length d₀
-  pads_length = ap length a.bytes ∙ length_rows (λ i j. padding p.size p.pad) p.to p.row_stride p.stride p.columns k d₀
-
-  pub pad_writes : (at : ℕ) → k < p.rows → Writable d (patch_row p at to)
-  pad_writes at h = record { sized = w.sized; held = λ j l. rw a.place (omega (arith, pads_length, w.held k j h l)) }
-
   pub pads_next : (at : ℕ) {to' : ℕ} {d' : List ℕ} → k < p.rows → d' ≡ run_padded d (patch_row p at to) → to' ≡ (to + p.row_stride) % 2 ^ 64 → Padded d₀ p d' to' (k + 1)
   unfolding rows_stored
   pads_next at h e t = record {
