@@ -2,7 +2,7 @@
 -- is what `moved_by` makes of it, and all else is as it was. Assumes nothing.
 use Rattle.std.proofs.Common.{◌≡◌, ℕ, zero, suc, ◌+◌, ◌-◌, ◌^◌, ◌<◌, ◌≤◌, min, true, ◌&&◌, ltb, leb, ◌⊎◌, List, [], ◌∷◌, ◌++◌, length, get_or, take, drop, set, sym, refl, ap, ◌∙◌, inl, inr, ⊎_elim, append_assoc, add_assoc, add-suc, suc-add, zero-add, zero-mul, arith, length-drop, length-set, take-append-drop, length-take-le, get_or-drop, get_or-take, drop-drop, ext_get_or, drop_at, set-set}
 use native.Mathlib.Nat.{sub_self, min-le_right}
-use Rattle.mover.specs.declared.elements.Origin.TheVariants.{Lent, Inside}
+use Rattle.mover.specs.declared.elements.Origin.TheVariants.{Inside}
 use lib.Seq.{sets-eq, set_comm, take-append_seam, sets, length-sets, set-append_left}
 use Rattle.mover.specs.declared.plan.Axis.{Axis}
 use Rattle.mover.specs.declared.plan.Plan.{Plan}

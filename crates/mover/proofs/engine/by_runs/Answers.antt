@@ -1,4 +1,4 @@
-use Rattle.std.proofs.Common.{◌≡◌, ◌+◌, ◌^◌, ◌<◌, Bool, ◌&&◌, length, ap, ◌∙◌, pos_of_ne-zero, arith}
+use Rattle.std.proofs.Common.{◌≡◌, ◌^◌, ◌<◌, Bool, ◌&&◌, length, ap, ◌∙◌, pos_of_ne-zero, arith}
 use Rattle.mover.specs.Private.Elements.{axis_kept}
 use Rattle.mover.specs.Private.Ready.{Ready, InExtents}
 use Rattle.mover.proofs.Turns.{At, Over, start, run_writes, run_reads, turn, next_row_lem, next_layer_lem, next_slab_lem, at_spent, at_end, at_length, at_ready}

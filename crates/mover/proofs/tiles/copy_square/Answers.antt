@@ -1,5 +1,5 @@
 -- `mover::tiles::copy_square` reads a tile, turned, and stores its rows. Assumes nothing.
-use Rattle.std.proofs.Common.{◌≡◌, ℕ, List, ◌+◌, ◌^◌, ◌<◌, length, sym, ap, ◌∙◌, arith}
+use Rattle.std.proofs.Common.{◌≡◌, ℕ, List, ◌^◌, ◌<◌, length, sym, ap, ◌∙◌, arith}
 use Rattle.mover.specs.Private.Elements.{source_bytes}
 use Rattle.mover.specs.Private.Runs.{Held}
 use Rattle.mover.specs.Private.Patches.{sixteenth_of}

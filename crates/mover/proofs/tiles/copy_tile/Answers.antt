@@ -1,5 +1,5 @@
 -- `mover::tiles::copy_tile` goes by the kind of tile. Assumes nothing.
-use Rattle.std.proofs.Common.{◌≡◌, ◌+◌, ◌^◌, ◌<◌, length, ap, ◌∙◌, subst, arith}
+use Rattle.std.proofs.Common.{◌≡◌, ◌^◌, ◌<◌, length, ap, ◌∙◌, subst, arith}
 use Rattle.mover.specs.declared.tiles.Tile.{Tile}
 use Rattle.mover.specs.Private.Patches.{Tiled, tile_columns}
 use Rattle.mover.proofs.Blocks.{rows_held}
