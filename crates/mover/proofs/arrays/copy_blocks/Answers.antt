@@ -2,7 +2,7 @@ use Rattle.std.proofs.Common.{◌≡◌, sym, ◌∙◌, refl, arith}
 use lib.Seq.{sets}
 use Rattle.mover.specs.Private.Runs.{kept_bytes}
 use Rattle.mover.proofs.Adding.{along_none, along_next}
-use Rattle.mover.proofs.Runs.{done_start, done_length, done_next, done_end}
+use Rattle.mover.proofs.Runs.{done_start, done_next}
 use Rattle.mover.proofs.arrays.copy_blocks.Goals as goal
 
 pub loop-init : goal.loop-init
@@ -12,14 +12,6 @@ loop-init c =
       sym (along_none a.at a.jump (omega (arith, c.well_formed))),
     )
 
-pub copy_block-requires : goal.copy_block-requires
-copy_block-requires c =
-    let t = c.loop-test.true in
-    let e = done_length c.loop.invariant.0 in record {
-      n_in_bounds = rw c.loop.invariant.1 (c.requires.held c.loop.counter t);
-      n_in_bounds_2 = rw c.loop.invariant.0.place (omega (arith, c.requires.held_2 c.loop.counter t, e));
-    }
-
 pub loop-preserved : goal.loop-preserved
 loop-preserved c =
     let l = c.loop in
@@ -28,6 +20,3 @@ loop-preserved c =
       done_next l.invariant.0 c.loop-test.true refl e,
       rw l.invariant.1 (along_next a.at a.jump l.counter),
     )
-
-pub returns : goal.returns
-returns c = (done_end c.loop.invariant.0 c.loop-test.false).1

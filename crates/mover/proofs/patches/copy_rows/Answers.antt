@@ -1,5 +1,5 @@
 use Rattle.std.proofs.Common.{◌∙◌, refl, arith}
-use Rattle.mover.proofs.Patched.{rows_start, rows_next, rows_end}
+use Rattle.mover.proofs.Patched.{rows_start, rows_next}
 use Rattle.mover.proofs.patches.copy_rows.Goals as goal
 use Rattle.mover.proofs.patches.copy_rows.Goals.{then-c-lt16, else-c-lt16}
 
@@ -15,6 +15,3 @@ loop-preserved c =
       | else-c-lt16 w ↦ w.dst-is ∙ (rw c.row-c.ensures at w.copy_run.ensures.written)
     ])
     refl refl
-
-pub returns : goal.returns
-returns c = rows_end c.loop.invariant c.requires.patch_fits c.requires.patch_reads c.loop-test.false

@@ -1,14 +1,7 @@
-use Rattle.std.proofs.Common.{ℕ, length, ap, ◌∙◌, arith}
-use lib.ListN.{length-replicate}
+use Rattle.std.proofs.Common.{length, ap, arith}
 use lib.Seq.{length-sets}
-use Rattle.plane.proofs.Bounds.{element_small}
-use Rattle.mover.proofs.Shuffled.{zip_start, zip_left, zip_more, zip_done}
+use Rattle.mover.proofs.Shuffled.{zip_left, zip_more, zip_done}
 use Rattle.mover.proofs.shuffles.zipped.Goals as goal
-
-pub loop-k-init : goal.loop-k-init
-loop-k-init g c =
-    let p = (element_small g.row.SIZE c.requires.sized.0).0 in
-    (zip_start c.args.t c.args.half g.row.SIZE _ p c.requires.sized.1 (omega (arith, c.well_formed, c.requires.halves)) (length-replicate {A = ℕ} g.row.N 0 ∙ c.requires.halves), omega arith)
 
 pub copy-requires : goal.copy-requires
 copy-requires g c =

@@ -67,6 +67,3 @@ pub returns-then-k-p : goal.returns-then-k-p
 returns-then-k-p c =
     let n = c.args.p.rows - c.loop-k.k in
     whole (goal.at-returns-then-k-p c).At-loop-k (its-next (goal.at-returns-then-k-p c).At-loop-k n (rest (goal.at-returns-then-k-p c).At-loop-k c.if-k-p.true) c.copy_rows.ensures refl refl) (omega arith)
-
-pub returns-else-k-p : goal.returns-else-k-p
-returns-else-k-p c = whole (goal.at-returns-else-k-p c).At-loop-k c.loop-k.invariant c.if-k-p.false

@@ -14,9 +14,6 @@ pub returns-then-rank_is_bad : goal.returns-then-rank_is_bad
 unfolding count_fault
 returns-then-rank_is_bad c = sym (halts_if 1 _ _ _ (omega arith) (sym c.rank_is_bad.ensures ∙ c.if-rank_is_bad.true))
 
-pub check_shape-requires : goal.check_shape-requires
-check_shape-requires c = (in_range _ 1 4 (sym c.rank_is_bad.ensures ∙ c.if-rank_is_bad.false)).1
-
 pub returns-in_err-check_shape : goal.returns-in_err-check_shape
 unfolding count_fault
 returns-in_err-check_shape c =

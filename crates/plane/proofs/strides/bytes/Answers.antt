@@ -1,9 +1,8 @@
 -- `plane::strides::bytes` meets its contract. Assumes nothing.
-use Prim.Native.Nat.{ℕ, ◌+◌, ◌-◌, ◌*◌, ◌≤◌, ◌<◌}
+use Prim.Native.Nat.{ℕ, ◌+◌, ◌-◌, ◌*◌, ◌<◌}
 use mathlib.Core.Path.{◌≡◌, ap, ◌∙◌}
 use mathlib.Core.List.{List}
 use native.Mathlib.Omega.{arith}
-use native.Mathlib.Nat.{mul-le-mul}
 use Rattle.plane.specs.Arrays.{at}
 use Rattle.plane.proofs.Arrays.{firsts_at, sum_same}
 use Rattle.plane.proofs.strides.bytes.Goals as goal
@@ -18,12 +17,6 @@ distance-requires c = (
   c.requires.0,
   λ d h. let e = last-at c d h in let p = c.requires.1 d h in omega arith,
 )
-
-pub overflow_mul-result : goal.overflow_mul-result
-overflow_mul-result c =
-    let s : c.args.size ≤ 255 = omega arith in
-    let l : 1 + c.distance.result ≤ 1 + 4 * (131072 * 4294967295) = omega (arith, c.distance.ensures.1) in
-    omega (arith, mul-le-mul l s)
 
 pub returns : goal.returns
 returns c =

@@ -4,12 +4,9 @@ use Rattle.std.specs.Prelude.{Ok}
 use Rattle.faults.proofs.Outcomes.{ends_if, ok_if}
 use Rattle.plane.specs.Signs.{at_z}
 use Rattle.plane.proofs.Signed.{read_back}
-use Rattle.plane.proofs.Staying.{shrunk_start, shrunk_lacks, shrunk_gone, shrunk_kept, shrunk_short, shrunk_enough, shrunk_end}
+use Rattle.plane.proofs.Staying.{shrunk_start, shrunk_gone, shrunk_kept, shrunk_short, shrunk_enough, shrunk_end}
 use Rattle.plane.proofs.sub.without_units.Goals as goal
 use Rattle.plane.proofs.sub.without_units.Goals.{else-size-i, then-size-i}
-
-pub overflow_sub-lacking : goal.overflow_sub-lacking
-overflow_sub-lacking c = shrunk_lacks _ _ _ _ c.loop-d.invariant c.loop-d-test.true c.if-size-i.true
 
 pub loop-d-preserved : goal.loop-d-preserved
 loop-d-preserved c =

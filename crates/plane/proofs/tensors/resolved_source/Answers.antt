@@ -21,10 +21,6 @@ returns-then-element_size-eq0 c =
     (goes_if 1 _ _ _ (sym c.rank_is_bad.ensures ∙ c.if-rank_is_bad.false) ∙
     halts_if 2 _ _ _ (omega arith) (eq-eqb _ _ (sym c.element_size.ensures ∙ c.if-element_size-eq0.true)))
 
--- the rank is at most 4 where the rank's test was passed
-pub check_shape-requires : goal.check_shape-requires
-check_shape-requires c = (in_range _ 1 4 (sym c.rank_is_bad.ensures ∙ c.if-rank_is_bad.false)).1
-
 pub returns-in_err-check_shape : goal.returns-in_err-check_shape
 unfolding source_fault
 returns-in_err-check_shape c =
@@ -33,10 +29,6 @@ returns-in_err-check_shape c =
     goes_if 2 _ _ _ (ne_eqb _ _ (λ z. c.if-element_size-eq0.false (c.element_size.ensures ∙ z))) ∙
     halts _ _ _ _ c.check_shape.ensures c.in_err-check_shape.was)
     (search rules)
-
-pub resolve-requires : goal.resolve-requires
-resolve-requires c =
-    (omega arith, (in_range _ 1 4 (sym c.rank_is_bad.ensures ∙ c.if-rank_is_bad.false)).1)
 
 pub returns-in_err-stride : goal.returns-in_err-stride
 unfolding source_fault
