@@ -42,13 +42,12 @@ fn copy_evens(origin: Origin<'_>, dst: &mut [u8], c: Course) -> usize
     let n = pairs_in(source(origin, dst).len(), c.at, c.n);
     let mut at = c.at;
     let mut to = c.to;
-    let mut k = 0;
-    while 16 <= n - k {
+    let blocks = n >> 4;
+    for _ in 0..blocks {
         let a = read_evens(source(origin, dst), at);
         dst[to..to + 16].copy_from_slice(&a);
         at = at.wrapping_add(32);
         to = to.wrapping_add(16);
-        k += 16;
     }
     let rest = Course {
         at,
@@ -56,7 +55,7 @@ fn copy_evens(origin: Origin<'_>, dst: &mut [u8], c: Course) -> usize
         to,
         stride: 1,
         size: 1,
-        n: c.n - k,
+        n: c.n - (blocks << 4),
         ..c
     };
     copy_each(origin, dst, rest)

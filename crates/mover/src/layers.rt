@@ -27,15 +27,14 @@ pub(crate) fn by_bands(
 {
     let start = begin(plan, from);
     let frame = frame_of(plan);
-    let mut c0 = start.c0;
-    let mut c1 = start.c1;
+    let mut first1 = start.c1;
     let mut c2 = start.c2;
     let mut c3 = start.c3;
     let mut spots = start.spots;
     let mut left = budget;
-    'all: while c0 < plan.d0.extent {
+    'all: for c0 in start.c0..plan.d0.extent {
         let kept0 = kept(true, plan.d0, c0);
-        while c1 < plan.d1.extent {
+        for c1 in first1..plan.d1.extent {
             let kept1 = kept(kept0, plan.d1, c1);
             while c2 < plan.d2.extent {
                 if left == 0 {
@@ -61,12 +60,10 @@ pub(crate) fn by_bands(
                 spots = next_row(spots, plan.d2, c2);
             }
             c2 = 0;
-            c1 += 1;
-            spots = next_layer(spots, plan.d1, c1);
+            spots = next_layer(spots, plan.d1, c1 + 1);
         }
-        c1 = 0;
-        c0 += 1;
-        spots = next_slab(spots, plan.d0, c0);
+        first1 = 0;
+        spots = next_slab(spots, plan.d0, c0 + 1);
     }
     budget - left
 }

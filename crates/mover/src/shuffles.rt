@@ -87,7 +87,7 @@ fn threes(t: [u8; 64]) -> [u8; 49]
     let mut o = [0u8; 49];
     let mut k = 0;
     let mut j = 0;
-    while j < 48 {
+    for _ in 0..16usize {
         o[j] = t[k];
         o[j + 1] = t[k + 1];
         o[j + 2] = t[k + 2];

@@ -1,6 +1,3 @@
--- `mover::engine::by_runs` meets its contract. Each loop keeps `At`: the coordinates are those of element number from + done, the
--- elements before it are moved, and the spots are its own. A loop's own start is another than the function's, so its invariant says
--- that `At`, at whatever destination the function began with, holds now if it held where the loop began. Assumes nothing.
 use Rattle.std.proofs.Common.{◌-◌}
 use Rattle.mover.proofs.Turns.{Keeps}
 use Rattle.mover.proofs.engine.by_runs.Given as goal
@@ -14,21 +11,12 @@ decreases-loop-c3 l = l.plan.d3.extent - l.c3
 
 abbrev pub invariant-loop-c2 : goal.invariant-loop-c2
 invariant-loop-c2 l =
-    Keeps l.origin l.plan l.from l.budget l.initial.dst l.c0 l.c1 l.initial.c2 l.initial.c3 l.initial.left l.initial.spots l.dst l.c0 l.c1 l.c2 l.c3 l.left l.spots
-
-abbrev pub decreases-loop-c2 : goal.decreases-loop-c2
-decreases-loop-c2 l = l.plan.d2.extent - l.c2
+    Keeps l.origin l.plan l.from l.budget l.initial.dst l.c0 l.c1 l.first2 l.initial.c3 l.initial.left l.initial.spots l.dst l.c0 l.c1 l.c2 l.c3 l.left l.spots
 
 abbrev pub invariant-loop-c1 : goal.invariant-loop-c1
 invariant-loop-c1 l =
-    Keeps l.origin l.plan l.from l.budget l.initial.dst l.c0 l.initial.c1 l.initial.c2 l.initial.c3 l.initial.left l.initial.spots l.dst l.c0 l.c1 l.c2 l.c3 l.left l.spots
-
-abbrev pub decreases-loop-c1 : goal.decreases-loop-c1
-decreases-loop-c1 l = l.plan.d1.extent - l.c1
+    Keeps l.origin l.plan l.from l.budget l.initial.dst l.c0 l.first1 l.initial.first2 l.initial.c3 l.initial.left l.initial.spots l.dst l.c0 l.c1 l.first2 l.c3 l.left l.spots
 
 abbrev pub invariant-all : goal.invariant-all
 invariant-all l =
-    Keeps l.origin l.plan l.from l.budget l.initial.dst l.initial.c0 l.initial.c1 l.initial.c2 l.initial.c3 l.initial.left l.initial.spots l.dst l.c0 l.c1 l.c2 l.c3 l.left l.spots
-
-abbrev pub decreases-all : goal.decreases-all
-decreases-all l = l.plan.d0.extent - l.c0
+    Keeps l.origin l.plan l.from l.budget l.initial.dst l.initial.c0 l.initial.first1 l.initial.first2 l.initial.c3 l.initial.left l.initial.spots l.dst l.c0 l.first1 l.first2 l.c3 l.left l.spots

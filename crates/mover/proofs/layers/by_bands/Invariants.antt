@@ -15,14 +15,9 @@ decreases-loop-c2 l = l.plan.d2.extent - l.c2
 
 abbrev pub invariant-loop-c1 : goal.invariant-loop-c1
 invariant-loop-c1 l =
-    Keeps l.origin l.plan l.from l.budget l.initial.dst l.c0 l.initial.c1 l.initial.c2 l.initial.c3 l.initial.left l.initial.spots l.dst l.c0 l.c1 l.c2 l.c3 l.left l.spots × (l.initial.c3 < l.plan.d3.extent → l.c3 < l.plan.d3.extent)
-
-abbrev pub decreases-loop-c1 : goal.decreases-loop-c1
-decreases-loop-c1 l = l.plan.d1.extent - l.c1
+    Keeps l.origin l.plan l.from l.budget l.initial.dst l.c0 l.first1 l.initial.c2 l.initial.c3 l.initial.left l.initial.spots l.dst l.c0 l.c1 l.c2 l.c3 l.left l.spots × (l.initial.c3 < l.plan.d3.extent → l.c3 < l.plan.d3.extent)
 
 abbrev pub invariant-all : goal.invariant-all
 invariant-all l =
-    Keeps l.origin l.plan l.from l.budget l.initial.dst l.initial.c0 l.initial.c1 l.initial.c2 l.initial.c3 l.initial.left l.initial.spots l.dst l.c0 l.c1 l.c2 l.c3 l.left l.spots × (l.initial.c3 < l.plan.d3.extent → l.c3 < l.plan.d3.extent)
+    Keeps l.origin l.plan l.from l.budget l.initial.dst l.initial.c0 l.initial.first1 l.initial.c2 l.initial.c3 l.initial.left l.initial.spots l.dst l.c0 l.first1 l.c2 l.c3 l.left l.spots × (l.initial.c3 < l.plan.d3.extent → l.c3 < l.plan.d3.extent)
 
-abbrev pub decreases-all : goal.decreases-all
-decreases-all l = l.plan.d0.extent - l.c0
