@@ -2,7 +2,8 @@
 // case and order and that a contract leaves no outcome open, is said here once, for rules of any kind.
 #![tactic(auto)]
 
-// A number of refusal and the dimension that it names; number 0 is no fault.
+// A number of refusal and the dimension that it names; number 0 is no fault. A number and no enum: it is the paper's, and stands in every
+// public answer.
 #[derive(Clone, Copy)]
 pub struct Fault {
     pub status: u8,

@@ -12,7 +12,7 @@ pub(crate) fn kept(outer: bool, x: Axis, c: usize) -> bool
     outer && x.pre <= c && c - x.pre < x.count
 }
 
-// Neighbours in a row, or rows, that are all kept or all padding.
+// Neighbours in a row, or rows, that are all kept or all padding: n counts in both cases.
 #[derive(Clone, Copy)]
 pub(crate) struct Run {
     pub(crate) kept: bool,

@@ -33,7 +33,8 @@ pub(crate) fn copy_blocks(src: &[u8], dst: &mut [u8], c: Course)
     }
 }
 
-// 16 pairs of bytes, each as one number, so that the compiler takes them all at once.
+// 16 pairs of bytes, each as one number, so that the compiler takes them all at once. By their places: of the elements of chunks nothing is
+// known afterwards.
 fn pairs(src: &[u8], from: usize) -> [u16; 16]
     requires { from + 32 ≤ length src.now }
     ensures { result ≡ made 16 (λ k. slice_index src.now (from + 2 * k) + slice_index src.now (from + 2 * k + 1) * 256) }

@@ -14,7 +14,7 @@ use crate::spots::{Spot, Spots, next_row};
 use crate::start::spot_at;
 use crate::ways::{copy_patch, pad_patch};
 
-// Whole rows that are all kept or all padding, as far as the coordinates outside of them tell.
+// Whole rows that are all kept or all padding, as far as the coordinates outside of them tell: rows and elements count in both cases.
 #[derive(Clone, Copy)]
 pub(crate) struct Band {
     pub(crate) kept: bool,

@@ -86,7 +86,7 @@ pub(crate) fn copy_each(origin: Origin<'_>, dst: &mut [u8], c: Course) -> usize
     to
 }
 
-// A padded element at `to`: the first of the four bytes.
+// A padded element at `to`: the first of the four bytes, in straight code for each size, as in `copy`.
 fn pad(dst: &mut [u8], to: usize, size: usize, four: [u8; 4])
     requires sized { Sized size }
     requires size_in_bounds { to + size ≤ length dst.old }

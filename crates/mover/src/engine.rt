@@ -55,7 +55,7 @@ pub(crate) fn by_runs(
     ensures written { dst.new ≡ moved_from origin.entry plan dst.old from result }
 {
     let start = begin(plan, from);
-    let mut first1 = start.c1;
+    let mut first1 = start.c1; // where the coordinates begin: the next slabs and layers begin at 0
     let mut first2 = start.c2;
     let mut c3 = start.c3;
     let mut spots = start.spots;

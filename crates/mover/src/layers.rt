@@ -27,7 +27,7 @@ pub(crate) fn by_bands(
 {
     let start = begin(plan, from);
     let frame = frame_of(plan);
-    let mut first1 = start.c1;
+    let mut first1 = start.c1; // where the coordinate begins: in the next slabs at 0
     let mut c2 = start.c2;
     let mut c3 = start.c3;
     let mut spots = start.spots;

@@ -31,7 +31,7 @@ pub(crate) struct Plan {
     pub(crate) d3: Axis,
 }
 
-// The whole product, which 64 bits hold. A function, so that this is proved once.
+// The whole product, which 64 bits hold, as `times` of `plane`: one line, and one place for both would be a public call.
 fn times(a: u32, b: u32) -> usize
     ensures { (result ≡ a * b) × (result ≤ a * 4294967295) }
 {

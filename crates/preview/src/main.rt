@@ -1,5 +1,5 @@
 // preview: a small picture becomes a thumbnail and a turned picture, and colour and alpha become one plane. A program to copy from:
-// first a whole move between two lent slices, then two planes joined by two moves, then two transfers that take turns over one memory,
+// first a whole move between two lent slices, and another of the picture upside down, then two planes joined by two moves, then two transfers that take turns over one memory,
 // then one in room that a keeper grants, then the same two moves as a list of records, written and gone through, then single pixels of a
 // thumbnail in a frame, and its record by itself, and at last a record that asks for more than anybody would lend.
 #![tactic(auto)]

@@ -4,6 +4,7 @@
 
 ghost use Rattle.std.specs.Prelude.{◌≡◌, ◌≤◌, get_or};
 ghost use Rattle.plane.specs.Arrays.{firsts_or};
+ghost use Rattle.plane.specs.Settings.{with_pre, with_post, with_dst_stride};
 ghost use Rattle.ready_made.specs.ReadyMade.{defaults, cut_to, made_for, copy_of, slice_of, concatenate_of, subsample_of, permute_of, pad_chw_of, pad_hwc_of, all_of};
 
 use plane::{Config, rank_is_bad};
@@ -104,24 +105,26 @@ pub fn permute(rank: u8, perm: [u8; 4]) -> Made
     made_for(rank, defaults().with_perm(perm))
 }
 
+// Padding around H and W of a plane of rank 3, in either order of its dimensions.
+fn padded(pre: [u8; 4], post: [u8; 4], dst_stride: [u32; 4]) -> Config
+    ensures { result ≡ cut_to 3 (with_dst_stride (with_post (with_pre defaults pre) post) dst_stride) }
+{
+    let c = defaults().with_pre(pre).with_post(post);
+    cut_to(3, c.with_dst_stride(dst_stride))
+}
+
 // Padding around H and W of a plane in CHW order, of rank 3.
 pub fn pad_chw(left: u8, right: u8, top: u8, bottom: u8, dst_stride: [u32; 4]) -> Config
     ensures { result ≡ pad_chw_of left right top bottom dst_stride }
 {
-    let c = defaults()
-        .with_pre([0, top, left, 0])
-        .with_post([0, bottom, right, 0]);
-    cut_to(3, c.with_dst_stride(dst_stride))
+    padded([0, top, left, 0], [0, bottom, right, 0], dst_stride)
 }
 
 // Padding around H and W of a plane in HWC order, of rank 3.
 pub fn pad_hwc(left: u8, right: u8, top: u8, bottom: u8, dst_stride: [u32; 4]) -> Config
     ensures { result ≡ pad_hwc_of left right top bottom dst_stride }
 {
-    let c = defaults()
-        .with_pre([top, left, 0, 0])
-        .with_post([bottom, right, 0, 0]);
-    cut_to(3, c.with_dst_stride(dst_stride))
+    padded([top, left, 0, 0], [bottom, right, 0, 0], dst_stride)
 }
 
 // Every array as given.

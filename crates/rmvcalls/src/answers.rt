@@ -19,7 +19,7 @@ const LINE: usize = 2 * LONGEST + 1;
 
 const DIGITS: [u8; 16] = *b"0123456789abcdef";
 
-// An answer's line so far, and how long it is. A character that has no place is left out.
+// An answer's line so far, and how long it is: no String, since the programs set no memory aside. A character that has no place is left out.
 #[derive(Drop)]
 pub(crate) struct Out {
     text: [u8; LINE],

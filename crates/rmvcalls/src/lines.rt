@@ -5,7 +5,7 @@ use crate::no_call::NoCall;
 // The longest call: a move with source and destination.
 pub(crate) const LONGEST: usize = 2 * ROOM + 4096;
 
-// A line so far: how many digits it has, or why it is no call; and the bytes that the digits make.
+// A line so far: how many digits it has, or why it is no call; and the bytes that the digits make, in room of a fixed size.
 #[derive(Drop)]
 pub(crate) struct Line {
     digits: Result<usize, NoCall>,

@@ -1,6 +1,6 @@
 // Which call a number is: docs/CALLS.md as code. A call's arguments are named in their order on the line, and their types are those
 // that the library's call takes: t is a tensor record, c a configuration, and s a sub-tensor's. Each call is a closure, of one argument
-// too: the path of another crate's function in its place is not proved.
+// too: of a function that stands in a private module of its crate, no path is proved.
 use crate::answers::Out;
 use crate::args::Counted;
 use crate::calls::Call;

@@ -4,7 +4,7 @@ use std::env::{Env, FillError};
 
 const DIGITS: usize = 10; // of the longest number
 
-// One to four numbers, with 0 behind them.
+// One to four numbers, with 0 behind them, as a pixel's coordinate is asked for.
 #[derive(Clone, Copy)]
 pub(crate) struct Coordinate {
     pub(crate) count: usize,

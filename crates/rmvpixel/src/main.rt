@@ -25,7 +25,7 @@ fn show(rt: &impl Print, record: &[u8], source: &[u8], x: Coordinate) -> io::Res
     lines::pixel(rt, p, t.element_size)
 }
 
-// What follows the record is the source, up to SOURCE bytes; the rest is not read.
+// What follows a whole record is the source, up to SOURCE bytes; the rest is not read.
 fn main(rt: HostRuntime) -> io::Result<()> {
     let Ok(x) = coordinates::given(&rt) else {
         return lines::no_coordinate(&rt);
@@ -34,6 +34,11 @@ fn main(rt: HostRuntime) -> io::Result<()> {
     let mut bytes = [0u8; record::FILLED_LENGTH];
     let mut source = [0u8; SOURCE];
     let record = read_record(&mut reader, &mut bytes)?;
-    let m = read_full(&mut reader, &mut source)?;
+    let is_whole = record.len() == record::length_in(record);
+    let m = if is_whole {
+        read_full(&mut reader, &mut source)?
+    } else {
+        0
+    };
     show(&rt, record, &source[..m], x)
 }

@@ -70,7 +70,7 @@ pub struct Stepped {
     pub table: Table,
 }
 
-// What a slot is, with how many elements are left.
+// What a slot is, with how many elements are left; or the number of refusal, as the other answers have it.
 #[derive(Clone, Copy)]
 pub enum Poll {
     Free,
