@@ -2,13 +2,12 @@ use Rattle.std.proofs.Common.{◌/◌, ◌%◌, ℕ, subst, ◌≡◌, ◌+◌, 
 use lib.Seq.{sets}
 use Rattle.mover.specs.Private.Elements.{source_bytes}
 use Rattle.mover.specs.Private.Adding.{along}
-use Rattle.mover.specs.Private.Runs.{run_copied, kept_bytes}
+use Rattle.mover.specs.Private.Runs.{run_copied}
 use Rattle.mover.specs.Private.Shuffles.{made}
 use Rattle.mover.proofs.Blocking.{part_put}
 use Rattle.mover.proofs.Bytes.{short_source}
-use Rattle.mover.proofs.Runs.{length_run}
 use Rattle.mover.proofs.Shuffled.{length_made}
-use Rattle.mover.proofs.Evening.{evens_left, Evened, evened_start, evened_asks, evened_end, evened_reads, evened_writes, evened_more}
+use Rattle.mover.proofs.Evening.{evens_left, evened_start, evened_asks, evened_end, evened_reads, evened_writes, evened_more}
 use Rattle.mover.proofs.courses.copy_evens.Goals as goal
 use Rattle.mover.proofs.courses.copy_evens.Goals.{At-loop, In-loop}
 
@@ -35,8 +34,6 @@ pub slice_bounds-copy_from_slice-end : goal.slice_bounds-copy_from_slice-end
 slice_bounds-copy_from_slice-end c =
     evened_writes c.loop.invariant c.requires.writable c.requires.readable c.pairs_in-n.ensures.0 c.requires.evens (lies (goal.at.slice_bounds-copy_from_slice-end c).At-loop) (short-source (goal.at.slice_bounds-copy_from_slice-end c).At-loop) (short (goal.at.slice_bounds-copy_from_slice-end c).At-loop) (sixteen (goal.at.slice_bounds-copy_from_slice-end c).In-loop)
 
-
-
 pub loop-preserved : goal.loop-preserved
 loop-preserved c =
     let l = c.loop in
@@ -50,10 +47,6 @@ loop-preserved c =
     stored refl refl in
     let e : (c.loop.counter + 1) * 16 ≡ c.loop.counter * 16 + 16 = omega arith in
     rw e more
-
-
-
-
 
 pub loop-init : goal.loop-init
 loop-init c =
@@ -77,8 +70,8 @@ pub returns : goal.returns
 returns c =
     let e = ended c.pairs_in-n.result c.loop.counter (omega (arith, c.pairs_in-n.ensures.0, c.well_formed)) c.loop-test.false c.loop.auto.counter-end in
     let told = evened_end c.loop.invariant c.requires.writable c.requires.readable c.pairs_in-n.ensures.0 c.requires.evens
-      (subst (λ (y : ℕ). c.copy_each.result ≡ along c.loop.to 1 (c.args.c.n - y)) e c.copy_each.ensures.next)
-      (subst (λ (y : ℕ). c.copy_each.new.dst ≡ run_copied c.args.origin c.loop.dst (evens_left c.args.c c.loop.at c.loop.to y)) e c.copy_each.ensures.written) in record {
+    (subst (λ (y : ℕ). c.copy_each.result ≡ along c.loop.to 1 (c.args.c.n - y)) e c.copy_each.ensures.next)
+    (subst (λ (y : ℕ). c.copy_each.new.dst ≡ run_copied c.args.origin c.loop.dst (evens_left c.args.c c.loop.at c.loop.to y)) e c.copy_each.ensures.written) in record {
       next = told.0;
       written = told.1;
     }

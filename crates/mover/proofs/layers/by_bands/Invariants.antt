@@ -20,4 +20,3 @@ invariant-loop-c1 l =
 abbrev pub invariant-all : goal.invariant-all
 invariant-all l =
     Keeps l.origin l.plan l.from l.budget l.initial.dst l.initial.c0 l.initial.first1 l.initial.c2 l.initial.c3 l.initial.left l.initial.spots l.dst l.c0 l.first1 l.c2 l.c3 l.left l.spots × (l.initial.c3 < l.plan.d3.extent → l.c3 < l.plan.d3.extent)
-

@@ -1,4 +1,4 @@
-use Rattle.std.proofs.Common.{◌≡◌, ◌*◌, ◌/◌, refl, arith}
+use Rattle.std.proofs.Common.{refl, arith}
 use Rattle.mover.proofs.Filling.{threes_start, threes_more, threes_done}
 use Rattle.mover.proofs.shuffles.threes.Goals as goal
 
