@@ -5,7 +5,7 @@ ghost use Rattle.plane.specs.Moves.{dst_extents, config_fault, dst_fault, accept
 ghost use Rattle.plane.specs.Private.{IsExtent};
 
 use crate::extents::{check_extent, dst_extents};
-use crate::refusals::{check_dst_offset, check_offset, check_perm, check_size, check_step};
+use crate::refusals::{Rank, check_dst_offset, check_offset, check_perm, check_size, check_step};
 use crate::strides::{bytes, resolve};
 use crate::{Answer, Config, Fault, Tensor};
 
@@ -14,10 +14,11 @@ fn check_config(t: Tensor, c: Config) -> Result<(), Fault>
     requires { t.rank ≤ 4 }
     ensures { result ≡ outcome (config_fault t c) tt }
 {
-    check_perm(t.rank, c.perm)?;
-    check_offset(t.rank, t.shape, c.offset)?;
-    check_size(t.rank, t.shape, c.offset, c.size)?;
-    check_step(t.rank, c.step)?;
+    let rank = Rank { n: t.rank };
+    check_perm(rank, c.perm)?;
+    check_offset(rank, t.shape, c.offset)?;
+    check_size(rank, t.shape, c.offset, c.size)?;
+    check_step(rank, c.step)?;
     check_extent(t, c)
 }
 
@@ -27,8 +28,9 @@ fn placement(t: Tensor, c: Config, extent: [u32; 4]) -> Result<Answer, Fault>
     ensures { result ≡ outcome (dst_fault t c) (accepted t c) }
 {
     let written = c.dst_stride;
-    let stride = resolve(11, t.rank, extent, written)?;
-    check_dst_offset(t.rank, extent, stride, c.dst_offset)?;
+    let rank = Rank { n: t.rank };
+    let stride = resolve(11, rank, extent, written)?;
+    check_dst_offset(rank, extent, stride, c.dst_offset)?;
     Ok(Answer {
         status: 0,
         dim: 0,
@@ -36,7 +38,7 @@ fn placement(t: Tensor, c: Config, extent: [u32; 4]) -> Result<Answer, Fault>
         element_size: t.element_size,
         extent,
         stride,
-        need: bytes(t.rank, c.dst_offset, extent, stride, t.element_size),
+        need: bytes(rank, c.dst_offset, extent, stride, t.element_size),
     })
 }
 

@@ -5,7 +5,7 @@ ghost use Rattle.plane.specs.Planes.{element_size};
 ghost use Rattle.faults.specs.Faults.{outcome};
 ghost use Rattle.plane.specs.Helpers.{count_fault, count_of, elements};
 
-use crate::refusals::{check_shape, rank_is_bad};
+use crate::refusals::{Rank, check_shape};
 use crate::{Count, Fault, Tensor};
 
 // The element size in bytes, 1 to 4, and 0 for one that is not taken. No Option: the 0 is promised to callers outside.
@@ -16,25 +16,23 @@ pub fn element_size(size: u8) -> u8
 }
 
 // The product of the shapes from a start dimension on. 64 bits hold it: there are four at most, of 65,535 at most.
-fn product_from(n: u8, shape: [u32; 4], start: u8) -> u64
-    requires { (n ≤ 4) × ((d : ℕ) → d < n → at shape d ≤ 65535) }
-    ensures { result ≡ product (n - start) (λ k. at shape (start + k)) }
+fn product_from(rank: Rank, shape: [u32; 4], start: u8) -> u64
+    requires { (d : ℕ) → d < rank.n → at shape d ≤ 65535 }
+    ensures { result ≡ product (rank.n - start) (λ k. at shape (start + k)) }
 {
-    (start..n).map(|d| shape[d as usize] as u64).product()
+    (start..rank.n).map(|d| shape[d as usize] as u64).product()
 }
 
 // The count, or 1, 3 or 16.
 fn counted(t: Tensor, start: u32) -> Result<u64, Fault>
     ensures { result ≡ outcome (count_fault t start) (elements t start) }
 {
-    if rank_is_bad(t.rank) {
-        return Err(Fault { status: 1, dim: 0 });
-    }
-    check_shape(t.rank, t.shape)?;
+    let rank = Rank::new(t.rank)?;
+    check_shape(rank, t.shape)?;
     if (t.rank as u32) <= start {
         return Err(Fault { status: 16, dim: 0 });
     }
-    Ok(product_from(t.rank, t.shape, start as u8))
+    Ok(product_from(rank, t.shape, start as u8))
 }
 
 // How many elements there are from a start dimension on; all of them from 0 on.

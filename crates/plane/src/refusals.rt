@@ -1,9 +1,7 @@
-// The rules that name the lowest dimension at fault, a function each. n is the rank; entries at or past it are not read.
-// Here and in the files beside each function asks for `n ≤ 4` by itself: a rank is a public u8, so a type for a checked one would be made in
-// each public call and unwrapped at each use.
-ghost use Rattle.std.specs.Prelude.{◌≡◌, ℕ, ◌+◌, ◌≤◌, ◌<◌, Bool, eqb};
+// The rules that name the lowest dimension at fault, a function each. Entries at or past the rank are not read.
+ghost use Rattle.std.specs.Prelude.{◌≡◌, ℕ, ◌+◌, ◌≤◌, ◌<◌, Bool, eqb, IfOk, IfErr, true, false};
 ghost use Rattle.plane.specs.Arrays.{at, some};
-ghost use Rattle.faults.specs.Faults.{lowest, outcome};
+ghost use Rattle.faults.specs.Faults.{fault, lowest, outcome};
 ghost use Rattle.plane.specs.Planes.{bad_rank, bad_shape};
 ghost use Rattle.plane.specs.Moves.{bad_perm_at, bad_offset, bad_size, bad_step, bad_dst_offset_at};
 ghost use Rattle.plane.specs.Private.{IsExtent, Tells};
@@ -16,6 +14,27 @@ pub fn rank_is_bad(n: u8) -> bool
     ensures { result ≡ bad_rank n }
 {
     (n < 1) | (4 < n)
+}
+
+// A rank of 4 at most: each dimension below it has an entry. A function that takes the record asks for `t.rank ≤ 4` and makes it itself: of
+// one handed down it would have to ask that it is the record's.
+#[derive(Clone, Copy)]
+pub(crate) struct Rank {
+    pub(crate) n: u8,
+    ghost small: { n ≤ 4 },
+}
+
+impl Rank {
+    // 1: the rank, unless it is refused.
+    pub(crate) fn new(n: u8) -> Result<Rank, Fault>
+        ensures made { IfOk result (λ r. (bad_rank n ≡ false) × (r.n ≡ n)) }
+        ensures refused { IfErr result (λ e. (bad_rank n ≡ true) × (e ≡ fault 1 0)) }
+    {
+        if rank_is_bad(n) {
+            return Err(Fault { status: 1, dim: 0 });
+        }
+        Ok(Rank { n })
+    }
 }
 
 // Refuses with that number the lowest of n dimensions that is bad. `bad` stands for whatever the test tells.
@@ -36,11 +55,10 @@ pub(crate) fn check_each<F: Fn(usize) -> bool>(status: u8, n: u8, is_bad: F) -> 
 }
 
 // 3
-pub(crate) fn check_shape(n: u8, shape: [u32; 4]) -> Result<(), Fault>
-    requires { n ≤ 4 }
-    ensures { result ≡ outcome (lowest 3 n (λ d. bad_shape (at shape d))) tt }
+pub(crate) fn check_shape(rank: Rank, shape: [u32; 4]) -> Result<(), Fault>
+    ensures { result ≡ outcome (lowest 3 rank.n (λ d. bad_shape (at shape d))) tt }
 {
-    check_each(3, n, |d| (shape[d] < 1) | (65535 < shape[d]))
+    check_each(3, rank.n, |d| (shape[d] < 1) | (65535 < shape[d]))
 }
 
 // Whether entry i equals an earlier one.
@@ -52,19 +70,17 @@ fn is_repeated(perm: [u8; 4], i: usize) -> bool
 }
 
 // 6
-pub(crate) fn check_perm(n: u8, perm: [u8; 4]) -> Result<(), Fault>
-    requires { n ≤ 4 }
-    ensures { result ≡ outcome (lowest 6 n (bad_perm_at n (at perm))) tt }
+pub(crate) fn check_perm(rank: Rank, perm: [u8; 4]) -> Result<(), Fault>
+    ensures { result ≡ outcome (lowest 6 rank.n (bad_perm_at rank.n (at perm))) tt }
 {
-    check_each(6, n, |i| (n <= perm[i]) | is_repeated(perm, i))
+    check_each(6, rank.n, |i| (rank.n <= perm[i]) | is_repeated(perm, i))
 }
 
 // 7
-pub(crate) fn check_offset(n: u8, shape: [u32; 4], offset: [u32; 4]) -> Result<(), Fault>
-    requires { n ≤ 4 }
-    ensures { result ≡ outcome (lowest 7 n (λ d. bad_offset (at shape d) (at offset d))) tt }
+pub(crate) fn check_offset(rank: Rank, shape: [u32; 4], offset: [u32; 4]) -> Result<(), Fault>
+    ensures { result ≡ outcome (lowest 7 rank.n (λ d. bad_offset (at shape d) (at offset d))) tt }
 {
-    check_each(7, n, |d| shape[d] <= offset[d])
+    check_each(7, rank.n, |d| shape[d] <= offset[d])
 }
 
 // Whether a part of this size at this offset runs past the shape. The sum needs more than 32 bits.
@@ -76,23 +92,21 @@ pub(crate) fn size_is_bad(shape: u32, offset: u32, size: u32) -> bool
 
 // 8
 pub(crate) fn check_size(
-    n: u8,
+    rank: Rank,
     shape: [u32; 4],
     offset: [u32; 4],
     size: [u32; 4],
 ) -> Result<(), Fault>
-    requires { n ≤ 4 }
-    ensures { result ≡ outcome (lowest 8 n (λ d. bad_size (at shape d) (at offset d) (at size d))) tt }
+    ensures { result ≡ outcome (lowest 8 rank.n (λ d. bad_size (at shape d) (at offset d) (at size d))) tt }
 {
-    check_each(8, n, |d| size_is_bad(shape[d], offset[d], size[d]))
+    check_each(8, rank.n, |d| size_is_bad(shape[d], offset[d], size[d]))
 }
 
 // 9
-pub(crate) fn check_step(n: u8, step: [u32; 4]) -> Result<(), Fault>
-    requires { n ≤ 4 }
-    ensures { result ≡ outcome (lowest 9 n (λ d. bad_step (at step d))) tt }
+pub(crate) fn check_step(rank: Rank, step: [u32; 4]) -> Result<(), Fault>
+    ensures { result ≡ outcome (lowest 9 rank.n (λ d. bad_step (at step d))) tt }
 {
-    check_each(9, n, |d| (step[d] == 0) | (65535 < step[d]))
+    check_each(9, rank.n, |d| (step[d] == 0) | (65535 < step[d]))
 }
 
 // Whether the offset of dimension k is bad. No stride stands before the first dimension: besides 65,535 the room alone bounds it.
@@ -112,13 +126,13 @@ fn dst_offset_is_bad(k: usize, extent: [u32; 4], stride: [u32; 4], offset: [u32;
 
 // 12: strides are the resolved ones.
 pub(crate) fn check_dst_offset(
-    n: u8,
+    rank: Rank,
     extent: [u32; 4],
     stride: [u32; 4],
     offset: [u32; 4],
 ) -> Result<(), Fault>
-    requires { (n ≤ 4) × ((i : ℕ) → i < n → IsExtent extent i) }
-    ensures { result ≡ outcome (lowest 12 n (bad_dst_offset_at (at extent) (at stride) (at offset))) tt }
+    requires { (i : ℕ) → i < rank.n → IsExtent extent i }
+    ensures { result ≡ outcome (lowest 12 rank.n (bad_dst_offset_at (at extent) (at stride) (at offset))) tt }
 {
-    check_each(12, n, |i| dst_offset_is_bad(i, extent, stride, offset))
+    check_each(12, rank.n, |i| dst_offset_is_bad(i, extent, stride, offset))
 }

@@ -5,7 +5,7 @@ ghost use Rattle.plane.specs.Planes.{source_fault, source_of};
 ghost use Rattle.plane.specs.Private.{source_accepted};
 
 use crate::helpers::element_size;
-use crate::refusals::{check_shape, rank_is_bad};
+use crate::refusals::{Rank, check_shape};
 use crate::signs::sizes;
 use crate::strides::{bytes, resolve};
 use crate::zeros::no_fault;
@@ -15,18 +15,16 @@ use crate::{Fault, Source, Tensor};
 pub(crate) fn resolved_source(t: Tensor) -> Result<Source, Fault>
     ensures { result ≡ outcome (source_fault t) (source_accepted t) }
 {
-    if rank_is_bad(t.rank) {
-        return Err(Fault { status: 1, dim: 0 });
-    }
+    let rank = Rank::new(t.rank)?;
     if element_size(t.element_size) == 0 {
         return Err(Fault { status: 2, dim: 0 });
     }
-    check_shape(t.rank, t.shape)?;
-    let stride = resolve(4, t.rank, t.shape, sizes(t.stride))?;
+    check_shape(rank, t.shape)?;
+    let stride = resolve(4, rank, t.shape, sizes(t.stride))?;
     Ok(Source {
         fault: no_fault(),
         stride,
-        span: bytes(t.rank, [0u32; 4], t.shape, stride, t.element_size),
+        span: bytes(rank, [0u32; 4], t.shape, stride, t.element_size),
     })
 }
 

@@ -25,13 +25,10 @@ returns-in_err-check_dst_offset c =
     (search rules)
 
 pub bytes-requires : goal.bytes-requires
-bytes-requires c = (
-  c.requires.0,
-  λ d h.
-      let p = c.requires.2 d h in
-      let q = place_offset_small c.args.t c.args.c _ _ (clear _ _ c.check_dst_offset.ensures c.in_ok-check_dst_offset.was) d h in
-      (p.0, omega arith),
-)
+bytes-requires c = λ d h.
+    let p = c.requires.2 d h in
+    let q = place_offset_small c.args.t c.args.c _ _ (clear _ _ c.check_dst_offset.ensures c.in_ok-check_dst_offset.was) d h in
+    (p.0, omega arith)
 
 pub returns : goal.returns
 unfolding dst_fault

@@ -9,17 +9,14 @@ use Rattle.plane.proofs.strides.bytes.Goals as goal
 use Rattle.plane.proofs.strides.bytes.Goals.{After-last}
 
 -- the last coordinate is the offset and the extent less 1
-last-at : (c : After-last) (d : ℕ) → d < c.args.n → at c.last.result d ≡ at c.args.offset d + at c.args.extent d - 1
-last-at c d h = ap (λ (l : List ℕ). at l d) c.last.ensures ∙ firsts_at 0 _ _ d c.requires.0 h
+last-at : (c : After-last) (d : ℕ) → d < c.args.rank.n → at c.last.result d ≡ at c.args.offset d + at c.args.extent d - 1
+last-at c d h = ap (λ (l : List ℕ). at l d) c.last.ensures ∙ firsts_at 0 _ _ d c.args.rank.small h
 
 pub distance-requires : goal.distance-requires
-distance-requires c = (
-  c.requires.0,
-  λ d h. let e = last-at c d h in let p = c.requires.1 d h in omega arith,
-)
+distance-requires c = λ d h. let e = last-at c d h in let p = c.requires d h in omega arith
 
 pub returns : goal.returns
 returns c =
     let s = c.args in
     ap (λ (x : ℕ). (1 + x) * s.size)
-    (c.distance.ensures.0 ∙ sum_same s.n _ _ (λ d h. ap (λ (x : ℕ). x * at s.stride d) (last-at c.before d h)))
+    (c.distance.ensures.0 ∙ sum_same s.rank.n _ _ (λ d h. ap (λ (x : ℕ). x * at s.stride d) (last-at c.before d h)))

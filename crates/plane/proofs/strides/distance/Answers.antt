@@ -15,26 +15,26 @@ abbrev term : After-map → ℕ → ℕ
 term c d = at c.args.count d * at c.args.stride d
 
 -- so many of them
-few : (c : After-map) (k : ℕ) → k ≤ c.args.n → sum k (term c) ≤ k * (131072 * 4294967295)
+few : (c : After-map) (k : ℕ) → k ≤ c.args.rank.n → sum k (term c) ≤ k * (131072 * 4294967295)
 few c k h =
     let m : (d : ℕ) → d < 4 → at c.args.stride d ≤ 4294967295 = search rules in
-    let s = c.requires.0 in
-    sum_most k (term c) (131072 * 4294967295) (λ d l. mul-le-mul (c.requires.1 d (omega arith)) (m d (omega arith)))
+    let s = c.args.rank.small in
+    sum_most k (term c) (131072 * 4294967295) (λ d l. mul-le-mul (c.requires d (omega arith)) (m d (omega arith)))
 
 pub sum-requires-clause-fits : goal.sum-requires-clause-fits
 sum-requires-clause-fits c =
-    let n = c.args.n in
+    let n = c.args.rank.n in
     sum_fits (term c) 0 n
     (YieldsList-from_map _ _ (YieldsList-from_range 0 n n c.map.ensures.source (omega arith)) c.map.ensures.closure (λ x r q k. search rules))
     (term c) (from_0 (term c)) _
-    (λ k l. let s = c.requires.0 in let w = few c k l in omega arith)
+    (λ k l. let s = c.args.rank.small in let w = few c k l in omega arith)
 
 pub returns : goal.returns
 returns c =
-    let n = c.args.n in
+    let n = c.args.rank.n in
     let e = sum_is (term c.before) 0 n
     (YieldsList-from_map _ _ (YieldsList-from_range 0 n n c.map.ensures.source (omega arith)) c.map.ensures.closure (λ x r q k. search rules))
     (term c.before) (from_0 (term c.before)) c.sum.ensures.ran in
-    let s = c.requires.0 in
+    let s = c.args.rank.small in
     let w = few c.before n (omega arith) in
     (e, omega arith)

@@ -11,11 +11,11 @@ loop-dim-init c = walked_start _ _ _ _
 
 pub returns-then-s-inner : goal.returns-then-s-inner
 returns-then-s-inner c =
-    refuses _ (walked_bad _ _ _ _ (omega arith) c.loop-dim.invariant c.resolved-s.ensures c.requires.0 c.if-s-inner.true) (λ z. omega arith)
+    refuses _ (walked_bad _ _ _ _ (omega arith) c.loop-dim.invariant c.resolved-s.ensures c.requires c.if-s-inner.true) (λ z. omega arith)
 
 pub loop-dim-preserved : goal.loop-dim-preserved
 loop-dim-preserved c =
-    walked_more _ _ _ _ (omega arith) c.loop-dim.invariant c.resolved-s.ensures c.requires.1 c.if-s-inner.false c.times-inner.ensures.0
+    walked_more _ _ _ _ (omega arith) c.loop-dim.invariant c.resolved-s.ensures c.args.rank.small c.if-s-inner.false c.times-inner.ensures.0
 
 pub returns : goal.returns
 returns c =

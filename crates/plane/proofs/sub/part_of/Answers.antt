@@ -23,8 +23,8 @@ returns-then-src_len-whole c =
     (goes _ _ _ _ c.resolved_source.ensures c.in_ok-whole.was ∙
     halts_if 5 _ _ _ (omega arith) (lt-ltb _ _ (omega arith)))
 
-pub check_offset-requires : goal.check_offset-requires
-check_offset-requires c = (source_good _ (clear _ _ c.resolved_source.ensures c.in_ok-whole.was)).rank.1
+pub invariant_of-rank : goal.invariant_of-rank
+invariant_of-rank c = record { small = (source_good _ (clear _ _ c.resolved_source.ensures c.in_ok-whole.was)).rank.1 }
 
 pub returns-in_err-check_offset : goal.returns-in_err-check_offset
 unfolding sub_fault source_fault rank_fault
@@ -34,9 +34,6 @@ returns-in_err-check_offset c =
     (goes _ _ _ _ c.resolved_source.ensures c.in_ok-whole.was ∙ goes_if 5 _ _ _ (le-ltb _ _ (omega arith)) ∙
     halts _ _ _ _ c.check_offset.ensures c.in_err-check_offset.was)
     (search rules)
-
-pub check_sub_size-requires : goal.check_sub_size-requires
-check_sub_size-requires c = (source_good _ (clear _ _ c.resolved_source.ensures c.in_ok-whole.was)).rank.1
 
 pub returns-in_err-check_sub_size : goal.returns-in_err-check_sub_size
 unfolding sub_fault source_fault rank_fault

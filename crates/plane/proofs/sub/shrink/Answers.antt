@@ -11,9 +11,9 @@ use Rattle.faults.proofs.Outcomes.{outcome_ok, clear, passed_value, ends, stops,
 use Rattle.plane.proofs.SubAnswers.{sub_given, strides_most, low_small}
 use Rattle.plane.proofs.sub.shrink.Goals as goal
 
-pub returns-then-rank-t : goal.returns-then-rank-t
+pub returns-then-s-t : goal.returns-then-s-t
 unfolding rank_fault
-returns-then-rank-t c = sym (halts_if 14 _ _ _ (omega arith) c.if-rank-t.true)
+returns-then-s-t c = sym (halts_if 14 _ _ _ (omega arith) c.if-s-t.true)
 
 pub with_signs-requires : goal.with_signs-requires
 with_signs-requires c =
@@ -22,17 +22,16 @@ with_signs-requires c =
 pub returns-in_err-shape : goal.returns-in_err-shape
 unfolding rank_fault
 returns-in_err-shape c =
-    stops (goes_if 14 _ _ _ c.if-rank-t.false ∙ ends _ _ _ c.without_units.ensures c.in_err-shape.was) (search rules)
+    stops (goes_if 14 _ _ _ c.if-s-t.false ∙ ends _ _ _ c.without_units.ensures c.in_err-shape.was) (search rules)
 
 pub distance-requires : goal.distance-requires
-distance-requires c =
-    (c.requires.0.rank.1, low_small c.args.t c.args.s c.requires.0.rank.1 c.requires.2 c.lows-lowest.ensures)
+distance-requires c = low_small c.args.t c.args.s c.requires.0.rank.1 c.requires.2 c.lows-lowest.ensures
 
 pub returns : goal.returns
 unfolding rank_fault
 returns c =
     let z = clear _ _ c.without_units.ensures c.in_ok-shape.was in
     ap Ok
-    (sub_given _ _ c.if-rank-t.false c.requires.1 c.with_signs.ensures (passed_value _ _ c.without_units.ensures c.in_ok-shape.was)
+    (sub_given _ _ c.if-s-t.false c.requires.1 c.with_signs.ensures (passed_value _ _ c.without_units.ensures c.in_ok-shape.was)
     c.requires.0.rank.1 z c.lows-lowest.ensures c.distance.ensures.0) ∙
-    sym (goes_if 14 _ _ _ c.if-rank-t.false ∙ outcome_ok _ _ z)
+    sym (goes_if 14 _ _ _ c.if-s-t.false ∙ outcome_ok _ _ z)

@@ -15,7 +15,7 @@ loop-d-preserved c =
     elim c.if-size-i.branch [
       | then-size-i v ↦ rw (v.shape-is, v.out-is, v.lacking-is, v.k-is) (shrunk_gone _ _ _ _ w h v.if-size-i.true)
       | else-size-i v ↦ rw (v.shape-is, v.out-is, v.lacking-is, v.k-is, read_back (at_z c.args.stride c.loop-d.d) v.out-1.given)
-          (shrunk_kept _ _ _ _ w h c.requires v.if-size-i.false)
+          (shrunk_kept _ _ _ _ w h c.args.rank.small v.if-size-i.false)
     ]
 
 pub loop-d-init : goal.loop-d-init

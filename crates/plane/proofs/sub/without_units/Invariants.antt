@@ -7,7 +7,7 @@ use Rattle.plane.proofs.sub.without_units.Given as goal
 
 abbrev pub invariant-loop-d : goal.invariant-loop-d
 invariant-loop-d l =
-    Shrunk l.n (at l.size) (at_z l.stride) l.excess l.shape l.out l.lacking l.k l.d
+    Shrunk l.fn.rank.n (at l.size) (at_z l.stride) l.excess l.shape l.out l.lacking l.k l.d
 
 abbrev pub decreases-loop-d : goal.decreases-loop-d
-decreases-loop-d l = l.n - l.d
+decreases-loop-d l = l.fn.rank.n - l.d
