@@ -18,6 +18,23 @@ pub(crate) fn copy_block(src: &[u8], at: usize, dst: &mut [u8], to: usize, n: us
     dst[to..to + n].copy_from_slice(&src[at..at + n]);
 }
 
+// The N bytes from `at` on, and N bytes stored from `to` on.
+pub(crate) fn read<const N: usize>(src: &[u8], at: usize) -> [u8; N]
+    requires { at + N ≤ length src.now }
+    ensures { result ≡ take N (drop at src.now) }
+{
+    let mut a = [0u8; N];
+    copy_block(src, at, &mut a, 0, N);
+    a
+}
+
+pub(crate) fn write<const N: usize>(a: [u8; N], dst: &mut [u8], to: usize)
+    requires { to + N ≤ length dst.old }
+    ensures { dst.new ≡ sets dst.old to a.entry }
+{
+    copy_block(&a, 0, dst, to, N);
+}
+
 // A course of blocks: c.n blocks of c.size bytes, whatever that is.
 pub(crate) fn copy_blocks(src: &[u8], dst: &mut [u8], c: Course)
     requires held { Held (length src.now) c.at c.jump c.size c.n }

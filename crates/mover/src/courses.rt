@@ -97,6 +97,7 @@ fn copy_apart(origin: Origin<'_>, dst: &mut [u8], c: Course) -> usize
 }
 
 // A run of kept elements; tells where the next is stored. Side by side in both they are a run of bytes.
+#[inline(always)]
 pub(crate) fn copy_run(origin: Origin<'_>, dst: &mut [u8], c: Course) -> usize
     requires writable { Writable dst.old c }
     requires readable { Readable origin dst.old c }
