@@ -341,3 +341,11 @@ pub before_inside : (w : Row) {n : Row} (i x depth last : ℕ) → n ≡ inward_
     → (w.number * at w.answer.extent i + x) * elements_in w depth < last → first_of n depth < last
 unfolding inward_of elements_in
 before_inside w i x depth last e l = subst (λ (v : Row). first_of v depth < last) (sym e) l
+
+-- the source of a row inside is the row's
+pub source_inside : (w : Row) {n : Row} (i x : ℕ) (d e : List ℕ) → n ≡ inward_of w i x → length e ≡ length d → length (source_bytes w.origin d) < 2 ^ 64
+    → length (source_bytes n.origin e) < 2 ^ 64
+unfolding inward_of
+source_inside w i x d e p l h =
+    let k : length (source_bytes w.origin e) ≤ length (source_bytes w.origin d) = still_held w.origin e d (sym l) (omega arith) in
+    subst (λ (v : Row). length (source_bytes v.origin e) < 2 ^ 64) (sym p) (omega (arith, k, h))

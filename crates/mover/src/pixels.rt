@@ -42,16 +42,16 @@ fn row_at<'a>(t: Tensor, c: Config, src: &'a [u8], x: [u32; 4]) -> Row<'a>
     // a loop, and no fold: a step inward asks for the row that the steps before it leave
     let mut row = outermost(t, c, Origin::Lent(src), 0, 0);
     for i in 0..t.rank as usize {
-        row = inward(row, i, x[i]);
+        row = inward(&row, i, x[i]);
     }
     row
 }
 
 // The bytes of an element, with 0 behind them. Its source is lent, so nothing of a destination is read.
-fn bytes_of(row: Row<'_>) -> [u8; 4]
-    requires row_bound { size_of row ≤ 4 }
-    requires row_in_bounds { IfSome row.at (λ at. at + size_of row ≤ length (source_bytes row.origin [])) }
-    ensures { result ≡ firsts (size_of row.entry) (row_byte row.entry []) }
+fn bytes_of(row: &Row<'_>) -> [u8; 4]
+    requires row_bound { size_of row.now ≤ 4 }
+    requires row_in_bounds { IfSome row.now.at (λ at. at + size_of row.now ≤ length (source_bytes row.now.origin [])) }
+    ensures { result ≡ firsts (size_of row.now) (row_byte row.now []) }
 {
     let size = row.tensor.element_size as usize;
     array::from_fn(|b| if b < size { byte(&[], row, b) } else { 0 })
@@ -68,7 +68,7 @@ pub fn pixel(t: Tensor, c: Config, src: &[u8], at: [u32; 4]) -> PixelAnswer
             PixelAnswer {
                 status: 0,
                 dim: 0,
-                bytes: bytes_of(row),
+                bytes: bytes_of(&row),
                 padding: row.at.is_none(),
             }
         }

@@ -1,6 +1,6 @@
 // The plain engine: a move to be read beside the paper. At each destination dimension it goes through the coordinates in order, and
 // calls itself with one dimension fewer; with none left it stores one element. It leaves what the first engine leaves, and is slower.
-ghost use Rattle.std.specs.Prelude.{◌≡◌, ◌+◌, ◌<◌, length, nat_lt, IfSome};
+ghost use Rattle.std.specs.Prelude.{◌≡◌, ◌+◌, ◌^◌, ◌<◌, length, nat_lt, IfSome};
 ghost use Rattle.plane.specs.Moves.{count, judge_of};
 ghost use Rattle.plane.specs.Good.{GoodSource, GoodConfig};
 ghost use Rattle.mover.specs.Moved.{move_memory};
@@ -26,10 +26,10 @@ pub(crate) struct Row<'a> {
 }
 
 // Byte b of an element: the source's, or the fill's, the lowest first.
-pub(crate) fn byte(dst: &[u8], row: Row<'_>, b: usize) -> u8
+pub(crate) fn byte(dst: &[u8], row: &Row<'_>, b: usize) -> u8
     requires b_bound { b < 4 }
-    requires b_in_bounds { IfSome row.at (λ at. at + b < length (source_bytes row.origin dst.now)) }
-    ensures { result ≡ row_byte row.entry dst.now b }
+    requires b_in_bounds { IfSome row.now.at (λ at. at + b < length (source_bytes row.now.origin dst.now)) }
+    ensures { result ≡ row_byte row.now dst.now b }
 {
     match row.at {
         Some(at) => source(row.origin, dst)[at + b],
@@ -38,9 +38,9 @@ pub(crate) fn byte(dst: &[u8], row: Row<'_>, b: usize) -> u8
 }
 
 // Stores an element, byte by byte: the source may stand in dst itself, so that none of it can be lent while dst is written.
-fn store(dst: &mut [u8], row: Row<'_>)
-    requires { Storable row dst.old }
-    ensures { dst.new ≡ row_stored row.entry dst.old }
+fn store(dst: &mut [u8], row: &Row<'_>)
+    requires { Storable row.now dst.old }
+    ensures { dst.new ≡ row_stored row.now dst.old }
 {
     for b in 0..row.tensor.element_size as usize {
         dst[row.place + b] = byte(dst, row, b);
@@ -48,11 +48,11 @@ fn store(dst: &mut [u8], row: Row<'_>)
 }
 
 // How many are kept of source dimension s: size / step, rounded up. Size 0 means shape - offset.
-fn kept_count(t: Tensor, config: Config, s: usize) -> u32
-    requires good_source { GoodSource t }
-    requires good_config { GoodConfig t config }
-    requires s_lt_rank { s < t.rank }
-    ensures { result ≡ count t config s }
+fn kept_count(t: &Tensor, config: &Config, s: usize) -> u32
+    requires good_source { GoodSource t.now }
+    requires good_config { GoodConfig t.now config.now }
+    requires s_lt_rank { s < t.now.rank }
+    ensures { result ≡ count t.now config.now s }
 {
     let step = config.step[s];
     let size = config.size[s];
@@ -62,14 +62,14 @@ fn kept_count(t: Tensor, config: Config, s: usize) -> u32
 }
 
 // The row at coordinate c of destination dimension i, which is source dimension s = perm[i].
-pub(crate) fn inward<'a>(row: Row<'a>, i: usize, c: u32) -> Row<'a>
-    requires { Passable row i c }
-    ensures { result ≡ inward_of row.entry i c }
+pub(crate) fn inward<'a>(row: &Row<'a>, i: usize, c: u32) -> Row<'a>
+    requires { Passable row.now i c }
+    ensures { result ≡ inward_of row.now i c }
 {
-    let t = row.tensor;
-    let config = row.config;
-    let answer = row.answer;
-    let source = row.source;
+    let t = &row.tensor;
+    let config = &row.config;
+    let answer = &row.answer;
+    let source = &row.source;
     let s = config.perm[i] as usize;
     let size = t.element_size as usize;
     let pre = config.pre[s] as u32;
@@ -96,17 +96,18 @@ pub(crate) fn inward<'a>(row: Row<'a>, i: usize, c: u32) -> Row<'a>
         number,
         at,
         place,
-        ..row
+        ..*row
     }
 }
 
 // Of the elements numbered first to end - 1, stores those in a row of that depth. Tells whether any come after the row; where none do,
 // its callers stop too.
-fn store_row(dst: &mut [u8], row: Row<'_>, depth: u8, first: u64, end: u64) -> bool
-    requires stands { Stands row depth dst.old }
-    requires depth_bound { first_of row depth < end }
-    ensures told { result ≡ nat_lt (past_of row.entry depth) end }
-    ensures stored { (h : Stands row.entry depth dst.old) → Comes h first end (first_of row.entry depth) (past_of row.entry depth) dst.new }
+fn store_row(dst: &mut [u8], row: &Row<'_>, depth: u8, first: u64, end: u64) -> bool
+    requires stands { Stands row.now depth dst.old }
+    requires depth_bound { first_of row.now depth < end }
+    requires source_bound { length (source_bytes row.now.origin dst.old) < 2 ^ 64 }
+    ensures told { result ≡ nat_lt (past_of row.now depth) end }
+    ensures stored { (h : Stands row.now depth dst.old) → Comes h first end (first_of row.now depth) (past_of row.now depth) dst.new }
 {
     if depth == 0 {
         let is_asked = first <= row.number;
@@ -115,12 +116,11 @@ fn store_row(dst: &mut [u8], row: Row<'_>, depth: u8, first: u64, end: u64) -> b
         }
         return row.number + 1 < end;
     }
-    let answer = row.answer;
     let i = (row.tensor.rank - depth) as usize;
     // a loop, and no `all` over a closure: it is to be seen that it stops
-    for c in 0..answer.extent[i] {
+    for c in 0..row.answer.extent[i] {
         let next = inward(row, i, c);
-        if !store_row(dst, next, depth - 1, first, end) {
+        if !store_row(dst, &next, depth - 1, first, end) {
             return false;
         }
     }
@@ -158,7 +158,7 @@ pub fn move_plane(t: Tensor, config: Config, src: &[u8], dst: &mut [u8]) -> plan
     let is_accepted = a.status == 0;
     if is_accepted {
         let row = outermost(t, config, Origin::Lent(src), 0, 0);
-        store_row(dst, row, t.rank, 0, u64::MAX); // the end is above every number
+        store_row(dst, &row, t.rank, 0, u64::MAX); // the end is above every number
     }
     a
 }
@@ -176,7 +176,7 @@ pub fn advance(mem: &mut [u8], job: crate::Job, from: u64, budget: u64) -> crate
         let at = job.source.start as usize;
         let place = job.destination.start as usize;
         let row = outermost(job.tensor, job.config, Origin::Inside, at, place);
-        store_row(mem, row, job.tensor.rank, from, from + count);
+        store_row(mem, &row, job.tensor.rank, from, from + count);
     }
     crate::Advanced {
         status: v.status,

@@ -9,8 +9,8 @@ use Rattle.mover.proofs.pixels.bytes_of.Goals as goal
 pub returns : goal.returns
 unfolding firsts_or
 returns c =
-    let n = size_of c.args.row in
-    let f = row_byte c.args.row [] in
+    let n = size_of c.args.row.now in
+    let f = row_byte c.args.row.now [] in
     made_array 0 _ _ _ (λ d. below 0 n d (f d))
     (λ d y q h k. elim (dec_lt d n) [
       | yes l ↦ (search rules, let e : y ≡ f d = search rules in e ∙ sym (below_lt 0 n d (f d) l))

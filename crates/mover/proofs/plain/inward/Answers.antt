@@ -7,9 +7,9 @@ use Rattle.mover.proofs.Rows.{is_before, is_within, is_behind, pass_parts, pass_
 use Rattle.mover.proofs.plain.inward.Goals as goal
 use Rattle.mover.proofs.plain.inward.Goals.{Then-c-pre, Joined-t-s-lt0, then-t-s-lt0, else-t-s-lt0, in-Some, in_default, in_default-2, in_default-3}
 
-kept : (c : Then-c-pre) → is_kept c.args.row.tensor c.args.row.config c.args.i c.args.c ≡ true
+kept : (c : Then-c-pre) → is_kept c.args.row.now.tensor c.args.row.now.config c.args.i c.args.c ≡ true
 kept c =
-    is_within c.args.row.tensor c.args.row.config c.args.i c.args.c c.kept_count-count.ensures c.if-pre-c.true c.if-c-pre.true
+    is_within c.args.row.now.tensor c.args.row.now.config c.args.i c.args.c c.kept_count-count.ensures c.if-pre-c.true c.if-c-pre.true
 
 pub overflow_mul-number : goal.overflow_mul-number
 overflow_mul-number c = record { fits = omega (arith, pass_number c.requires) }
@@ -41,10 +41,10 @@ overflow_add-coordinate c =
     let k = kept (goal.at-overflow_add-coordinate c).Then-c-pre in record { fits = omega (arith, pass_at c.requires k, pass_shape c.requires k) }
 
 -- how many strides up it lies
-lifts : (c : Joined-t-s-lt0) → c.if-t-s-lt0.up ≡ lifted c.args.row c.args.i c.args.c
+lifts : (c : Joined-t-s-lt0) → c.if-t-s-lt0.up ≡ lifted c.args.row.now c.args.i c.args.c
 lifts c = elim c.if-t-s-lt0.branch [
-  | then-t-s-lt0 w ↦ let e : down_at c.args.row.tensor (dim_of c.args.row.config c.args.i) ≡ true = search rules in rw e w.up-is
-  | else-t-s-lt0 w ↦ let e : down_at c.args.row.tensor (dim_of c.args.row.config c.args.i) ≡ false = search rules in rw e w.up-is
+  | then-t-s-lt0 w ↦ let e : down_at c.args.row.now.tensor (dim_of c.args.row.now.config c.args.i) ≡ true = search rules in rw e w.up-is
+  | else-t-s-lt0 w ↦ let e : down_at c.args.row.now.tensor (dim_of c.args.row.now.config c.args.i) ≡ false = search rules in rw e w.up-is
 ]
 
 pub overflow_sub-up-then-t-s-lt0 : goal.overflow_sub-up-then-t-s-lt0
@@ -61,8 +61,8 @@ overflow_add-at c =
 pub returns : goal.returns
 unfolding inward_of
 returns c =
-    let t = c.args.row.tensor in
-    let f = c.args.row.config in
+    let t = c.args.row.now.tensor in
+    let f = c.args.row.now.config in
     let n = c.kept_count-count.ensures in
     elim c.match-row.branch [
       | in-Some w ↦

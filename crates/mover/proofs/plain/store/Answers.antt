@@ -10,12 +10,12 @@ loop-b-preserved c =
     let h = c.loop-b-test.true in (
       omega (arith, h),
       rw l.invariant.1
-          (byte_next c.args.row c.args.dst.now c.requires l.b h (rw l.invariant.1 at c.byte.ensures)),
+          (byte_next c.args.row.now c.args.dst.now c.requires l.b h (rw l.invariant.1 at c.byte.ensures)),
     )
 
 pub returns : goal.returns
 returns c =
-    let e : c.loop-b.b ≡ size_of c.args.row = omega (arith, c.loop-b.invariant.0, c.loop-b-test.false) in
+    let e : c.loop-b.b ≡ size_of c.args.row.now = omega (arith, c.loop-b.invariant.0, c.loop-b-test.false) in
     c.loop-b.invariant.1 ∙
-    ap (λ (n : ℕ). sets c.args.dst.now c.args.row.place (take n (row_bytes c.args.row c.args.dst.now))) e ∙
-    stored_all c.args.row c.args.dst.now c.requires
+    ap (λ (n : ℕ). sets c.args.dst.now c.args.row.now.place (take n (row_bytes c.args.row.now c.args.dst.now))) e ∙
+    stored_all c.args.row.now c.args.dst.now c.requires
