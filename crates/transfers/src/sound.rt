@@ -45,24 +45,24 @@ impl Slot {
 
 impl Table {
     // Whether a job breaks the rule with one of the first n slots.
-    pub(crate) fn clashes(self, job: Job, n: usize) -> bool
+    pub(crate) fn clashes(&self, job: Job, n: usize) -> bool
         requires { n ≤ 4 }
-        ensures { result ≡ list_any (λ s. breaks job s.job) (take n self.slots) }
+        ensures { result ≡ list_any (λ s. breaks job s.job) (take n self.now.slots) }
     {
         self.slots[..n].iter().any(|slot| breaks(job, slot.job))
     }
 
     // Whether the slot at i is sound, and breaks the rule with none before it.
-    fn is_sound_at(self, i: usize) -> bool
+    fn is_sound_at(&self, i: usize) -> bool
         requires { i < 4 }
-        ensures { result ≡ sound_at self i }
+        ensures { result ≡ sound_at self.now i }
     {
         let slot = self.slots[i];
         slot.is_sound(self.length) && !self.clashes(slot.job, i)
     }
 
-    pub(crate) fn is_sound(self) -> bool
-        ensures { result ≡ table_sound self }
+    pub(crate) fn is_sound(&self) -> bool
+        ensures { result ≡ table_sound self.now }
     {
         self.length <= LIMIT && (0..4).all(|i| self.is_sound_at(i))
     }
