@@ -11,9 +11,9 @@ use crate::layout;
 use plane::{Config, Fault, Tensor, element_size, rank_is_bad};
 
 // Whether some group has an entry d that is not 0. The groups have three types of number, so an array of them would need conversions.
-fn has_entry(t: Tensor, c: Config, d: usize) -> bool
+fn has_entry(t: &Tensor, c: &Config, d: usize) -> bool
     requires { d < 4 }
-    ensures { result ≡ some group_count (λ k. not (eqb (at (group t c k) d) 0)) }
+    ensures { result ≡ some group_count (λ k. not (eqb (at (group t.now c.now k) d) 0)) }
 {
     (t.shape[d] != 0)
         | (t.stride[d] != 0)
@@ -28,9 +28,9 @@ fn has_entry(t: Tensor, c: Config, d: usize) -> bool
 }
 
 // 28: the lowest dimension at or past the rank that has an entry.
-fn check_stray(t: Tensor, c: Config) -> Result<(), Fault>
-    requires { t.rank ≤ 4 }
-    ensures { result ≡ outcome (lowest 28 4 (stray t c)) tt }
+fn check_stray(t: &Tensor, c: &Config) -> Result<(), Fault>
+    requires { t.now.rank ≤ 4 }
+    ensures { result ≡ outcome (lowest 28 4 (stray t.now c.now)) tt }
 {
     let n = t.rank;
     match (n..4).find(|&d| has_entry(t, c, d as usize)) {
@@ -54,8 +54,8 @@ fn fill_is_bad(size: u8, fill: u32) -> bool
 
 // What a record of that version refuses of its fields: 1, for version 2 also 2, 28, and for version 2 also 28 at dimension 0. Any
 // version but 2 is judged as 1 is, which asks nothing of the fill.
-pub(crate) fn check_fields(version: u16, tensor: Tensor, config: Config) -> Result<(), Fault>
-    ensures { result ≡ outcome (fields_fault version tensor config) tt }
+pub(crate) fn check_fields(version: u16, tensor: &Tensor, config: &Config) -> Result<(), Fault>
+    ensures { result ≡ outcome (fields_fault version tensor.now config.now) tt }
 {
     if rank_is_bad(tensor.rank) {
         return Err(Fault { status: 1, dim: 0 });
@@ -85,5 +85,5 @@ pub(crate) fn fault_of(checked: Result<(), Fault>) -> Fault
 pub fn fields_fault(version: u16, tensor: Tensor, config: Config) -> Fault
     ensures { result ≡ fields_fault version tensor config }
 {
-    fault_of(check_fields(version, tensor, config))
+    fault_of(check_fields(version, &tensor, &config))
 }

@@ -69,7 +69,7 @@ fn fields_in(bytes: &[u8]) -> Result<(Tensor, Config), Fault>
     }
     let tensor = tensor_in(bytes);
     let config = config_in(bytes);
-    check_fields(version, tensor, config)?;
+    check_fields(version, &tensor, &config)?;
     Ok((tensor, config))
 }
 

@@ -66,7 +66,7 @@ fn check_write(t: Tensor, c: Config, n: usize) -> Result<(), Fault>
     if n != length_for(c) {
         return Err(Fault { status: 25, dim: 0 });
     }
-    check_fields(version_for(c), t, c)
+    check_fields(version_for(c), &t, &c)
 }
 
 // The record into a room of its length, or a refusal and the room as it was. A fill of 0 is written as version 1.

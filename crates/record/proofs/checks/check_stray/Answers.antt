@@ -11,16 +11,16 @@ use Rattle.record.proofs.checks.check_stray.Goals as goal
 
 pub returns-in-Some : goal.returns-in-Some
 returns-in-Some c =
-    let t = c.args.t in
-    let x = c.args.c in
+    let t = c.args.t.now in
+    let x = c.args.c.now in
     let first = first_from_Range _ _ _ c.find.result (λ d. has t x d ≡ true) (λ d. has t x d ≡ false) c.find.ensures.ran (λ d q k. search rules) (λ d q k. search rules) in
     let w = rw c.in-Some.is at first in
     lowest_found tt 28 4 (stray t x) (omega arith) w.1 (stray_is t x c.in-Some.dim w.0 ∙ w.2) (none_stray t x c.in-Some.dim w.3)
 
 pub returns-in-None : goal.returns-in-None
 returns-in-None c =
-    let t = c.args.t in
-    let x = c.args.c in
+    let t = c.args.t.now in
+    let x = c.args.c.now in
     let first = first_from_Range _ _ _ c.find.result (λ d. has t x d ≡ true) (λ d. has t x d ≡ false) c.find.ensures.ran (λ d q k. search rules) (λ d q k. search rules) in
     let w = rw c.in-None.is at first in
     lowest_none tt 28 4 (stray t x) (none_stray t x 4 w)

@@ -6,4 +6,4 @@ use Rattle.record.proofs.checks.has_entry.Goals as goal
 pub returns : goal.returns
 unfolding some
 returns c =
-    rw (machine_word c.args.t.stride c.args.d)
+    rw (machine_word c.args.t.now.stride c.args.d)
